@@ -139,7 +139,7 @@ unended-unbroken read (b ∷ more) unbroken =
     ∙ ap (λ line. line ++ more) (unended-other read b other)
     ∙ append_assoc (unended read) (b ∷ []) more
 
-pub lines-ended : (read : List ℕ) → lines read ≡ ended_lines read ++ last_line (unended read)
+lines-ended : (read : List ℕ) → lines read ≡ ended_lines read ++ last_line (unended read)
 unfolding ended_lines unended
 lines-ended read = lines_of_parts-ended (parts_of read)
 

@@ -13,23 +13,32 @@ use Rattle.mf_desk.specs.declared.performer.Performer.{Performer}
 use Rattle.mf_desk.specs.declared.progress.Progress.{Progress}
 use Rattle.mf_session.specs.Answers.{Answers}
 use Rattle.mf_desk.specs.Ended.{ended_of_parts, last_part, ended_lines, unended}
-use Rattle.mf_desk.specs.Fault.{AreWholeLines, Breaks, BreaksOff}
+use Rattle.mf_desk.specs.Fault.{AreWholeLines, Breaks, BreaksOff, IsTextSoFar}
 use Rattle.mf_desk.specs.Performer.{IsLineText, IsWritten}
-use Rattle.mf_desk.specs.Progress.{HasPerformed, IsAfter}
+use Rattle.mf_desk.specs.Progress.{HasCounted, IsAfter}
 use Rattle.mf_desk.specs.Streams.{Gets, HasPassed}
-use Rattle.mf_session.specs.Sessions.{StandsFor, limits}
+use Rattle.mf_session.specs.Sessions.{HasPerformed, StandsFor, limits}
 use Rattle.mf_session.specs.States.{State, Limits, start}
-use Rattle.mf_session.specs.Transcript.{Perform}
+use Rattle.mf_session.specs.Transcript.{Perform, due}
 use Rattle.mf_desk.proofs.Ended.{ended_lines-line_feed, unended-line_feed, ended_lines-unbroken, unended-unbroken, ended_lines-front, lines-none, lines-last}
 use Rattle.mf_desk.proofs.LongLines.{take-taken, Answers-kept, Answers-stripped}
 use Rattle.mf_session.proofs.Performing.{Perform-line}
+
+-- the first of some completely read lines have been performed
+pub first-text : (l : Limits) (left : Option (List ℕ)) (read : List ℕ) (done more : List (List ℕ)) (text : List ℕ) (last : State)
+    → AreWholeLines left read (done ++ more) → Perform l start done text last → IsTextSoFar l left read text
+first-text l left read done more text last are performed =
+    record { whole = done ++ more; are = are; last = last; first = record { done = done; more = more; first = refl; performed = performed } }
 
 -- nothing has been read
 pub IsAfter-start : (held : Option (List ℕ)) (progress : Progress) → StandsFor progress.performer.session start
     → progress.performer.written ≡ 0 → progress.line ≡ [] → IsAfter held [] progress held
 unfolding ended_of_parts last_part ended_lines unended
 IsAfter-start held progress stands written line = record {
-  done = record { text = []; last = start; performed = (refl, refl); stands = stands; out = Appends-nil held; counted = written };
+  lines = record {
+    done = record { text = []; last = start; performed = (refl, refl); stands = stands; out = Appends-nil held };
+    counted = written;
+  };
   line = line;
 }
 
@@ -38,17 +47,23 @@ module _ (held holds : Option (List ℕ)) (read : List ℕ) (run : Progress) (af
   abbrev bounds : Limits
   bounds = limits run.performer.session
 
+  -- what has been performed by then
+  abbrev so_far : HasPerformed (due bounds start (ended_lines read)) run.performer.session held holds
+  so_far = after.lines.done
+
   -- bytes without a line feed are read
   abbrev pub IsAfter-unbroken : (bytes : List ℕ) (new : Progress) → All (λ byte. byte ≢ 10) bytes → new.performer ≡ run.performer
       → new.line ≡ take MAX_KEPT (run.line ++ bytes) → IsAfter held (read ++ bytes) new holds
   IsAfter-unbroken bytes new unbroken same line = record {
-    done = record {
-      text = after.done.text;
-      last = after.done.last;
-      performed = rw (same, ended_lines-unbroken read bytes unbroken) after.done.performed;
-      stands = rw same after.done.stands;
-      out = after.done.out;
-      counted = rw same after.done.counted;
+    lines = record {
+      done = record {
+        text = so_far.text;
+        last = so_far.last;
+        performed = rw (same, ended_lines-unbroken read bytes unbroken) so_far.performed;
+        stands = rw same so_far.stands;
+        out = so_far.out;
+      };
+      counted = rw same after.lines.counted;
     };
     line = line ∙ ap (λ kept. take MAX_KEPT (kept ++ bytes)) after.line ∙ take-taken MAX_KEPT (unended read) bytes
         ∙ ap (take MAX_KEPT) (sym (unended-unbroken read bytes unbroken));
@@ -56,53 +71,56 @@ module _ (held holds : Option (List ℕ)) (read : List ℕ) (run : Progress) (af
 
   -- a line whose answer comes after the texts so far makes these the lines that have been performed
   abbrev Prolongs : List ℕ → List (List ℕ) → Type 0
-  Prolongs line all = (more : List ℕ) (next : State) → Answers bounds after.done.last line more next → Perform bounds start all (after.done.text ++ more) next
+  Prolongs line all = (more : List ℕ) (next : State) → Answers bounds so_far.last line more next → Perform bounds start all (so_far.text ++ more) next
 
   -- one more line has been performed, and its text written
-  HasPerformed-more : (later : Option (List ℕ)) (all : List (List ℕ)) (line : List ℕ) (new : Performer) → Prolongs line all
-      → Gets holds later (IsWritten run.performer after.done.last line new) → limits new.session ≡ bounds → HasPerformed held all new later
-  HasPerformed-more later all line new prolongs (text, out, written) same = record {
-    text = after.done.text ++ text;
-    last = written.next;
-    performed = subst (λ l. Perform l start all (after.done.text ++ text) written.next) (sym same) (prolongs text written.next written.answer);
-    stands = written.stands;
-    out = Appends-trans held holds later after.done.text text after.done.out out;
-    counted = written.counted ∙ ap (λ n. n + length text) after.done.counted ∙ sym (length-append after.done.text text);
-  }
+  HasCounted-more : (later : Option (List ℕ)) (all : List (List ℕ)) (line : List ℕ) (new : Performer) → Prolongs line all
+      → Gets holds later (IsWritten run.performer so_far.last line new) → limits new.session ≡ bounds → HasCounted held all new later
+  HasCounted-more later all line new prolongs (text, out, written) same =
+      record {
+        done = record {
+          text = so_far.text ++ text;
+          last = written.next;
+          performed = subst (λ l. Perform l start all (so_far.text ++ text) written.next) (sym same) (prolongs text written.next written.answer);
+          stands = written.stands;
+          out = Appends-trans held holds later so_far.text text so_far.out out;
+        };
+        counted = written.counted ∙ ap (λ n. n + length text) after.lines.counted ∙ sym (length-append so_far.text text);
+      }
 
   -- one more line has been performed than a line feed has ended
   performed-more : (line : List ℕ) → Prolongs line (ended_lines read ++ line ∷ [])
   performed-more line more next answer =
-      Perform-line bounds start after.done.last next (ended_lines read) line after.done.text more after.done.performed answer
+      Perform-line bounds start so_far.last next (ended_lines read) line so_far.text more so_far.performed answer
 
   -- an answer to this line is one to the complete line that a line feed ends
   abbrev StandsForEnded : List ℕ → Type 0
-  StandsForEnded line = (text : List ℕ) (next : State) → Answers bounds after.done.last line text next
-      → Answers bounds after.done.last (strip_carriage_return (unended read)) text next
+  StandsForEnded line = (text : List ℕ) (next : State) → Answers bounds so_far.last line text next
+      → Answers bounds so_far.last (strip_carriage_return (unended read)) text next
 
   -- the line that a line feed ends has been performed
   performed-ended : (line : List ℕ) → StandsForEnded line → Prolongs line (ended_lines (read ++ 10 ∷ []))
   performed-ended line whole more next answer =
-      subst (λ ls. Perform bounds start ls (after.done.text ++ more) next) (sym (ended_lines-line_feed read))
+      subst (λ ls. Perform bounds start ls (so_far.text ++ more) next) (sym (ended_lines-line_feed read))
       (performed-more (strip_carriage_return (unended read)) more next (whole more next answer))
 
   -- a line feed is read, and its line has been performed
   IsAfter-ended : (later : Option (List ℕ)) (line : List ℕ) (new : Progress) → StandsForEnded line
-      → Gets holds later (IsWritten run.performer after.done.last line new.performer)
+      → Gets holds later (IsWritten run.performer so_far.last line new.performer)
       → limits new.performer.session ≡ bounds → new.line ≡ [] → IsAfter held (read ++ 10 ∷ []) new later
   IsAfter-ended later line new whole written same empty = record {
-    done = HasPerformed-more later (ended_lines (read ++ 10 ∷ [])) line new.performer (performed-ended line whole) written same;
+    lines = HasCounted-more later (ended_lines (read ++ 10 ∷ [])) line new.performer (performed-ended line whole) written same;
     line = empty ∙ ap (take MAX_KEPT) (sym (unended-line_feed read));
   }
 
   -- the line that was kept may be cut
   kept-ended : StandsForEnded (strip_carriage_return run.line)
   kept-ended text next answer =
-      let s = after.done.last in
+      let s = so_far.last in
       Answers-stripped bounds s next (unended read) text (subst (λ line. Answers bounds s (strip_carriage_return line) text next) after.line answer)
 
   pub IsAfter-line_feed : (later : Option (List ℕ)) (new : Progress)
-      → Gets holds later (IsWritten run.performer after.done.last (strip_carriage_return run.line) new.performer)
+      → Gets holds later (IsWritten run.performer so_far.last (strip_carriage_return run.line) new.performer)
       → limits new.performer.session ≡ bounds → new.line ≡ [] → IsAfter held (read ++ 10 ∷ []) new later
   IsAfter-line_feed later new = IsAfter-ended later (strip_carriage_return run.line) new kept-ended
 
@@ -112,12 +130,11 @@ module _ (held holds : Option (List ℕ)) (read : List ℕ) (run : Progress) (af
   Breaks-between left bytes more =
       let (others, before) = ended_lines-front read (bytes ++ more) in
       let first = ap ended_lines (append_assoc read bytes more) ∙ before in
-      let done = after.done in
-      (done.text, done.out, record { done = ended_lines read; more = others; last = done.last; first = inl first; performed = done.performed })
+      (so_far.text, so_far.out, first-text bounds left (read ++ bytes ++ more) (ended_lines read) others so_far.text so_far.last (inl first) so_far.performed)
 
   -- the text of this line breaks off
   abbrev BreaksLine : List ℕ → RunFault → Option (List ℕ) → Type 0
-  BreaksLine line fault later = Gets holds later (BreaksOff (IsLineText run.performer after.done.last line) run.performer.written fault)
+  BreaksLine line fault later = Gets holds later (BreaksOff (IsLineText run.performer so_far.last line) run.performer.written fault)
 
   -- the first completely read lines are the performed ones, and then the one whose text breaks off
   Breaks-text : (fault : RunFault) (left later : Option (List ℕ)) (bytes line : List ℕ) (others first behind : List (List ℕ))
@@ -125,20 +142,20 @@ module _ (held holds : Option (List ℕ)) (read : List ℕ) (run : Progress) (af
       → BreaksLine line fault later → HasPassed (Breaks bounds fault) left bytes held later
   Breaks-text OutOfMemory left later bytes line others first behind before with_line performs broken =
       let (written, out, nothing) = broken in (
-        after.done.text,
-        subst (Appends held later) (ap (λ more. after.done.text ++ more) nothing ∙ append-nil after.done.text)
-            (Appends-trans held holds later after.done.text written after.done.out out),
-        record { done = ended_lines read; more = others; last = after.done.last; first = before; performed = after.done.performed },
+        so_far.text,
+        subst (Appends held later) (ap (λ more. so_far.text ++ more) nothing ∙ append-nil so_far.text)
+            (Appends-trans held holds later so_far.text written so_far.out out),
+        first-text bounds left bytes (ended_lines read) others so_far.text so_far.last before so_far.performed,
       )
   Breaks-text (WriteFault count) left later bytes line others first behind before with_line performs broken =
       let (written, out, (counted, (rest, (next, answer)))) = broken in
-      let all : Perform bounds start first ((after.done.text ++ written) ++ rest) next =
-      rw (append_assoc after.done.text written rest) (performs (written ++ rest) next answer) in (
-        after.done.text ++ written,
-        Appends-trans held holds later after.done.text written after.done.out out,
+      let all : Perform bounds start first ((so_far.text ++ written) ++ rest) next =
+      rw (append_assoc so_far.text written rest) (performs (written ++ rest) next answer) in (
+        so_far.text ++ written,
+        Appends-trans held holds later so_far.text written so_far.out out,
         (
-          length-append after.done.text written ∙ sym (counted ∙ ap (λ n. n + length written) after.done.counted),
-          (rest, record { done = first; more = behind; last = next; first = with_line; performed = all }),
+          length-append so_far.text written ∙ sym (counted ∙ ap (λ n. n + length written) after.lines.counted),
+          (rest, first-text bounds left bytes first behind _ next with_line all),
         ),
       )
   Breaks-text fault left later bytes line others first behind before with_line performs broken =
@@ -167,9 +184,9 @@ module _ (held holds : Option (List ℕ)) (read : List ℕ) (run : Progress) (af
   -- the last line, which no line feed ends, has been performed
   performed-last : eqb (length run.line) 0 ≡ false → Prolongs run.line (lines read)
   performed-last some more next answer =
-      let s = after.done.last in
+      let s = so_far.last in
       let answer = Answers-kept bounds s next (unended read) more (subst (λ line. Answers bounds s line more next) after.line answer) in
-      subst (λ ls. Perform bounds start ls (after.done.text ++ more) next) (sym (lines-last read (some-unended some)))
+      subst (λ ls. Perform bounds start ls (so_far.text ++ more) next) (sym (lines-last read (some-unended some)))
       (performed-more (unended read) more next answer)
 
   pub Breaks-last : (fault : RunFault) (left later : Option (List ℕ)) → IsAtEnd left → eqb (length run.line) 0 ≡ false
@@ -184,21 +201,21 @@ module _ (held holds : Option (List ℕ)) (read : List ℕ) (run : Progress) (af
       let kept : length (take MAX_KEPT (unended read)) ≡ 0 = ap length (sym after.line) ∙ eqb-true (length run.line) 0 none in
       nil_from_length (unended read) (omega (arith, length-take MAX_KEPT (unended read)))
 
-  pub HasPerformed-all : eqb (length run.line) 0 ≡ true → HasPerformed held (lines read) run.performer holds
-  HasPerformed-all none = rw (lines-none read (empty-unended none)) after.done
+  pub HasCounted-all : eqb (length run.line) 0 ≡ true → HasCounted held (lines read) run.performer holds
+  HasCounted-all none = rw (lines-none read (empty-unended none)) after.lines
 
   -- the last line ends with the script
-  pub HasPerformed-last : (later : Option (List ℕ)) (new : Performer) → eqb (length run.line) 0 ≡ false → limits new.session ≡ bounds
-      → Gets holds later (IsWritten run.performer after.done.last run.line new) → HasPerformed held (lines read) new later
-  HasPerformed-last later new some same written = HasPerformed-more later (lines read) run.line new (performed-last some) written same
+  pub HasCounted-last : (later : Option (List ℕ)) (new : Performer) → eqb (length run.line) 0 ≡ false → limits new.session ≡ bounds
+      → Gets holds later (IsWritten run.performer so_far.last run.line new) → HasCounted held (lines read) new later
+  HasCounted-last later new some same written = HasCounted-more later (lines read) run.line new (performed-last some) written same
 
   -- a read fails: the texts of the lines that a line feed ended are written
   pub Breaks-reads : (left : Option (List ℕ)) → HasPassed (Breaks bounds ReadFault) left read held holds
-  Breaks-reads left = (after.done.text, after.done.out, record { last = after.done.last; performed = after.done.performed })
+  Breaks-reads left = (so_far.text, so_far.out, record { last = so_far.last; performed = so_far.performed })
 
 -- an allocation fails before anything is read
 pub Breaks-nothing : (l : Limits) (left held : Option (List ℕ)) → HasPassed (Breaks l OutOfMemory) left [] held held
-Breaks-nothing l left held = ([], Appends-nil held, record { done = []; more = ended_lines []; last = start; first = inl refl; performed = (refl, refl) })
+Breaks-nothing l left held = ([], Appends-nil held, first-text l left [] [] (ended_lines []) [] start (inl refl) (refl, refl))
 
 -- a line of which nothing was kept, so that all of it is in these bytes
 module _ (held holds : Option (List ℕ)) (read bytes : List ℕ) (old : Progress) (after : IsAfter held read old holds)
@@ -213,61 +230,64 @@ module _ (held holds : Option (List ℕ)) (read bytes : List ℕ) (old : Progres
   whole_line text next answer =
       let whole : unended (read ++ bytes) ≡ bytes =
       unended-unbroken read bytes unbroken ∙ ap (λ line. line ++ bytes) (empty-unended held holds read old after none) in
-      subst (λ line. Answers (limits old.performer.session) after.done.last (strip_carriage_return line) text next) (sym whole) answer
+      subst (λ line. Answers (limits old.performer.session) after.lines.done.last (strip_carriage_return line) text next) (sym whole) answer
 
   pub IsAfter-whole : (later : Option (List ℕ)) (new : Progress)
-      → Gets holds later (IsWritten old.performer after.done.last (strip_carriage_return bytes) new.performer)
+      → Gets holds later (IsWritten old.performer after.lines.done.last (strip_carriage_return bytes) new.performer)
       → limits new.performer.session ≡ limits old.performer.session → new.line ≡ [] → IsAfter held (read ++ (bytes ++ 10 ∷ [])) new later
   IsAfter-whole later new written same empty =
       subst (λ all. IsAfter held all new later) (append_assoc read bytes (10 ∷ []))
       (IsAfter-ended held holds (read ++ bytes) with_bytes after_bytes later (strip_carriage_return bytes) new whole_line written same empty)
 
   pub Breaks-whole : (fault : RunFault) (left later : Option (List ℕ)) (more : List ℕ)
-      → Gets holds later (BreaksOff (IsLineText old.performer after.done.last (strip_carriage_return bytes)) old.performer.written fault)
+      → Gets holds later (BreaksOff (IsLineText old.performer after.lines.done.last (strip_carriage_return bytes)) old.performer.written fault)
       → HasPassed (Breaks (limits old.performer.session) fault) left (read ++ (bytes ++ 10 ∷ []) ++ more) held later
   Breaks-whole fault left later more broken =
       subst (λ front. HasPassed (Breaks (limits old.performer.session) fault) left (front ++ more) held later) (append_assoc read bytes (10 ∷ []))
       (Breaks-ended held holds (read ++ bytes) with_bytes after_bytes fault left later more (strip_carriage_return bytes) whole_line broken)
 
 -- the writer is flushed
-pub HasPerformed-flushed : (held holds later : Option (List ℕ)) (ls : List (List ℕ)) (performer : Performer) → Keeps holds later
-    → HasPerformed held ls performer holds → HasPerformed held ls performer later
-HasPerformed-flushed held holds later ls performer same done = record {
-  text = done.text;
-  last = done.last;
-  performed = done.performed;
-  stands = done.stands;
-  out = Appends-kept held holds later done.text done.out same;
-  counted = done.counted;
+pub HasCounted-flushed : (held holds later : Option (List ℕ)) (ls : List (List ℕ)) (performer : Performer) → Keeps holds later
+    → HasCounted held ls performer holds → HasCounted held ls performer later
+HasCounted-flushed held holds later ls performer same was = record {
+  done = record {
+    text = was.done.text;
+    last = was.done.last;
+    performed = was.done.performed;
+    stands = was.done.stands;
+    out = Appends-kept held holds later was.done.text was.done.out same;
+  };
+  counted = was.counted;
 }
 
 pub IsAfter-flushed : (held holds later : Option (List ℕ)) (read : List ℕ) (progress : Progress) → Keeps holds later
     → IsAfter held read progress holds → IsAfter held read progress later
 IsAfter-flushed held holds later read progress same after =
-    record { done = HasPerformed-flushed held holds later (ended_lines read) progress.performer same after.done; line = after.line }
+    record { lines = HasCounted-flushed held holds later (ended_lines read) progress.performer same after.lines; line = after.line }
 
 -- flushing the texts of these lines fails
 Breaks-flush : (l : Limits) (held left holds later : Option (List ℕ)) (read : List ℕ) (ls : List (List ℕ)) (performer : Performer)
-    → AreWholeLines left read (ls ++ []) → limits performer.session ≡ l → Keeps holds later → HasPerformed held ls performer holds
+    → AreWholeLines left read (ls ++ []) → limits performer.session ≡ l → Keeps holds later → HasCounted held ls performer holds
     → (fault : RunFault) → fault ≡ WriteFault performer.written → HasPassed (Breaks l fault) left read held later
-Breaks-flush l held left holds later read ls performer whole limits_are same done fault is =
+Breaks-flush l held left holds later read ls performer whole limits_are same was fault is =
+    let done = was.done in
     let performed : Perform l start ls (done.text ++ []) done.last =
     rw (append-nil done.text) (subst (λ m. Perform m start ls done.text done.last) limits_are done.performed) in
     subst (λ f. HasPassed (Breaks l f) left read held later) (sym is) (
       done.text,
       Appends-kept held holds later done.text done.out same,
-      (sym done.counted, ([], record { done = ls; more = []; last = done.last; first = whole; performed = performed })),
+      (sym was.counted, ([], first-text l left read ls [] (done.text ++ []) done.last whole performed)),
     )
 
 -- flushing the texts of the lines that a line feed ended fails
 pub Breaks-unflushed : (held left holds later : Option (List ℕ)) (read : List ℕ) (progress : Progress) → Keeps holds later → IsAfter held read progress holds
     → (fault : RunFault) → fault ≡ WriteFault progress.performer.written → HasPassed (Breaks (limits progress.performer.session) fault) left read held later
 Breaks-unflushed held left holds later read progress same after =
-    Breaks-flush _ held left holds later read (ended_lines read) progress.performer (inl (sym (append-nil _))) refl same after.done
+    Breaks-flush _ held left holds later read (ended_lines read) progress.performer (inl (sym (append-nil _))) refl same after.lines
 
 -- flushing the texts of all lines fails
 pub Breaks-last_unflushed : (l : Limits) (held left holds later : Option (List ℕ)) (read : List ℕ) (performer : Performer)
-    → IsAtEnd left → limits performer.session ≡ l → Keeps holds later → HasPerformed held (lines read) performer holds
+    → IsAtEnd left → limits performer.session ≡ l → Keeps holds later → HasCounted held (lines read) performer holds
     → (fault : RunFault) → fault ≡ WriteFault performer.written → HasPassed (Breaks l fault) left read held later
 Breaks-last_unflushed l held left holds later read performer all_read =
     Breaks-flush l held left holds later read (lines read) performer (inr (all_read, sym (append-nil _)))

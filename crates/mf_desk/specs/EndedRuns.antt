@@ -51,9 +51,19 @@ pub record IsSameEnd (before after : EndedRun) : Type 0 where
   pub published : ended_published_list after.ended ≡ ended_published_list before.ended
   pub file : after.file ≡ before.file
 
--- whatever was read and written before, a fault comes where the lines of this many viewers are due; the writer, which held some
--- bytes, now holds others
-abbrev pub StopsShowing : EndedRun → ℕ → RunFault → Option (List ℕ) → Option (List ℕ) → Type 0
-StopsShowing run viewers fault holds later =
-    (settings : Settings) (held left : Option (List ℕ)) (read : List ℕ) → IsAtEnd left → IsOver (run_limits settings) held read run holds
-    → HasPassed (Tells settings viewers fault) left read held later
+-- the last looks of the viewers of a run: how many there are, and what the writer held before their lines and holds after them
+pub record LastLooks : Type 0 where
+  pub run : EndedRun
+  pub viewers : ℕ
+  pub held : Option (List ℕ)
+  pub holds : Option (List ℕ)
+
+-- the last looks with these four, in this order
+abbrev pub last_looks : EndedRun → ℕ → Option (List ℕ) → Option (List ℕ) → LastLooks
+last_looks run viewers held holds = record { run = run; viewers = viewers; held = held; holds = holds }
+
+-- whatever was read and written before, the fault breaks the lines of these looks off
+abbrev pub StopsShowing : LastLooks → RunFault → Type 0
+StopsShowing l fault =
+    (settings : Settings) (first left : Option (List ℕ)) (read : List ℕ) → IsAtEnd left → IsOver (run_limits settings) first read l.run l.held
+    → HasPassed (Tells settings l.viewers fault) left read first l.holds

@@ -1,11 +1,11 @@
 -- What has been written where a fault breaks off a text, or the script.
-use Rattle.std.specs.Prelude.{ℕ, List, Option, ◌≡◌, ◌⊎◌, ◌+◌, [], ◌++◌, length}
+use Rattle.std.specs.Prelude.{ℕ, List, Option, ◌≡◌, ◌⊎◌, ◌+◌, [], length}
 use Rattle.std.specs.Io.KnownBytes.{IsAtEnd}
 use Rattle.std.specs.Str.Lines.{lines}
 use Rattle.mf_desk.specs.Ended.{ended_lines}
 use Rattle.mf_desk.specs.Streams.{IsPrefixOf, Passage}
 use Rattle.mf_session.specs.States.{State, Limits, start}
-use Rattle.mf_session.specs.Transcript.{Perform}
+use Rattle.mf_session.specs.Transcript.{IsFirstText, Perform, due}
 use Rattle.mf_desk.specs.declared.fault.RunFault.{RunFault}
 use Rattle.mf_desk.specs.declared.fault.RunFault.TheVariants.{OutOfMemory, ReadFault, WriteFault}
 
@@ -14,12 +14,11 @@ abbrev pub AreWholeLines : Option (List ℕ) → List ℕ → List (List ℕ) �
 AreWholeLines left read whole = (ended_lines read ≡ whole) ⊎ (IsAtEnd left × (lines read ≡ whole))
 
 -- this is what the first of the completely read lines print
-pub record IsFirstText (limits : Limits) (left : Option (List ℕ)) (read text : List ℕ) : Type 0 where
-  pub done : List (List ℕ)
-  pub more : List (List ℕ)
+pub record IsTextSoFar (limits : Limits) (left : Option (List ℕ)) (read text : List ℕ) : Type 0 where
+  pub whole : List (List ℕ)
+  pub are : AreWholeLines left read whole
   pub last : State
-  pub first : AreWholeLines left read (done ++ more)
-  pub performed : Perform limits start done text last
+  pub first : IsFirstText (due limits start whole) last text
 
 -- this is what the lines print that a line feed ended
 pub record IsEndedText (limits : Limits) (read text : List ℕ) : Type 0 where
@@ -36,7 +35,7 @@ BreaksOff IsText before _ written = ⊥
 -- been written; after `OutOfMemory` those of the first completely read lines, so neither a text nor a line is cut; after
 -- `WriteFault` the start of such texts, with as many bytes as its number says
 abbrev pub Breaks : Limits → RunFault → Passage → Type 0
-Breaks limits OutOfMemory p = IsFirstText limits p.left p.read p.written
+Breaks limits OutOfMemory p = IsTextSoFar limits p.left p.read p.written
 Breaks limits ReadFault p = IsEndedText limits p.read p.written
-Breaks limits (WriteFault count) p = (length p.written ≡ count) × IsPrefixOf (IsFirstText limits p.left p.read) p.written
+Breaks limits (WriteFault count) p = (length p.written ≡ count) × IsPrefixOf (IsTextSoFar limits p.left p.read) p.written
 Breaks limits _ p = ⊥

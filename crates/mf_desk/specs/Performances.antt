@@ -10,7 +10,7 @@ use Rattle.mf_watch.specs.declared.glance.Glance.{Glance}
 use Rattle.mf_desk.specs.declared.outcome.Outcome.{Outcome}
 use Rattle.mf_desk.specs.declared.settings.Settings.{Settings}
 use Rattle.mf_session.specs.Endings.{complete_list}
-use Rattle.mf_desk.specs.Fault.{IsEndedText, IsFirstText}
+use Rattle.mf_desk.specs.Fault.{IsEndedText, IsTextSoFar}
 use Rattle.mf_desk.specs.Streams.{IsPrefixOf, Passage, Streams}
 use Rattle.mf_session.specs.States.{State, Limits, limits_of, start}
 use Rattle.mf_session.specs.Transcript.{Perform}
@@ -72,7 +72,7 @@ pub record IsShownText (limits : Limits) (viewers : ℕ) (read text : List ℕ) 
 -- no line of this is cut: it is what the first of the completely read lines print or, where no byte is left, the complete
 -- transcript and the lines of the first viewers
 abbrev pub IsUncutText : Limits → ℕ → Passage → List ℕ → Type 0
-IsUncutText limits viewers p text = IsFirstText limits p.left p.read text ⊎ (IsAtEnd p.left × IsShownText limits viewers p.read text)
+IsUncutText limits viewers p text = IsTextSoFar limits p.left p.read text ⊎ (IsAtEnd p.left × IsShownText limits viewers p.read text)
 
 -- no font file is as short as the limit, so nothing was read or written
 pub record HasNoRoom (limits : Limits) (p : Passage) : Type 0 where

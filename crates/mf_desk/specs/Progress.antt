@@ -1,43 +1,49 @@
 -- The state of a run whose bytes so far are known.
 use Rattle.std.specs.Prelude.{ℕ, List, Option, ◌≡◌, ◌++◌, length, take}
-use Rattle.std.specs.Io.KnownBytes.{Appends, Consumes}
+use Rattle.std.specs.Io.KnownBytes.{Consumes}
 use Rattle.std.specs.Str.Lines.{lines}
 use Rattle.mf_desk.specs.Ended.{ended_lines, unended}
 use Rattle.mf_desk.specs.Fault.{Breaks}
 use Rattle.mf_desk.specs.Streams.{HasPassed, Streams}
-use Rattle.mf_session.specs.Sessions.{StandsFor, limits}
-use Rattle.mf_session.specs.States.{State, start}
-use Rattle.mf_session.specs.Transcript.{Perform}
+use Rattle.mf_session.specs.Sessions.{HasPerformed, limits}
+use Rattle.mf_session.specs.States.{start}
+use Rattle.mf_session.specs.Transcript.{due}
 use Rattle.mf_desk.specs.declared.fault.RunFault.{RunFault}
 use Rattle.mf_desk.specs.declared.line_buffer.TheConstants.{MAX_KEPT}
 use Rattle.mf_desk.specs.declared.performer.Performer.{Performer}
 use Rattle.mf_desk.specs.declared.progress.Progress.{Progress}
 
--- these lines of the script have been performed and their texts written, to a writer that held some bytes and now holds others
-pub record HasPerformed (held : Option (List ℕ)) (ls : List (List ℕ)) (performer : Performer) (holds : Option (List ℕ)) : Type 0 where
-  pub text : List ℕ
-  pub last : State
-  pub performed : Perform (limits performer.session) start ls text last
-  pub stands : StandsFor performer.session last
-  pub out : Appends held holds text
-  pub counted : performer.written ≡ length text
+-- these lines have been performed from the start on, and the bytes of their texts are counted
+pub record HasCounted (held : Option (List ℕ)) (ls : List (List ℕ)) (performer : Performer) (holds : Option (List ℕ)) : Type 0 where
+  pub done : HasPerformed (due (limits performer.session) start ls) performer.session held holds
+  pub counted : performer.written ≡ length done.text
 
 -- the run after these bytes of the script: the lines that a line feed ended have been performed, and of the unended line enough is
 -- kept
 pub record IsAfter (held : Option (List ℕ)) (read : List ℕ) (progress : Progress) (holds : Option (List ℕ)) : Type 0 where
-  pub done : HasPerformed held (ended_lines read) progress.performer holds
+  pub lines : HasCounted held (ended_lines read) progress.performer holds
   pub line : progress.line ≡ take MAX_KEPT (unended read)
 
 -- everything that the reader had was read and performed
 abbrev pub ReadsThrough : Streams → Performer → Type 0
-ReadsThrough s performer = (read : List ℕ) × Consumes s.unread s.left read × HasPerformed s.held (lines read) performer s.holds
+ReadsThrough s performer = (read : List ℕ) × Consumes s.unread s.left read × HasCounted s.held (lines read) performer s.holds
 
--- the run takes these bytes, which come after whatever was read, and goes on; the writer, which held some bytes, now holds others
-abbrev pub GoesOn : Progress → List ℕ → Progress → Option (List ℕ) → Option (List ℕ) → Type 0
-GoesOn before bytes after holds later =
-    (held : Option (List ℕ)) (read : List ℕ) → IsAfter held read before holds → IsAfter held (read ++ bytes) after later
+-- what happens while a run takes bytes: the run before it, these bytes, and what the writer held then and holds after it
+pub record Taking : Type 0 where
+  pub before : Progress
+  pub bytes : List ℕ
+  pub held : Option (List ℕ)
+  pub holds : Option (List ℕ)
 
--- the fault breaks the script off where the run takes these bytes, which come after whatever was read, and maybe before others
-abbrev pub BreaksAfter : Progress → List ℕ → RunFault → Option (List ℕ) → Option (List ℕ) → Type 0
-BreaksAfter before bytes fault holds later = (held left : Option (List ℕ)) (read more : List ℕ) → IsAfter held read before holds
-    → HasPassed (Breaks (limits before.performer.session) fault) left (read ++ bytes ++ more) held later
+-- the taking with these four, in this order
+abbrev pub taking : Progress → List ℕ → Option (List ℕ) → Option (List ℕ) → Taking
+taking before bytes held holds = record { before = before; bytes = bytes; held = held; holds = holds }
+
+-- whatever was read before these bytes, the run has taken them and goes on
+abbrev pub GoesOn : Taking → Progress → Type 0
+GoesOn t after = (first : Option (List ℕ)) (read : List ℕ) → IsAfter first read t.before t.held → IsAfter first (read ++ t.bytes) after t.holds
+
+-- whatever was read before these bytes, and whatever comes after them, the fault breaks the script off
+abbrev pub BreaksAfter : Taking → RunFault → Type 0
+BreaksAfter t fault = (first left : Option (List ℕ)) (read more : List ℕ) → IsAfter first read t.before t.held
+    → HasPassed (Breaks (limits t.before.performer.session) fault) left (read ++ t.bytes ++ more) first t.holds

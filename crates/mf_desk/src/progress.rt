@@ -7,7 +7,7 @@ ghost use Rattle.mf_live.specs.Writers.{ended_identity};
 ghost use Rattle.mf_desk.specs.EndedRuns.{EndsWith};
 ghost use Rattle.mf_desk.specs.Fault.{Breaks};
 ghost use Rattle.mf_desk.specs.Performances.{run_limits};
-ghost use Rattle.mf_desk.specs.Progress.{BreaksAfter, GoesOn, HasPerformed, IsAfter, ReadsThrough};
+ghost use Rattle.mf_desk.specs.Progress.{BreaksAfter, GoesOn, HasCounted, IsAfter, ReadsThrough, taking};
 ghost use Rattle.mf_desk.specs.Streams.{HasPassed, Passes, streams_of};
 ghost use Rattle.mf_session.specs.Sessions.{identity, limits};
 
@@ -136,11 +136,11 @@ impl Progress {
         bytes: &[u8],
     ) -> Result<(), RunFault>
         requires { self.old.performer.written + length bytes.now * 2 ^ 64 ≤ 2 ^ 127 }
-        ensures after { OnOk result (GoesOn self.old bytes.now self.new (W.contents writer.old) (W.contents writer.new)) }
+        ensures after { OnOk result (GoesOn (taking self.old bytes.now (W.contents writer.old) (W.contents writer.new)) self.new) }
         ensures at_most { OnOk result (self.new.performer.written ≤ self.old.performer.written + length bytes.now * 2 ^ 64) }
         ensures limits { limits self.new.performer.session ≡ limits self.old.performer.session }
         ensures identity { identity self.new.performer.session ≡ identity self.old.performer.session }
-        ensures fault { IfErr result (λ fault. BreaksAfter self.old bytes.now fault (W.contents writer.old) (W.contents writer.new)) }
+        ensures fault { IfErr result (BreaksAfter (taking self.old bytes.now (W.contents writer.old) (W.contents writer.new))) }
     {
         let mut rest = bytes;
         'lines: while let Some(place) = memchr(b'\n', rest) {
@@ -161,11 +161,11 @@ impl Progress {
     ) -> Result<(), RunFault>
         requires room { self.old.performer.written + 2 ^ 64 ≤ 2 ^ 127 }
         requires unbroken { All (λ byte. byte ≢ 10) bytes.now }
-        ensures after { OnOk result (GoesOn self.old (bytes.now ++ 10 ∷ []) self.new (W.contents writer.old) (W.contents writer.new)) }
+        ensures after { OnOk result (GoesOn (taking self.old (bytes.now ++ 10 ∷ []) (W.contents writer.old) (W.contents writer.new)) self.new) }
         ensures at_most { OnOk result (self.new.performer.written ≤ self.old.performer.written + 2 ^ 64) }
         ensures limits { limits self.new.performer.session ≡ limits self.old.performer.session }
         ensures identity { identity self.new.performer.session ≡ identity self.old.performer.session }
-        ensures fault { IfErr result (λ fault. BreaksAfter self.old (bytes.now ++ 10 ∷ []) fault (W.contents writer.old) (W.contents writer.new)) }
+        ensures fault { IfErr result (BreaksAfter (taking self.old (bytes.now ++ 10 ∷ []) (W.contents writer.old) (W.contents writer.new))) }
     {
         if self.line.is_empty() {
             let line = before_line_feed(bytes);
@@ -184,7 +184,7 @@ impl Progress {
     ) -> Result<(), RunFault>
         requires { self.old.performer.written + 2 ^ 64 ≤ 2 ^ 127 }
         ensures done { OnOk result ((held : Option (List ℕ)) (read : List ℕ) → IsAfter held read self.old (W.contents writer.old)
-            → HasPerformed held (lines read) self.new.performer (W.contents writer.new)) }
+            → HasCounted held (lines read) self.new.performer (W.contents writer.new)) }
         ensures at_most { OnOk result (self.new.performer.written ≤ self.old.performer.written + 2 ^ 64) }
         ensures limits { limits self.new.performer.session ≡ limits self.old.performer.session }
         ensures identity { identity self.new.performer.session ≡ identity self.old.performer.session }
@@ -208,11 +208,11 @@ impl Progress {
         writer: &mut W,
     ) -> Result<(), RunFault>
         requires { self.old.performer.written + 2 ^ 64 ≤ 2 ^ 127 }
-        ensures after { OnOk result (GoesOn self.old (10 ∷ []) self.new (W.contents writer.old) (W.contents writer.new)) }
+        ensures after { OnOk result (GoesOn (taking self.old (10 ∷ []) (W.contents writer.old) (W.contents writer.new)) self.new) }
         ensures at_most { OnOk result (self.new.performer.written ≤ self.old.performer.written + 2 ^ 64) }
         ensures limits { limits self.new.performer.session ≡ limits self.old.performer.session }
         ensures identity { identity self.new.performer.session ≡ identity self.old.performer.session }
-        ensures fault { IfErr result (λ fault. BreaksAfter self.old (10 ∷ []) fault (W.contents writer.old) (W.contents writer.new)) }
+        ensures fault { IfErr result (BreaksAfter (taking self.old (10 ∷ []) (W.contents writer.old) (W.contents writer.new))) }
     {
         self.performer
             .perform(rt, alloc, writer, self.line.at_line_feed())?;
@@ -223,9 +223,9 @@ impl Progress {
     /// Keeps bytes that have no line feed.
     fn keep(&mut self, bytes: &[u8]) -> Result<(), RunFault>
         requires { All (λ byte. byte ≢ 10) bytes.now }
-        ensures after { OnOk result ((holds : Option (List ℕ)) → GoesOn self.old bytes.now self.new holds holds) }
+        ensures after { OnOk result ((holds : Option (List ℕ)) → GoesOn (taking self.old bytes.now holds holds) self.new) }
         ensures same { self.new.performer ≡ self.old.performer }
-        ensures fault { IfErr result (λ fault. (holds : Option (List ℕ)) → BreaksAfter self.old bytes.now fault holds holds) }
+        ensures fault { IfErr result (λ fault. (holds : Option (List ℕ)) → BreaksAfter (taking self.old bytes.now holds holds) fault) }
     {
         self.line.extend(bytes)?;
         Ok(())

@@ -1,11 +1,13 @@
 -- The states that a session represents.
-use Rattle.std.specs.Prelude.{◌≡◌, ℕ, List, []}
+use Rattle.std.specs.Prelude.{◌≡◌, ℕ, List, [], Option}
+use Rattle.std.specs.Io.KnownBytes.{Appends}
 use Rattle.logbook.specs.Pages.{Book}
 use Rattle.mf_gf.specs.Keeping.{Keeps, max_bytes_of}
 use Rattle.mf_text.specs.declared.command.Command.{Command}
 use Rattle.mf_session.specs.declared.session.Session.{Session}
 use Rattle.mf_session.specs.Answers.{Answers, AnswersTo}
 use Rattle.mf_session.specs.States.{State, Limits}
+use Rattle.mf_session.specs.Transcript.{Due, Perform}
 use Rattle.mf_session.specs.Variables as variables
 
 -- a session has the pictures and the turning check of a state, and its font file keeps the state's characters
@@ -33,3 +35,11 @@ pub record IsAnswered (before : Session) (s : State) (line : List ℕ) (text : L
   pub next : State
   pub answer : Answers (limits before) s line text next
   pub stands : StandsFor after next
+
+-- a session has performed all these lines and represents the state after them; a writer, which held some bytes, has got their texts
+pub record HasPerformed (d : Due) (session : Session) (held holds : Option (List ℕ)) : Type 0 where
+  pub text : List ℕ
+  pub last : State
+  pub performed : Perform d.limits d.from d.whole text last
+  pub stands : StandsFor session last
+  pub out : Appends held holds text

@@ -10,6 +10,23 @@ Perform limits s [] text t = (text ≡ []) × (t ≡ s)
 Perform limits s (line ∷ more) text t =
     (first : List ℕ) × (rest : List ℕ) × (next : State) × Answers limits s line first next × Perform limits next more rest t × (text ≡ first ++ rest)
 
+-- lines that are due to be performed from a state on
+pub record Due : Type 0 where
+  pub limits : Limits
+  pub from : State
+  pub whole : List (List ℕ)
+
+-- lines with these three, in this order
+abbrev pub due : Limits → State → List (List ℕ) → Due
+due limits from whole = record { limits = limits; from = from; whole = whole }
+
+-- the first of these lines have led to this state, and these are their texts
+pub record IsFirstText (d : Due) (last : State) (written : List ℕ) : Type 0 where
+  pub done : List (List ℕ)
+  pub more : List (List ℕ)
+  pub first : d.whole ≡ done ++ more
+  pub performed : Perform d.limits d.from done written last
+
 -- the transcript of the bytes of a script; a line ends at a line feed, a carriage return directly before that is not part of the
 -- line, and bytes after the last line feed are a line
 pub record IsTranscript (limits : Limits) (input text : List ℕ) : Type 0 where

@@ -1,4 +1,4 @@
-use Rattle.std.proofs.Common.{◌≡◌, ◌⊎◌, Err, ⊎_elim, inl, inr, refl, sym, ap, subst, ◌∙◌, arith}
+use Rattle.std.proofs.Common.{◌≡◌, Err, ⊎_elim, inl, inr, refl, sym, ap, subst, ◌∙◌, arith}
 use Rattle.std.proofs.lemmas.Result.{IfOk-weaker, err_from_is_err_and}
 use Rattle.mf_desk.specs.declared.fault.RunFault.TheVariants as faults
 use Rattle.mf_desk.specs.ViewerFaults.{fault_of_start}

@@ -11,7 +11,7 @@ returns-in-Ok-clause-over g c =
     let holds = g.W.Write.contents c.read_all.new.writer in
     let performer = c.read_all.new.self.performer in
     IfOk-weaker c.finish.result _ _ (λ run ended.
-    let over = IsOver-ended held holds read performer run through (ended through.last through.stands) in
+    let over = IsOver-ended held holds read performer run through (ended through.done.last through.done.stands) in
     (read, consumed, subst (λ l. IsOver l held read run holds) c.in-Ok.ensures.limits over)) c.finish.ensures.ended
 
 pub returns-in-Ok-clause-fault : goal.returns-in-Ok-clause-fault

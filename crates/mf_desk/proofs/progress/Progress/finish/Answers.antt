@@ -1,11 +1,11 @@
 use Rattle.std.proofs.Common.{Result, Ok, Err, sym}
 use Rattle.std.specs.Prelude.{OnOk}
 use Rattle.std.proofs.lemmas.Result.{err_from_is_err_and, IfErr-weaker}
-use Rattle.mf_desk.proofs.Stages.{HasPerformed-all, HasPerformed-flushed, HasPerformed-last, Breaks-last, Breaks-last_unflushed}
+use Rattle.mf_desk.proofs.Stages.{HasCounted-all, HasCounted-flushed, HasCounted-last, Breaks-last, Breaks-last_unflushed}
 use Rattle.mf_desk.proofs.progress.Progress.finish.Goals as goal
 
 pub returns-then-is_empty-clause-done : goal.returns-then-is_empty-clause-done
-returns-then-is_empty-clause-done g c = λ held read after. HasPerformed-all held _ read c.args.self.now after (sym c.if-is_empty.ensures)
+returns-then-is_empty-clause-done g c = λ held read after. HasCounted-all held _ read c.args.self.now after (sym c.if-is_empty.ensures)
 
 -- a fact that holds whatever the result is
 always : {T E : Type 0} {P : Type 0} (r : Result T E) → P → OnOk r P
@@ -18,15 +18,16 @@ returns-in_err-perform-clause-fault g c =
     let broken = rw c.at_end.ensures at c.in_err-perform.ensures.fault in
     rw (passed_on.1, passed_on.2) (λ held left read all_read after.
     Breaks-last held _ read c.args.self.now after c.in_err-perform.field-0.0 left _ all_read (sym (c.if-is_empty.ensures))
-    (broken after.done.last after.done.stands))
+    (broken after.lines.done.last after.lines.done.stands))
 
 pub returns-clause-done : goal.returns-clause-done
 returns-clause-done g c =
     let some = sym c.if-is_empty.ensures in
     let written = rw c.at_end.ensures at c.in_ok-perform.ensures.written in
     always c.flush.result (λ held read after.
-    HasPerformed-flushed held _ _ _ c.perform.new.self c.flush.ensures.kept
-    (HasPerformed-last held _ read c.args.self.now after _ c.perform.new.self some c.perform.ensures.limits (written after.done.last after.done.stands)))
+    HasCounted-flushed held _ _ _ c.perform.new.self c.flush.ensures.kept
+    (HasCounted-last held _ read c.args.self.now after _ c.perform.new.self some c.perform.ensures.limits
+    (written after.lines.done.last after.lines.done.stands)))
 
 pub returns-clause-fault : goal.returns-clause-fault
 returns-clause-fault g c =
@@ -34,5 +35,5 @@ returns-clause-fault g c =
     let written = rw c.at_end.ensures at c.in_ok-perform.ensures.written in
     IfErr-weaker c.flush.result _ _ (λ fault is held left read all_read after.
     Breaks-last_unflushed _ held left _ _ read c.perform.new.self all_read c.perform.ensures.limits c.flush.ensures.kept
-    (HasPerformed-last held _ read c.args.self.now after _ c.perform.new.self some c.perform.ensures.limits
-    (written after.done.last after.done.stands)) fault is) c.flush.ensures.fault
+    (HasCounted-last held _ read c.args.self.now after _ c.perform.new.self some c.perform.ensures.limits
+    (written after.lines.done.last after.lines.done.stands)) fault is) c.flush.ensures.fault

@@ -70,10 +70,11 @@ returns-clause-after g c =
 pub returns-clause-fault : goal.returns-clause-fault
 returns-clause-fault g c =
     let (done, bytes_are, few, goes_on, same, identity_is) = c.lines.invariant in
-    rw (← same) (IfErr-weaker c.keep.result _ _ (λ fault cut_short held left read more after.
-    subst (λ all. HasPassed (Breaks (limits c.lines.self.performer.session) fault) left (all ++ more) held (g.W.Write.contents c.lines.writer))
+    IfErr-weaker c.keep.result _ _ (λ fault cut_short held left read more after.
+    subst (λ l. HasPassed (Breaks l fault) left (read ++ c.args.bytes.now ++ more) held (g.W.Write.contents c.lines.writer)) same
+    (subst (λ all. HasPassed (Breaks (limits c.lines.self.performer.session) fault) left (all ++ more) held (g.W.Write.contents c.lines.writer))
     (all_taken read done c.lines.rest.now c.args.bytes.now bytes_are)
-    (cut_short _ held left (read ++ done) more (goes_on held read after))) c.keep.ensures.fault)
+    (cut_short _ held left (read ++ done) more (goes_on held read after)))) c.keep.ensures.fault
 
 pub lines-init : goal.lines-init
 lines-init g c = (

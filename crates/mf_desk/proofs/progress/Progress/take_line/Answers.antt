@@ -21,7 +21,7 @@ returns-then-is_empty-clause-after g c =
     let written = rw c.before_line_feed-line.ensures at c.perform.ensures.written in
     on_ok_weaker c.perform.result (λ done held read after.
     IsAfter-whole held _ read c.args.bytes.now old after none c.requires.unbroken _
-    (record { performer = c.perform.new.self; line = old.line }) (done after.done.last after.done.stands) c.perform.ensures.limits
+    (record { performer = c.perform.new.self; line = old.line }) (done after.lines.done.last after.lines.done.stands) c.perform.ensures.limits
     (nil_from_length old.line (eqb-true _ 0 none))) written
 
 pub returns-then-is_empty-clause-fault : goal.returns-then-is_empty-clause-fault
@@ -29,7 +29,7 @@ returns-then-is_empty-clause-fault g c =
     let broken_off = rw c.before_line_feed-line.ensures at c.perform.ensures.fault in
     IfErr-weaker c.perform.result _ _ (λ fault broken held left read more after.
     Breaks-whole held _ read c.args.bytes.now c.args.self.now after (sym (c.if-is_empty.ensures)) c.requires.unbroken fault left _ more
-    (broken after.done.last after.done.stands)) broken_off
+    (broken after.lines.done.last after.lines.done.stands)) broken_off
 
 pub returns-in_err-keep-clause-fault : goal.returns-in_err-keep-clause-fault
 returns-in_err-keep-clause-fault g c =
