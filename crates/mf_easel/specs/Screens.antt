@@ -31,13 +31,23 @@ new_revision drawn revision = if is_drawn drawn revision then None else Some rev
 abbrev pub IsAbove : Option ℕ → ℕ → Type 0
 IsAbove drawn revision = IfSome drawn (λ before. before < revision)
 
+-- a screen before and after a call, with the bytes that it holds where they are known
+pub record Screen (W : Type 0) : Type 0 where
+  pub contents : W → Option (List ℕ)
+  pub before : W
+  pub after : W
+
+-- the screen with these three, in this order
+abbrev pub screen_of : {W : Type 0} → (W → Option (List ℕ)) → W → W → Screen W
+screen_of contents before after = record { contents = contents; before = before; after = after }
+
 -- the screen has got the text of a frame, or is as it was where none was drawn
-abbrev pub GetsFrame : {W : Type 0} → (W → Option (List ℕ)) → W → W → List ℕ → Option ℕ → Type 0
-GetsFrame contents before after text None = after ≡ before
-GetsFrame contents before after text (Some revision) = Appends (contents before) (contents after) text
+abbrev pub GetsFrame : {W : Type 0} → Screen W → List ℕ → Option ℕ → Type 0
+GetsFrame s text None = s.after ≡ s.before
+GetsFrame s text (Some revision) = Appends (s.contents s.before) (s.contents s.after) text
 
 -- after a fault the screen is as it was, or after `WriteFault` has got the text as far as it took it: maybe nothing, maybe all of it
-abbrev pub GetsNoMore : {W : Type 0} → (W → Option (List ℕ)) → W → W → List ℕ → EaselFault → Type 0
-GetsNoMore contents before after text OutOfMemory = after ≡ before
-GetsNoMore contents before after text NoLook = after ≡ before
-GetsNoMore contents before after text WriteFault = GetsMessage (contents before) (contents after) text
+abbrev pub GetsNoMore : {W : Type 0} → Screen W → List ℕ → EaselFault → Type 0
+GetsNoMore s text OutOfMemory = s.after ≡ s.before
+GetsNoMore s text NoLook = s.after ≡ s.before
+GetsNoMore s text WriteFault = GetsMessage (s.contents s.before) (s.contents s.after) text

@@ -10,13 +10,13 @@ use Rattle.mf_live.specs.Entries.{Entry, rev}
 use Rattle.mf_session.proofs.Performing.{Perform-append}
 use Rattle.mf_session.specs.Answers.{Answers}
 use Rattle.mf_session.specs.States.{Limits, State}
-use Rattle.mf_session.specs.Transcript.{Perform}
+use Rattle.mf_session.specs.Transcript.{Due, IsFirstText, Perform, due}
 use Rattle.mf_stage.proofs.Performed.{published-all}
 use Rattle.mf_stage.proofs.Scripts.{AreFirstLines, IsUnderWay, under_way-line, under_way-start}
-use Rattle.mf_stage.specs.Faults.{BreaksLines, BreaksScript, ConcernsPlate, Due, IsBrokenOff, IsCutText, IsFirstText, IsOfPlate, IsPublishedAs, Tells, due}
+use Rattle.mf_stage.specs.Faults.{BreaksLines, BreaksScript, ConcernsPlate, IsBrokenOff, IsCutText, IsOfPlate, IsPublishedAs, Tells}
 use Rattle.mf_stage.specs.Lines.{IsReadLine, Reads, without_ending}
 use Rattle.mf_stage.specs.Publications.{IsPlateWhere}
-use Rattle.mf_stage.specs.Scripts.{HasPerformed, HasPerformedLine, act_of}
+use Rattle.mf_stage.specs.Scripts.{Act, HasPerformedLine, PerformsFrom, act_of}
 use Rattle.mf_stage.specs.Stages.{StandsFor, limits, plates_of}
 use Rattle.mf_stage.specs.declared.fault.StageFault.{StageFault}
 use Rattle.mf_stage.specs.declared.fault.StageFault.TheVariants.{OutOfMemory, FileTooLong, ReadFault, WriteFault, ImageTooLarge, PlateFault}
@@ -81,9 +81,9 @@ module _ (limits : Limits) (s t : State) (done mid more : List (List ℕ)) (text
 
 -- what is written where a fault comes in a line, whose stage represented the state t
 broken-after : (before now after : Stage) (s : State) (done mid more : List (List ℕ)) (fault : StageFault) (held holds last : Option (List ℕ))
-    → limits now ≡ limits before → plates_of now ≡ plates_of before → (first : HasPerformed (act_of before s now held holds) done)
-    → IsBrokenOff (act_of now first.last after holds last) mid fault
-    → IsBrokenOff (act_of before s after held last) ((done ++ mid) ++ more) fault
+    → limits now ≡ limits before → plates_of now ≡ plates_of before → (first : PerformsFrom (act_of before now held holds) s done)
+    → IsBrokenOff (act_of now after holds last) first.last mid fault
+    → IsBrokenOff (act_of before after held last) s ((done ++ mid) ++ more) fault
 broken-after before now after s done mid more fault held holds last same same_plates first broken =
     record {
       last = broken.last;
@@ -102,10 +102,9 @@ first_lines None left done first = (first.bytes, tt, ([], ap lines (sym (append-
 first_lines (Some input) left done first = let (rest, is, before) = first.ahead in (input, refl, (lines rest, before))
 
 -- a fault comes where no line is being performed
-pub under_way-broken : (before now : Stage) (unread left held holds : Option (List ℕ)) (fault : StageFault)
-    → IsUnderWay before unread left now held holds → (fault ≡ OutOfMemory) ⊎ (fault ≡ ReadFault)
-    → BreaksScript before unread fault now held holds
-under_way-broken before now unread left held holds fault was between =
+pub under_way-broken : (act : Act) (unread left : Option (List ℕ)) (fault : StageFault) → IsUnderWay act unread left
+    → (fault ≡ OutOfMemory) ⊎ (fault ≡ ReadFault) → BreaksScript act unread fault
+under_way-broken act unread left fault was between =
     let (input, known, (more, first)) = first_lines unread left was.done was.first in
     record {
       input = input;
@@ -117,21 +116,21 @@ under_way-broken before now unread left held holds fault was between =
             written = performed.text;
             stands = performed.stands;
             out = performed.out;
-            told = tells-between (due (limits before) s (lines input)) performed.last fault performed.text between
+            told = tells-between (due (limits act.before) s (lines input)) performed.last fault performed.text between
                 (record { done = was.done; more = more; first = first; performed = performed.performed });
             asked = λ concerns. absurd (between-plates fault between concerns);
           };
     }
 
 -- a fault comes before the first line
-pub unbegun : (stage : Stage) (unread held : Option (List ℕ)) → BreaksScript stage unread OutOfMemory stage held held
-unbegun stage unread held = under_way-broken stage stage unread unread held held OutOfMemory (under_way-start stage unread held) (inl refl)
+pub unbegun : (stage : Stage) (unread held : Option (List ℕ)) → BreaksScript (act_of stage stage held held) unread OutOfMemory
+unbegun stage unread held = under_way-broken (act_of stage stage held held) unread unread OutOfMemory (under_way-start stage unread held) (inl refl)
 
 -- a fault comes in the next line
 pub under_way-cut : (before now later : Stage) (unread left remaining held holds last : Option (List ℕ)) (line : List ℕ) (fault : StageFault)
-    → limits now ≡ limits before → plates_of now ≡ plates_of before → IsUnderWay before unread left now held holds
-    → IsReadLine line → IfSome left (λ rest. Reads rest line remaining) → BreaksLines now (without_ending line ∷ []) fault later holds last
-    → BreaksScript before unread fault later held last
+    → limits now ≡ limits before → plates_of now ≡ plates_of before → IsUnderWay (act_of before now held holds) unread left
+    → IsReadLine line → IfSome left (λ rest. Reads rest line remaining) → BreaksLines (act_of now later holds last) (without_ending line ∷ []) fault
+    → BreaksScript (act_of before later held last) unread fault
 under_way-cut before now later unread left remaining held holds last line fault same same_plates was whole reads breaks =
     let one = without_ending line ∷ [] in
     let next = under_way-line unread left remaining was.done line was.first whole reads in
@@ -141,13 +140,13 @@ under_way-cut before now later unread left remaining held holds last line fault 
       known = known;
       broken = λ s stands.
           let performed = was.performed s stands in
-          subst (λ ls. IsBrokenOff (act_of before s later held last) ls fault) (sym first)
+          subst (λ ls. IsBrokenOff (act_of before later held last) s ls fault) (sym first)
           (broken-after before now later s was.done one more fault held holds last same same_plates performed (breaks performed.last performed.stands));
     }
 
 -- an allocation failed before anything was done for a line
 pub nothing-done : (before after : Stage) (s : State) (line : List ℕ) (held : Option (List ℕ)) → StandsFor after s
-    → IsBrokenOff (act_of before s after held held) (line ∷ []) OutOfMemory
+    → IsBrokenOff (act_of before after held held) s (line ∷ []) OutOfMemory
 nothing-done before after s line held stands = record {
   last = s;
   written = [];
@@ -158,10 +157,9 @@ nothing-done before after s line held stands = record {
 }
 
 -- the text of a line was cut
-pub line-cut : (before after : Stage) (s next : State) (line text : List ℕ) (held holds : Option (List ℕ))
-    → Answers (limits before) s line text next → StandsFor after next → GetsMessage held holds text
-    → IsBrokenOff (act_of before s after held holds) (line ∷ []) WriteFault
-line-cut before after s next line text held holds answer stands (front, rest, is, out) = record {
+pub line-cut : (act : Act) (s next : State) (line text : List ℕ) → Answers (limits act.before) s line text next → StandsFor act.after next
+    → GetsMessage act.held act.holds text → IsBrokenOff act s (line ∷ []) WriteFault
+line-cut act s next line text answer stands (front, rest, is, out) = record {
   last = next;
   written = front;
   stands = stands;
@@ -176,7 +174,7 @@ line-cut before after s next line text held holds answer stands (front, rest, is
     performed = (refl, refl);
     front = front;
     rest = rest;
-    answer = subst (λ t. Answers (limits before) s line t next) is answer;
+    answer = subst (λ t. Answers (limits act.before) s line t next) is answer;
     written_is = refl;
   };
   asked = λ concerns. absurd concerns;
@@ -196,28 +194,26 @@ tells-published d next fault text first all is =
     (λ plate. subst (λ f. Tells d next f text) (sym plate) (first, published)) is
 
 -- a line was performed and its text was written, and then the plate of what it has published fails
-pub line-published : (before after : Stage) (s next : State) (line text : List ℕ) (held holds : Option (List ℕ)) (fault : StageFault)
-    → Answers (limits before) s line text next → StandsFor after next → Appends held holds text
-    → next.pictures.published ≡ next.pictures.accepted → IsOfPlate next.pictures.published fault → IsSome (plates_of before)
-    → IsBrokenOff (act_of before s after held holds) (line ∷ []) fault
-line-published before after s next line text held holds fault answer stands out all is some = record {
+pub line-published : (act : Act) (s next : State) (line text : List ℕ) (fault : StageFault)
+    → Answers (limits act.before) s line text next → StandsFor act.after next → Appends act.held act.holds text
+    → next.pictures.published ≡ next.pictures.accepted → IsOfPlate next.pictures.published fault → IsSome (plates_of act.before)
+    → IsBrokenOff act s (line ∷ []) fault
+line-published act s next line text fault answer stands out all is some = record {
   last = next;
   written = text;
   stands = stands;
   out = out;
-  told = tells-published (due (limits before) s (line ∷ [])) next fault text (line-first (limits before) s next line text answer) all is;
+  told = tells-published (due (limits act.before) s (line ∷ [])) next fault text (line-first (limits act.before) s next line text answer) all is;
   asked = λ concerns. some;
 }
 
 -- the same of a plate that was made and not written
-pub line-unwritten : (before after : Stage) (s : State) (line : List ℕ) (held holds : Option (List ℕ)) (fault : StageFault) (made : Option Publication)
-    → HasPerformedLine (act_of before s after held holds) line made
-    → IsSomeAnd made (λ publication. (fault ≡ PlateFault publication.revision) × IsSome publication.plate)
-    → IsBrokenOff (act_of before s after held holds) (line ∷ []) fault
-line-unwritten before after s line held holds fault None done is = absurd is
-line-unwritten before after s line held holds fault (Some publication) done (is, some) =
+pub line-unwritten : (act : Act) (s : State) (line : List ℕ) (fault : StageFault) (made : Option Publication) → HasPerformedLine act s line made
+    → IsSomeAnd made (λ publication. (fault ≡ PlateFault publication.revision) × IsSome publication.plate) → IsBrokenOff act s (line ∷ []) fault
+line-unwritten act s line fault None done is = absurd is
+line-unwritten act s line fault (Some publication) done (is, some) =
     let (given, of_list) = done.made_is in
-    let all = published-all (limits before) s line done.text done.next done.answer given in
-    line-published before after s done.next line done.text held holds fault done.answer done.stands done.out all
+    let all = published-all (limits act.before) s line done.text done.next done.answer given in
+    line-published act s done.next line done.text fault done.answer done.stands done.out all
     (inr (is ∙ ap PlateFault of_list.revision))
-    (plate-asked (plates_of before) done.next.pictures.published publication.plate of_list.plate some)
+    (plate-asked (plates_of act.before) done.next.pictures.published publication.plate of_list.plate some)

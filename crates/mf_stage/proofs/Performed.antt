@@ -41,7 +41,7 @@ module _ (before after : Stage) (s : State) (line text : List ℕ) (held holds :
   -- the publication of what was published is made of one that does
   pub performed-published : (made : Publication) → publishes ≡ true → plates_of after ≡ plates_of before
       → IsPublication (plates_of after) answered.next.pictures.accepted made
-      → HasPerformedLine (act_of before s after held holds) line (Some made)
+      → HasPerformedLine (act_of before after held holds) s line (Some made)
   performed-published made publishing same publication =
       let given = means.0 publishing in
       let all = published-all _ s line text answered.next answered.answer given in

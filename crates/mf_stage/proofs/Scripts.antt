@@ -9,7 +9,7 @@ use Rattle.mf_session.specs.States.{State}
 use Rattle.mf_session.specs.Transcript.{Perform}
 use Rattle.mf_stage.proofs.Cuts.{next_lines, spelled_line}
 use Rattle.mf_stage.specs.Lines.{IsReadLine, Reads, without_ending}
-use Rattle.mf_stage.specs.Scripts.{Act, HasPerformed, HasPerformedLine, PerformsAll, PerformsLines, act_of}
+use Rattle.mf_stage.specs.Scripts.{Act, HasPerformedLine, PerformsAll, PerformsFrom, PerformsLines, act_of}
 use Rattle.mf_stage.specs.Stages.{limits}
 use Rattle.mf_stage.specs.declared.stage.Publication.{Publication}
 use Rattle.mf_stage.specs.declared.stage.Stage.{Stage}
@@ -24,18 +24,18 @@ pub record AreFirstLines (unread left : Option (List ℕ)) (done : List (List �
   pub spelled : (rest : List ℕ) → lines (bytes ++ rest) ≡ done ++ lines rest
   pub ahead : AreBefore unread left done
 
--- the first lines of a script have been performed
-pub record IsUnderWay (before : Stage) (unread left : Option (List ℕ)) (now : Stage) (held holds : Option (List ℕ)) : Type 0 where
+-- in this act the first lines of a script have been performed
+pub record IsUnderWay (act : Act) (unread left : Option (List ℕ)) : Type 0 where
   pub done : List (List ℕ)
   pub first : AreFirstLines unread left done
-  pub performed : PerformsLines before done now held holds
+  pub performed : PerformsLines act done
 
 ahead-start : (unread : Option (List ℕ)) → AreBefore unread unread []
 ahead-start None = tt
 ahead-start (Some input) = (input, refl, refl)
 
 -- no line has been performed
-pub under_way-start : (stage : Stage) (unread held : Option (List ℕ)) → IsUnderWay stage unread unread stage held held
+pub under_way-start : (stage : Stage) (unread held : Option (List ℕ)) → IsUnderWay (act_of stage stage held held) unread unread
 under_way-start stage unread held = record {
   done = [];
   first = record { bytes = []; spelled = λ rest. refl; ahead = ahead-start unread };
@@ -43,8 +43,8 @@ under_way-start stage unread held = record {
 }
 
 -- one line is performed
-pub performed-one : (act : Act) (line : List ℕ) (made : Option Publication) → HasPerformedLine act line made → HasPerformed act (line ∷ [])
-performed-one act line made one =
+pub performed-one : (act : Act) (s : State) (line : List ℕ) (made : Option Publication) → HasPerformedLine act s line made → PerformsFrom act s (line ∷ [])
+performed-one act s line made one =
     record {
       text = one.text;
       last = one.next;
@@ -55,8 +55,8 @@ performed-one act line made one =
 
 -- some lines are performed, and then others
 performed-more : (before now later : Stage) (s : State) (done more : List (List ℕ)) (held holds last : Option (List ℕ))
-    → limits now ≡ limits before → (first : HasPerformed (act_of before s now held holds) done)
-    → HasPerformed (act_of now first.last later holds last) more → HasPerformed (act_of before s later held last) (done ++ more)
+    → limits now ≡ limits before → (first : PerformsFrom (act_of before now held holds) s done)
+    → PerformsFrom (act_of now later holds last) first.last more → PerformsFrom (act_of before later held last) s (done ++ more)
 performed-more before now later s done more held holds last same first second =
     record {
       text = first.text ++ second.text;
@@ -68,7 +68,7 @@ performed-more before now later s done more held holds last same first second =
     }
 
 -- what holds of known bytes
-pub known_is : (P : List ℕ → Type 0) (left : Option (List ℕ)) (rest : List ℕ) → left ≡ Some rest → IfSome left P → P rest
+known_is : (P : List ℕ → Type 0) (left : Option (List ℕ)) (rest : List ℕ) → left ≡ Some rest → IfSome left P → P rest
 known_is P left rest is known = subst (λ l. IfSome l P) is known
 
 ahead-next : (unread left remaining : Option (List ℕ)) (done : List (List ℕ)) (line : List ℕ) → AreBefore unread left done
@@ -98,9 +98,9 @@ under_way-line unread left remaining done line first whole reads =
 
 -- the next line is read and performed
 pub under_way-next : (before now later : Stage) (unread left remaining held holds last : Option (List ℕ)) (line : List ℕ)
-    → limits now ≡ limits before → IsUnderWay before unread left now held holds
-    → IsReadLine line → IfSome left (λ rest. Reads rest line remaining) → PerformsLines now (without_ending line ∷ []) later holds last
-    → IsUnderWay before unread remaining later held last
+    → limits now ≡ limits before → IsUnderWay (act_of before now held holds) unread left
+    → IsReadLine line → IfSome left (λ rest. Reads rest line remaining) → PerformsLines (act_of now later holds last) (without_ending line ∷ [])
+    → IsUnderWay (act_of before later held last) unread remaining
 under_way-next before now later unread left remaining held holds last line same was whole reads performs =
     let one = without_ending line ∷ [] in
     record {
@@ -121,8 +121,7 @@ ended (Some input) left done first end =
     (input, refl, before ∙ ap (λ l. done ++ lines l) none ∙ append-nil done)
 
 -- all lines of the script have been performed
-pub under_way-end : (before now : Stage) (unread left held holds : Option (List ℕ)) → IsUnderWay before unread left now held holds → IsAtEnd left
-    → PerformsAll before unread now held holds
-under_way-end before now unread left held holds was end =
+pub under_way-end : (act : Act) (unread left : Option (List ℕ)) → IsUnderWay act unread left → IsAtEnd left → PerformsAll act unread
+under_way-end act unread left was end =
     let (input, known, all) = ended unread left was.done was.first end in
-    record { input = input; known = known; performed = subst (λ ls. PerformsLines before ls now held holds) (sym all) was.performed }
+    record { input = input; known = known; performed = subst (PerformsLines act) (sym all) was.performed }

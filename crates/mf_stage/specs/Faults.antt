@@ -6,30 +6,12 @@ use Rattle.mf_image.specs.Boxes.{IsTooLargeForImage}
 use Rattle.mf_live.specs.Entries.{Entry, pic, rev}
 use Rattle.mf_rows.specs.Dots.{Dot}
 use Rattle.mf_session.specs.Answers.{Answers}
-use Rattle.mf_session.specs.States.{Limits, State}
-use Rattle.mf_session.specs.Transcript.{Perform}
-use Rattle.mf_stage.specs.Scripts.{Act, act_of}
+use Rattle.mf_session.specs.States.{State}
+use Rattle.mf_session.specs.Transcript.{Due, IsFirstText, Perform, due}
+use Rattle.mf_stage.specs.Scripts.{Act}
 use Rattle.mf_stage.specs.Stages.{StandsFor, limits, plates_of}
 use Rattle.mf_stage.specs.declared.fault.StageFault.{StageFault}
 use Rattle.mf_stage.specs.declared.fault.StageFault.TheVariants.{OutOfMemory, FileTooLong, ReadFault, WriteFault, ImageTooLarge, PlateFault}
-use Rattle.mf_stage.specs.declared.stage.Stage.{Stage}
-
--- lines that are to be performed from a state on
-pub record Due : Type 0 where
-  pub limits : Limits
-  pub from : State
-  pub whole : List (List ℕ)
-
--- lines with these three, in this order
-abbrev pub due : Limits → State → List (List ℕ) → Due
-due limits from whole = record { limits = limits; from = from; whole = whole }
-
--- the first of these lines have led to this state, and these are their texts
-pub record IsFirstText (d : Due) (last : State) (written : List ℕ) : Type 0 where
-  pub done : List (List ℕ)
-  pub more : List (List ℕ)
-  pub first : d.whole ≡ done ++ more
-  pub performed : Perform d.limits d.from done written last
 
 -- the first of these lines have led to this state, and the text of the last of them is cut: these are the texts of all lines before it,
 -- and a front of its own
@@ -69,26 +51,26 @@ ConcernsPlate (ImageTooLarge revision) = Unit {0}
 ConcernsPlate (PlateFault revision) = Unit {0}
 ConcernsPlate _ = ⊥
 
--- in this act a fault has broken these lines off: the stage represents the state to which the first of them have led, and has written
--- what the fault says, which is one of a plate only where plates are asked for
-pub record IsBrokenOff (act : Act) (whole : List (List ℕ)) (fault : StageFault) : Type 0 where
+-- in this act, at whose start the stage represented this state, a fault has broken these lines off: now the stage represents the state
+-- to which the first of them have led, and has written what the fault says, which is one of a plate only where plates are asked for
+pub record IsBrokenOff (act : Act) (s : State) (whole : List (List ℕ)) (fault : StageFault) : Type 0 where
   pub last : State
   pub written : List ℕ
   pub stands : StandsFor act.after last
   pub out : Appends act.held act.holds written
-  pub told : Tells (due (limits act.before) act.state whole) last fault written
+  pub told : Tells (due (limits act.before) s whole) last fault written
   pub asked : ConcernsPlate fault → IsSome (plates_of act.before)
 
--- the fault has broken these lines off, whatever state the stage represented; the writer, which held some bytes, now holds others
-abbrev pub BreaksLines : Stage → List (List ℕ) → StageFault → Stage → Option (List ℕ) → Option (List ℕ) → Type 0
-BreaksLines before whole fault after held holds =
-    (s : State) → StandsFor before s → IsBrokenOff (act_of before s after held holds) whole fault
+-- in this act the fault has broken the lines off, whatever state the stage represented
+abbrev pub BreaksLines : Act → List (List ℕ) → StageFault → Type 0
+BreaksLines act whole fault = (s : State) → StandsFor act.before s → IsBrokenOff act s whole fault
 
--- the fault has broken a script off: that of which its reader had the bytes, where these are known, and else that of some bytes
-pub record BreaksScript (before : Stage) (unread : Option (List ℕ)) (fault : StageFault) (after : Stage) (held holds : Option (List ℕ)) : Type 0 where
+-- in this act the fault has broken a script off: that of which its reader had the bytes, where these are known, and else that of some
+-- bytes
+pub record BreaksScript (act : Act) (unread : Option (List ℕ)) (fault : StageFault) : Type 0 where
   pub input : List ℕ
   pub known : IfSome unread (λ bytes. input ≡ bytes)
-  pub broken : BreaksLines before (lines input) fault after held holds
+  pub broken : BreaksLines act (lines input) fault
 
 -- with this fault this picture, which has this revision, has no image: with `ImageTooLarge` only where it is too large
 abbrev pub IsOfImage : ℕ → List Dot → StageFault → Type 0

@@ -79,9 +79,8 @@ impl Stage {
         transcript: &mut W,
         pace: &P,
     ) -> Result<(), StageFault>
-        ensures transcript { OnOk result (PerformsAll self.old (R.remaining reader) self.new (W.contents transcript.old) (W.contents transcript.new)) }
-        ensures begun { IfErr result (λ fault.
-            BreaksScript self.old (R.remaining reader) fault self.new (W.contents transcript.old) (W.contents transcript.new)) }
+        ensures transcript { OnOk result (PerformsAll (act_of self.old self.new (W.contents transcript.old) (W.contents transcript.new)) (R.remaining reader)) }
+        ensures begun { IfErr result (BreaksScript (act_of self.old self.new (W.contents transcript.old) (W.contents transcript.new)) (R.remaining reader)) }
         ensures stands { OnOk result (StillStands self.old self.new) }
         ensures limits { limits self.new ≡ limits self.old }
         ensures identity { identity self.new ≡ identity self.old }
@@ -103,9 +102,9 @@ impl Stage {
         pace: &P,
     ) -> Result<(), StageFault>
         ensures transcript { OnOk result
-            (PerformsAll self.old (B.remaining script.old) self.new (W.contents transcript.old) (W.contents transcript.new)) }
-        ensures begun { IfErr result (λ fault.
-            BreaksScript self.old (B.remaining script.old) fault self.new (W.contents transcript.old) (W.contents transcript.new)) }
+            (PerformsAll (act_of self.old self.new (W.contents transcript.old) (W.contents transcript.new)) (B.remaining script.old)) }
+        ensures begun { IfErr result
+            (BreaksScript (act_of self.old self.new (W.contents transcript.old) (W.contents transcript.new)) (B.remaining script.old)) }
         ensures stands { OnOk result (StillStands self.old self.new) }
         ensures limits { limits self.new ≡ limits self.old }
         ensures identity { identity self.new ≡ identity self.old }
@@ -130,9 +129,8 @@ impl Stage {
         transcript: &mut W,
         pace: &P,
     ) -> Result<(), StageFault>
-        ensures performed { OnOk result (PerformsLines self.old (line.now ∷ []) self.new (W.contents transcript.old) (W.contents transcript.new)) }
-        ensures begun { IfErr result (λ fault.
-            BreaksLines self.old (line.now ∷ []) fault self.new (W.contents transcript.old) (W.contents transcript.new)) }
+        ensures performed { OnOk result (PerformsLines (act_of self.old self.new (W.contents transcript.old) (W.contents transcript.new)) (line.now ∷ [])) }
+        ensures begun { IfErr result (BreaksLines (act_of self.old self.new (W.contents transcript.old) (W.contents transcript.new)) (line.now ∷ [])) }
         ensures limits { limits self.new ≡ limits self.old }
         ensures identity { identity self.new ≡ identity self.old }
         ensures plates { plates_of self.new ≡ plates_of self.old }
@@ -151,9 +149,8 @@ impl Stage {
         transcript: &mut W,
     ) -> Result<Option<Publication>, StageFault>
         ensures performed { IfOk result (λ made. (s : State) → StandsFor self.old s
-            → HasPerformedLine (act_of self.old s self.new (W.contents transcript.old) (W.contents transcript.new)) line.now made) }
-        ensures begun { IfErr result (λ fault.
-            BreaksLines self.old (line.now ∷ []) fault self.new (W.contents transcript.old) (W.contents transcript.new)) }
+            → HasPerformedLine (act_of self.old self.new (W.contents transcript.old) (W.contents transcript.new)) s line.now made) }
+        ensures begun { IfErr result (BreaksLines (act_of self.old self.new (W.contents transcript.old) (W.contents transcript.new)) (line.now ∷ [])) }
         ensures limits { limits self.new ≡ limits self.old }
         ensures identity { identity self.new ≡ identity self.old }
         ensures plates { plates_of self.new ≡ plates_of self.old }

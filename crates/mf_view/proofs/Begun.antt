@@ -5,10 +5,10 @@ use Rattle.std.specs.Str.Lines.{lines}
 use Rattle.std.specs.Prelude.{IsSome}
 use Rattle.mf_gf.specs.declared.file.GfFile.{GfFile}
 use Rattle.mf_session.specs.States.{State, start}
-use Rattle.mf_session.specs.Transcript.{Perform}
-use Rattle.mf_stage.specs.Faults.{BreaksScript, due}
+use Rattle.mf_session.specs.Transcript.{Perform, due}
+use Rattle.mf_stage.specs.Faults.{BreaksScript}
 use Rattle.mf_stage.specs.Faults as stage
-use Rattle.mf_stage.specs.Scripts.{PerformsAll}
+use Rattle.mf_stage.specs.Scripts.{PerformsAll, act_of}
 use Rattle.mf_stage.specs.Stages.{StandsFor, limits, plates_of}
 use Rattle.mf_stage.specs.declared.fault.StageFault.{StageFault}
 use Rattle.mf_stage.specs.declared.fault.StageFault.TheVariants as stages
@@ -31,7 +31,7 @@ concerns-stage (stages.PlateFault revision) concerns = tt
 
 -- a performance on this stage ends with a fault
 module _ (before after : Stage) (unread told tells : Option (List ℕ)) (limited : limits before ≡ script_limits) (begins : StandsFor before start) where
-  begun-script : (cause : StageFault) → BreaksScript before unread cause after told tells → HasBegun unread told tells (fault_of_stage cause)
+  begun-script : (cause : StageFault) → BreaksScript (act_of before after told tells) unread cause → HasBegun unread told tells (fault_of_stage cause)
   begun-script cause broken =
       let stopped = broken.broken start begins in
       record {
@@ -43,7 +43,7 @@ module _ (before after : Stage) (unread told tells : Option (List ℕ)) (limited
         tells_is = inl (cause, refl, subst (λ l. stage.Tells (due l start (lines broken.input)) stopped.last cause stopped.written) limited stopped.told);
       }
 
-  begun-end : (fault : ProgramFault) → PerformsAll before unread after told tells
+  begun-end : (fault : ProgramFault) → PerformsAll (act_of before after told tells) unread
       → ((s : State) → StandsFor after s → IsOfEnd s.pictures.accepted fault) → HasBegun unread told tells fault
   begun-end fault script late =
       let done = script.performed start begins in
@@ -58,8 +58,8 @@ module _ (before after : Stage) (unread told tells : Option (List ℕ)) (limited
 
   -- the fault is that of the script, or one after it
   pub begun-whole : (performed : Result (Unit {0}) StageFault) (r : Result GfFile ProgramFault)
-      → OnOk performed (PerformsAll before unread after told tells)
-      → IfErr performed (λ cause. BreaksScript before unread cause after told tells)
+      → OnOk performed (PerformsAll (act_of before after told tells) unread)
+      → IfErr performed (BreaksScript (act_of before after told tells) unread)
       → IfErr performed (λ cause. r ≡ Err (fault_of_stage cause))
       → OnOk performed (IfErr r (λ fault. (s : State) → StandsFor after s → IsOfEnd s.pictures.accepted fault))
       → IfErr r (HasBegun unread told tells)
@@ -69,7 +69,7 @@ module _ (before after : Stage) (unread told tells : Option (List ℕ)) (limited
 
   -- it is one of a plate only where plates are asked for
   pub asked-whole : (performed : Result (Unit {0}) StageFault) (r : Result GfFile ProgramFault) → plates_of after ≡ plates_of before
-      → IfErr performed (λ cause. BreaksScript before unread cause after told tells)
+      → IfErr performed (BreaksScript (act_of before after told tells) unread)
       → IfErr performed (λ cause. r ≡ Err (fault_of_stage cause))
       → OnOk performed (IfErr r (λ fault. ConcernsPlate fault → IsSome (plates_of after)))
       → IfErr r (λ fault. ConcernsPlate fault → IsSome (plates_of before))

@@ -5,7 +5,7 @@ use Rattle.std.proofs.KnownBytes.{Appends-nil, Appends-trans}
 use Rattle.std.proofs.lemmas.List.{append-nil}
 use Rattle.std.proofs.lemmas.List.Elements.{All-cons, All-head, All-nil, All-weaker}
 use Rattle.mf_easel.specs.Easels.{HasLookedLast, HasSameManner, canvas_of, drawing_of, looked_at_list, revision_of, style_of, viewer_of}
-use Rattle.mf_easel.specs.Screens.{GetsFrame, IsAbove, new_revision, over}
+use Rattle.mf_easel.specs.Screens.{GetsFrame, IsAbove, new_revision, over, screen_of}
 use Rattle.mf_frame.specs.Canvases.{Size}
 use Rattle.mf_frame.specs.Frames.{frame_text}
 use Rattle.mf_frame.specs.declared.tile.Style.{Style}
@@ -53,7 +53,7 @@ drawn-after held then holds style canvas drawn lists L was last gets =
 pub drawn-look : {W : Type 0} (contents : W → Option (List ℕ)) (held : Option (List ℕ)) (s t : W) (before after : Easel) (shown : Option ℕ)
     → HasLooked (viewer_of before) (viewer_of after) → HasSameManner before after → shown ≡ new_revision (revision_of before) (rev (looked_at_list after))
     → revision_of after ≡ Some (rev (looked_at_list after))
-    → GetsFrame contents s t (drawing_of before (looked_at_list after)) shown → IfSome shown (IsAbove (revision_of before))
+    → GetsFrame (screen_of contents s t) (drawing_of before (looked_at_list after)) shown → IfSome shown (IsAbove (revision_of before))
     → HasDrawn before held (contents s) → HasDrawn after held (contents t)
 drawn-look contents held s t before after None look manner answer drawn same rising was = record {
   lists = was.lists;
@@ -109,7 +109,7 @@ shown-before easel whole held holds (L ∷ earlier) text rise seen last =
 -- the last look leaves the last picture on the screen
 pub shown-last : {W : Type 0} (contents : W → Option (List ℕ)) (held : Option (List ℕ)) (s t : W) (before after : Easel) (whole : List Entry) (shown : Option ℕ)
     → HasLookedLast (viewer_of before) whole (viewer_of after) → shown ≡ new_revision (revision_of before) (rev whole)
-    → GetsFrame contents s t (drawing_of before whole) shown → IfSome shown (IsAbove (revision_of before))
+    → GetsFrame (screen_of contents s t) (drawing_of before whole) shown → IfSome shown (IsAbove (revision_of before))
     → HasDrawn before held (contents s) → ShowsLast (style_of before) (canvas_of before) whole held (contents t)
 shown-last contents held s t before after whole None look answer same rising was =
     let again = sym was.last ∙ new-none (revision_of before) (rev whole) (sym answer) in

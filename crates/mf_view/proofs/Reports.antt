@@ -4,10 +4,10 @@ use Rattle.std.specs.Prelude.{IsSome}
 use Rattle.clap.specs.Words.{Text}
 use Rattle.mf_base.specs.Messages.{GetsMessage}
 use Rattle.mf_frame.specs.Canvases.{IsLargeEnough}
-use Rattle.mf_view.specs.Faults.{ConcernsPlate, IsToldBefore, LacksRoom, MayEnd, ReportsFault}
+use Rattle.mf_view.specs.Faults.{ConcernsPlate, IsToldBefore, LacksRoom, MayEnd, ReportsFaultLast}
 use Rattle.mf_view.specs.Endings.{ShipsNothing}
 use Rattle.mf_view.specs.Messages.{message_of}
-use Rattle.mf_view.specs.Performances.{Streams}
+use Rattle.mf_view.specs.Performances.{ScreenStreams}
 use Rattle.mf_view.specs.Statuses.{status_of}
 use Rattle.mf_view.specs.declared.fault.ProgramFault.{ProgramFault}
 use Rattle.mf_view.specs.declared.fault.ProgramFault.TheVariants.{OutOfMemory, NoPlace, NoLook, TooSmall, FileTooLong, ReadFault, WriteFault, ImageTooLarge, PlateFault, NoCharacters}
@@ -16,21 +16,21 @@ use Rattle.mf_view_words.specs.declared.words.Request.TheVariants.{Show}
 use Rattle.mf_view_words.specs.declared.words.Words.{Words}
 
 -- a fault that was reported, with its status and its message
-pub reported : (words : List Text) (fault : ProgramFault) (status : ℕ) (s : Streams) → status ≡ status_of fault
-    → MayEnd words (record s { tells = s.told }) fault → GetsMessage s.told s.tells (message_of fault) → ReportsFault words status s
+pub reported : (words : List Text) (fault : ProgramFault) (status : ℕ) (s : ScreenStreams) → status ≡ status_of fault
+    → MayEnd words (record s { tells = s.told }) fault → GetsMessage s.told s.tells (message_of fault) → ReportsFaultLast words status s
 reported words fault status s is may message =
     record { fault = fault; status_is = sym is; between = s.told; may = may; message = message; quiet = inr refl }
 
 -- a text that was asked for went out, or its writer failed
-pub answered : (words : List Text) (status : ℕ) (s : Streams) → (status ≡ 0) ⊎ (status ≡ 3)
-    → (status ≡ 3) ⊎ ((status ≡ 4) ⊎ (status ≡ 5)) → (status ≡ 3 → GetsMessage s.told s.tells (message_of WriteFault)) → ReportsFault words status s
+pub answered : (words : List Text) (status : ℕ) (s : ScreenStreams) → (status ≡ 0) ⊎ (status ≡ 3)
+    → (status ≡ 3) ⊎ ((status ≡ 4) ⊎ (status ≡ 5)) → (status ≡ 3 → GetsMessage s.told s.tells (message_of WriteFault)) → ReportsFaultLast words status s
 answered words status s (inl done) bad got =
     absurd (⊎_elim (λ three. omega (arith, done, three)) (⊎_elim (λ four. omega (arith, done, four)) (λ five. omega (arith, done, five))) bad)
 answered words status s (inr failed) bad got = reported words WriteFault status s failed tt (got failed)
 
 module _ (words : List Text) (asked : Words) (request : IsRequest words (Show asked)) where
   -- with which faults the words of a script allow a run to end
-  pub may_end : (s : Streams) (fault : ProgramFault) → (fault ≡ TooSmall → IsLargeEnough asked.columns asked.rows → ⊥)
+  pub may_end : (s : ScreenStreams) (fault : ProgramFault) → (fault ≡ TooSmall → IsLargeEnough asked.columns asked.rows → ⊥)
       → (fault ≡ NoCharacters → IsSome asked.gf × ShipsNothing asked s) → (ConcernsPlate fault → IsSome asked.plates) → MayEnd words s fault
   may_end s TooSmall small some plates = record { asked = asked; request = request; small = small refl }
   may_end s NoCharacters small some plates = let (file, none) = some refl in record { asked = asked; request = request; some = file; nothing = none }
@@ -44,10 +44,10 @@ module _ (words : List Text) (asked : Words) (request : IsRequest words (Show as
   may_end s (PlateFault revision) small some plates = record { asked = asked; request = request; some = plates tt }
 
   -- a fault of a script that was reported, after the transcript if that goes to the same stream
-  pub reported-after : {E : Type 0} (contents : E → Option (List ℕ)) (before then : E) (fault : ProgramFault) (status : ℕ) (s : Streams)
+  pub reported-after : {E : Type 0} (contents : E → Option (List ℕ)) (before then : E) (fault : ProgramFault) (status : ℕ) (s : ScreenStreams)
       → s.told ≡ contents before → (asked.transcript ≡ None) ⊎ (then ≡ before)
       → (asked.transcript ≡ None → IsToldBefore asked (record s { tells = contents then }) fault) → status ≡ status_of fault
-      → MayEnd words (record s { tells = contents then }) fault → GetsMessage (contents then) s.tells (message_of fault) → ReportsFault words status s
+      → MayEnd words (record s { tells = contents then }) fault → GetsMessage (contents then) s.tells (message_of fault) → ReportsFaultLast words status s
   reported-after contents before then fault status s held where_told begun is may message = record {
     fault = fault;
     status_is = sym is;

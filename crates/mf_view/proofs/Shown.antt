@@ -11,14 +11,14 @@ use Rattle.mf_gf.specs.declared.file.GfFile.{GfFile}
 use Rattle.mf_session.specs.Endings.{IsFileOf, complete_list}
 use Rattle.mf_session.specs.States.{State, start}
 use Rattle.mf_session.specs.Transcript.{Perform}
-use Rattle.mf_stage.specs.Scripts.{PerformsAll, StillStands}
+use Rattle.mf_stage.specs.Scripts.{PerformsAll, StillStands, act_of}
 use Rattle.mf_stage.specs.Stages.{StandsFor, limits, session_of}
 use Rattle.mf_stage.specs.declared.stage.Stage.{Stage}
 use Rattle.mf_stage.specs.declared.fault.StageFault.{StageFault}
 use Rattle.mf_view.specs.Drawings.{DrawsMore, EndsDrawing, HasDrawn, ShowsLast}
 use Rattle.mf_view.specs.Causes.{fault_of_stage}
 use Rattle.mf_view.specs.Endings.{IsShownInto}
-use Rattle.mf_view.specs.Performances.{Shows, Streams, script_limits}
+use Rattle.mf_view.specs.Performances.{Shows, ScreenStreams, script_limits}
 use Rattle.mf_view.specs.declared.fault.ProgramFault.{ProgramFault}
 
 -- two drawings, one after the other
@@ -36,8 +36,9 @@ stands-after before after (Ok done) begins stands = stands start begins
 stands-after before after (Err fault) begins stands = tt
 
 -- a script was performed on this stage, and its end was shown
-module _ (style : Style) (canvas : Size) (s : Streams) (before after : Stage) (limited : limits before ≡ script_limits) (begins : StandsFor before start) where
-  shown-file : (file : GfFile) → PerformsAll before s.unread after s.told s.tells
+module _ (style : Style) (canvas : Size) (s : ScreenStreams) (before after : Stage) (limited : limits before ≡ script_limits)
+    (begins : StandsFor before start) where
+  shown-file : (file : GfFile) → PerformsAll (act_of before after s.told s.tells) s.unread
       → ((t : State) → StandsFor after t → IsFileOf (session_of after) t file)
       → ((t : State) → StandsFor after t → ShowsLast style canvas (complete_list t.pictures) s.held s.holds)
       → Shows style canvas s file
@@ -56,7 +57,7 @@ module _ (style : Style) (canvas : Size) (s : Streams) (before after : Stage) (l
       )
 
   pub shown-whole : (performed : Result (Unit {0}) StageFault) (r : Result GfFile ProgramFault)
-      → OnOk performed (PerformsAll before s.unread after s.told s.tells)
+      → OnOk performed (PerformsAll (act_of before after s.told s.tells) s.unread)
       → IfErr performed (λ fault. r ≡ Err (fault_of_stage fault))
       → IfOk r (λ file. (t : State) → StandsFor after t → IsFileOf (session_of after) t file)
       → OnOk r ((t : State) → StandsFor after t → ShowsLast style canvas (complete_list t.pictures) s.held s.holds)
@@ -77,7 +78,7 @@ shown-end first easel stage held mid holds drawn (Ok file) manner was shown = λ
 shown-end first easel stage held mid holds drawn (Err fault) manner was shown = tt
 
 -- what was performed with this style and this size is what was asked for
-pub shown-as : (transcript : Option (List ℕ)) (style wanted : Style) (canvas size : Size) (s : Streams) (file : GfFile)
+pub shown-as : (transcript : Option (List ℕ)) (style wanted : Style) (canvas size : Size) (s : ScreenStreams) (file : GfFile)
     → (style ≡ wanted) × (canvas ≡ size) → IsShownInto transcript style canvas s file
     → IsShownInto transcript wanted size s file
 shown-as transcript style wanted canvas size s file (same_style, same_size) shown =

@@ -5,18 +5,13 @@ use Rattle.std.specs.Str.Lines.{lines}
 use Rattle.mf_image.specs.Boxes.{IsTooLargeForImage}
 use Rattle.mf_live.specs.Entries.{Entry, pic, rev}
 use Rattle.mf_session.specs.States.{State, start}
-use Rattle.mf_session.specs.Transcript.{Perform}
-use Rattle.mf_stage.specs.Faults.{Due, due}
+use Rattle.mf_session.specs.Transcript.{Due, Perform, due}
 use Rattle.mf_stage.specs.Faults as stage
 use Rattle.mf_stage.specs.declared.fault.StageFault.{StageFault}
 use Rattle.mf_view.specs.Causes.{fault_of_stage}
 use Rattle.mf_view.specs.Performances.{script_limits}
 use Rattle.mf_view.specs.declared.fault.ProgramFault.{ProgramFault}
 use Rattle.mf_view.specs.declared.fault.ProgramFault.TheVariants.{OutOfMemory, NoPlace, NoLook, WriteFault, ImageTooLarge, PlateFault}
-
--- this is the text of all these lines, which have led to this state
-abbrev pub IsWholeText : Due → State → List ℕ → Type 0
-IsWholeText d last written = Perform d.limits d.from d.whole written last
 
 -- with this fault a performance can end whose script was performed to its end, where the last picture is that of this list
 abbrev pub IsOfEnd : List Entry → ProgramFault → Type 0
@@ -32,7 +27,7 @@ IsOfEnd last _ = ⊥
 abbrev pub Tells : Due → State → ProgramFault → List ℕ → Type 0
 Tells d last fault written =
     ((cause : StageFault) × (fault ≡ fault_of_stage cause) × stage.Tells d last cause written)
-    ⊎ ((IsWholeText d last written × IsOfEnd last.pictures.accepted fault) ⊎ ((fault ≡ NoPlace) × (written ≡ [])))
+    ⊎ ((Perform d.limits d.from d.whole written last × IsOfEnd last.pictures.accepted fault) ⊎ ((fault ≡ NoPlace) × (written ≡ [])))
 
 -- a fault has ended the performance of a script: of the one that the reader had, where this is known, and else of some bytes; the
 -- transcript, which told some bytes before, tells what the fault says

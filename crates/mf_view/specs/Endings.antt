@@ -9,7 +9,7 @@ use Rattle.mf_gf.specs.declared.file.GfFile.{GfFile}
 use Rattle.mf_gf.specs.Files.{Character, IsLongFile}
 use Rattle.mf_gf.specs.Keeping.{Keeps, max_bytes_of}
 use Rattle.mf_view.specs.Fonts.{font_words}
-use Rattle.mf_view.specs.Performances.{Shows, Streams}
+use Rattle.mf_view.specs.Performances.{Shows, ScreenStreams}
 use Rattle.mf_view_words.specs.Requests.{IsRequest}
 use Rattle.mf_view_words.specs.Texts.{help_text}
 use Rattle.mf_view_words.specs.declared.words.Request.{Request}
@@ -23,7 +23,7 @@ style_in false = Colored
 
 -- a script was performed and shown: where no path is given, with its transcript in the stream of messages; with a path that stream is as
 -- it was, and nothing is said of where the transcript went, since no contract knows what a file holds
-abbrev pub IsShownInto : Option (List ℕ) → Style → Size → Streams → GfFile → Type 0
+abbrev pub IsShownInto : Option (List ℕ) → Style → Size → ScreenStreams → GfFile → Type 0
 IsShownInto None style canvas s file = Shows style canvas s file
 IsShownInto (Some path) style canvas s file =
     (s.tells ≡ s.told) × (empty : Option (List ℕ)) × (full : Option (List ℕ)) × Shows style canvas (record s { told = empty; tells = full }) file
@@ -35,18 +35,18 @@ pub record HasFont (words : Words) (file : GfFile) : Type 0 where
       → IsLongFile (max_bytes_of file) (font_words words.design_size words.resolution) [] characters → ⊥
 
 -- a script was performed and shown as the words ask for it, and this is its font file
-abbrev pub IsShownFor : Words → Streams → GfFile → Type 0
+abbrev pub IsShownFor : Words → ScreenStreams → GfFile → Type 0
 IsShownFor words =
     IsShownInto (option_map string_bytes words.transcript) (style_in words.frames) (size_in words.columns words.rows)
 
 -- the script was performed and shown as the words ask for it, and so is its font file
-pub record IsWatched (words : Words) (s : Streams) : Type 0 where
+pub record IsWatched (words : Words) (s : ScreenStreams) : Type 0 where
   pub file : GfFile
   pub shown : IsShownFor words s file
   pub font : HasFont words file
 
 -- the script was performed and shown as the words ask for it, and it has shipped no character
-pub record ShipsNothing (words : Words) (s : Streams) : Type 0 where
+pub record ShipsNothing (words : Words) (s : ScreenStreams) : Type 0 where
   pub file : GfFile
   pub shown : IsShownFor words s file
   pub none : (characters : List Character) → Keeps file [] characters → characters ≡ []
@@ -56,11 +56,11 @@ abbrev pub AsksForText : List Text → Type 0
 AsksForText words = IsRequest words Help ⊎ IsRequest words Version
 
 -- what was asked for is written: the help text, the version, or what a performance writes
-abbrev pub EndsAs : Request → Streams → Type 0
+abbrev pub EndsAs : Request → ScreenStreams → Type 0
 EndsAs Help s = (s.tells ≡ s.told) × Appends s.held s.holds help_text
 EndsAs Version s = (s.tells ≡ s.told) × Appends s.held s.holds (codes "mfview 1.0\n")
 EndsAs (Show words) s = IsWatched words s
 
 -- these are the words of a request, and what it asks for is written
-abbrev pub EndsWell : List Text → Streams → Type 0
-EndsWell words s = (request : Request) × IsRequest words request × EndsAs request s
+abbrev pub Fulfils : List Text → ScreenStreams → Type 0
+Fulfils words s = (request : Request) × IsRequest words request × EndsAs request s

@@ -11,7 +11,7 @@ use Rattle.mf_view.specs.Begun.{HasBegun}
 use Rattle.mf_view.specs.Causes.{fault_of_easel}
 use Rattle.mf_view.specs.Endings.{IsShownFor, ShipsNothing}
 use Rattle.mf_view.specs.Messages.{message_of}
-use Rattle.mf_view.specs.Performances.{Streams}
+use Rattle.mf_view.specs.Performances.{ScreenStreams}
 use Rattle.mf_view.specs.Statuses.{status_of}
 use Rattle.mf_view_words.specs.Requests.{IsRequest}
 use Rattle.mf_view_words.specs.declared.words.Request.TheVariants.{Show}
@@ -42,7 +42,7 @@ pub record LacksRoom (words : List Text) : Type 0 where
   pub small : IsLargeEnough asked.columns asked.rows → ⊥
 
 -- these words ask for a font file, and their script was performed and shown and has shipped no character
-pub record LacksFont (words : List Text) (s : Streams) : Type 0 where
+pub record LacksFont (words : List Text) (s : ScreenStreams) : Type 0 where
   pub asked : Words
   pub request : IsRequest words (Show asked)
   pub some : IsSome asked.gf
@@ -57,7 +57,7 @@ pub record AsksForPlates (words : List Text) : Type 0 where
 -- a run with these words and streams, before its message, can end with this fault: with `TooSmall` only where the words lack room, with
 -- `NoCharacters` only where they ask for a font file and no character was shipped, and with a fault of a plate only where they ask for
 -- plates
-abbrev pub MayEnd : List Text → Streams → ProgramFault → Type 0
+abbrev pub MayEnd : List Text → ScreenStreams → ProgramFault → Type 0
 MayEnd words s faults.TooSmall = LacksRoom words
 MayEnd words s faults.NoCharacters = LacksFont words s
 MayEnd words s (faults.ImageTooLarge revision) = AsksForPlates words
@@ -66,12 +66,12 @@ MayEnd words s _ = Unit {0}
 
 -- what is told of a script, asked for with these words, whose run ends with this fault: nothing after `TooSmall`, what a performance with
 -- this fault has told, or, where the fault came after the performance, all of it
-abbrev pub IsToldBefore : Words → Streams → ProgramFault → Type 0
+abbrev pub IsToldBefore : Words → ScreenStreams → ProgramFault → Type 0
 IsToldBefore asked s fault =
     ((fault ≡ faults.TooSmall) × (s.tells ≡ s.told)) ⊎ (HasBegun s.unread s.told s.tells fault ⊎ ((file : GfFile) × IsShownFor asked s file))
 
 -- these words ask for a script to be performed with its transcript in the stream of messages, which has got what the fault says
-pub record TellsTranscript (words : List Text) (s : Streams) (fault : ProgramFault) : Type 0 where
+pub record TellsTranscript (words : List Text) (s : ScreenStreams) (fault : ProgramFault) : Type 0 where
   pub asked : Words
   pub request : IsRequest words (Show asked)
   pub nowhere_else : asked.transcript ≡ None
@@ -79,7 +79,7 @@ pub record TellsTranscript (words : List Text) (s : Streams) (fault : ProgramFau
 
 -- with these words the program ended with some fault, which has this status; the stream of messages, whose bytes are those of the
 -- transcript here, has got its message last, and nothing before that, unless they ask for the transcript there
-pub record ReportsFault (words : List Text) (status : ℕ) (s : Streams) : Type 0 where
+pub record ReportsFaultLast (words : List Text) (status : ℕ) (s : ScreenStreams) : Type 0 where
   pub fault : ProgramFault
   pub status_is : status_of fault ≡ status
   pub between : Option (List ℕ)

@@ -16,7 +16,7 @@ abbrev pub script_limits : Limits
 script_limits = limits_of most_operations most_bytes
 
 -- what a reader had, what a screen held and holds, and what the transcript told before and tells now, where this is known
-pub record Streams : Type 0 where
+pub record ScreenStreams : Type 0 where
   pub unread : Option (List ℕ)
   pub held : Option (List ℕ)
   pub holds : Option (List ℕ)
@@ -24,8 +24,8 @@ pub record Streams : Type 0 where
   pub tells : Option (List ℕ)
 
 -- the streams of a reader before a call, and of a screen and another writer before and after it
-abbrev pub streams_of : {R W T : Type 0} → (R → Option (List ℕ)) → R → (W → Option (List ℕ)) → W → W → (T → Option (List ℕ)) → T → T → Streams
-streams_of remaining reader contents screen shown texts transcript grown = record {
+abbrev pub screen_streams_of : {R W T : Type 0} → (R → Option (List ℕ)) → R → (W → Option (List ℕ)) → W → W → (T → Option (List ℕ)) → T → T → ScreenStreams
+screen_streams_of remaining reader contents screen shown texts transcript grown = record {
   unread = remaining reader;
   held = contents screen;
   holds = contents shown;
@@ -35,7 +35,7 @@ streams_of remaining reader contents screen shown texts transcript grown = recor
 
 -- the script of these bytes was performed: the transcript is written, the screen has got frames of the picture, the last of them
 -- that of the last picture, and the font file keeps the characters that were shipped
-pub record IsShown (style : Style) (canvas : Size) (s : Streams) (file : GfFile) (input : List ℕ) : Type 0 where
+pub record IsShown (style : Style) (canvas : Size) (s : ScreenStreams) (file : GfFile) (input : List ℕ) : Type 0 where
   pub text : List ℕ
   pub last : State
   pub performed : Perform script_limits start (lines input) text last
@@ -44,5 +44,5 @@ pub record IsShown (style : Style) (canvas : Size) (s : Streams) (file : GfFile)
   pub file_is : Keeps file [] last.characters
 
 -- a script was performed and shown: the one that the reader had, where this is known, and else some bytes
-abbrev pub Shows : Style → Size → Streams → GfFile → Type 0
+abbrev pub Shows : Style → Size → ScreenStreams → GfFile → Type 0
 Shows style canvas s file = (input : List ℕ) × IfSome s.unread (λ known. input ≡ known) × IsShown style canvas s file input

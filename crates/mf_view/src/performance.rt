@@ -8,12 +8,12 @@ ghost use Rattle.mf_session.specs.States.{State, start};
 ghost use Rattle.mf_stage.specs.Faults.{BreaksScript};
 ghost use Rattle.mf_stage.specs.Stages as stages;
 ghost use Rattle.mf_stage.specs.Stages.{StandsFor, limits};
-ghost use Rattle.mf_stage.specs.Scripts.{PerformsAll, StillStands};
+ghost use Rattle.mf_stage.specs.Scripts.{PerformsAll, StillStands, act_of};
 ghost use Rattle.mf_view.specs.Begun.{HasBegun, IsOfEnd};
 ghost use Rattle.mf_view.specs.Causes.{fault_of_stage};
 ghost use Rattle.mf_view.specs.Faults.{ConcernsPlate, IsOfSides, IsToldAfter};
 ghost use Rattle.mf_view.specs.Drawings.{DrawsMore, EndsDrawing};
-ghost use Rattle.mf_view.specs.Performances.{Shows, script_limits, streams_of};
+ghost use Rattle.mf_view.specs.Performances.{Shows, script_limits, screen_streams_of};
 
 use crate::drawing::{draw, draw_last, draw_on};
 use crate::fault::ProgramFault;
@@ -78,7 +78,7 @@ pub fn perform<
     showing: Showing,
 ) -> Result<GfFile, ProgramFault>
     ensures shown { IfOk result (Shows showing.style showing.canvas
-        (streams_of R.remaining reader.old W.contents screen.old screen.new T.contents transcript.old transcript.new)) }
+        (screen_streams_of R.remaining reader.old W.contents screen.old screen.new T.contents transcript.old transcript.new)) }
     ensures begun { IfErr result (HasBegun (R.remaining reader.old) (T.contents transcript.old) (T.contents transcript.new)) }
     ensures plates { IfErr result (λ fault. ConcernsPlate fault → IsSome showing.plates) }
     ensures fault { IfErr result (λ fault. IsOfSides fault ⊎ (fault ≡ ProgramFault.NoPlace)) }
@@ -126,7 +126,7 @@ fn show<
     requires limits { limits stage ≡ script_limits }
     requires blank { easels.revision_of easel ≡ None }
     ensures shown { IfOk result (Shows (easels.style_of easel) (easels.canvas_of easel)
-        (streams_of R.remaining reader.old W.contents screen.old screen.new T.contents transcript.old transcript.new)) }
+        (screen_streams_of R.remaining reader.old W.contents screen.old screen.new T.contents transcript.old transcript.new)) }
     ensures begun { IfErr result (HasBegun (R.remaining reader.old) (T.contents transcript.old) (T.contents transcript.new)) }
     ensures plates { IfErr result (λ fault. ConcernsPlate fault → IsSome (stages.plates_of stage)) }
     ensures fault { IfErr result IsOfSides }
@@ -199,9 +199,9 @@ fn perform_beside<
     ensures drawn { OnOk result.drawn (DrawsMore easel.old easel.new (W.contents screen.old) (W.contents screen.new)) }
     ensures stands { OnOk result.performed (StillStands stage.old stage.new) }
     ensures transcript { OnOk result.performed
-        (PerformsAll stage.old (R.remaining reader.old) stage.new (T.contents transcript.old) (T.contents transcript.new)) }
-    ensures begun { IfErr result.performed (λ fault.
-        BreaksScript stage.old (R.remaining reader.old) fault stage.new (T.contents transcript.old) (T.contents transcript.new)) }
+        (PerformsAll (act_of stage.old stage.new (T.contents transcript.old) (T.contents transcript.new)) (R.remaining reader.old)) }
+    ensures begun { IfErr result.performed
+        (BreaksScript (act_of stage.old stage.new (T.contents transcript.old) (T.contents transcript.new)) (R.remaining reader.old)) }
 {
     let ended = AtomicBool::new(false);
     let (drawn, performed) = join_mut(
@@ -221,10 +221,11 @@ fn perform_beside<
         &mut || -> Result<(), StageFault>
             ensures { (stages.identity stage.exit.now ≡ stages.identity stage.entry.now)
                 × (stages.plates_of stage.exit.now ≡ stages.plates_of stage.entry.now)
-                × OnOk result (StillStands stage.entry.now stage.exit.now) × OnOk result (PerformsAll stage.entry.now
-                (R.remaining reader.entry.now) stage.exit.now (T.contents transcript.entry.now) (T.contents transcript.exit.now))
-                × IfErr result (λ fault. BreaksScript stage.entry.now (R.remaining reader.entry.now) fault stage.exit.now
-                (T.contents transcript.entry.now) (T.contents transcript.exit.now)) }
+                × OnOk result (StillStands stage.entry.now stage.exit.now)
+                × OnOk result (PerformsAll (act_of stage.entry.now stage.exit.now (T.contents transcript.entry.now)
+                (T.contents transcript.exit.now)) (R.remaining reader.entry.now))
+                × IfErr result (BreaksScript (act_of stage.entry.now stage.exit.now (T.contents transcript.entry.now)
+                (T.contents transcript.exit.now)) (R.remaining reader.entry.now)) }
         {
             let performed = stage.perform(rt, alloc, &mut *reader, transcript, pace);
             ended.store(true, Ordering::SeqCst);

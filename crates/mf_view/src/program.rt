@@ -3,12 +3,12 @@ ghost use Rattle.std.specs.Io.KnownBytes.{Appends};
 ghost use Rattle.std.specs.Prelude.{◌≡◌, ◌++◌, ◌⊎◌, ◌↔◌, Err, IfErr, IfOk, IsOk, IsSome, None, OnOk, codes, decimal, option_map, string_bytes};
 ghost use Rattle.mf_base.specs.Messages.{GetsMessage};
 ghost use Rattle.mf_view.specs.Begun.{HasBegun};
-ghost use Rattle.mf_view.specs.Endings.{AsksForText, EndsWell, IsShownInto, IsWatched, ShipsNothing, style_in};
-ghost use Rattle.mf_view.specs.Faults.{ConcernsPlate, IsOfSides, IsToldBefore, LacksRoom, ReportsFault};
+ghost use Rattle.mf_view.specs.Endings.{AsksForText, Fulfils, IsShownInto, IsWatched, ShipsNothing, style_in};
+ghost use Rattle.mf_view.specs.Faults.{ConcernsPlate, IsOfSides, IsToldBefore, LacksRoom, ReportsFaultLast};
 ghost use Rattle.mf_frame.specs.Canvases.{IsLargeEnough, size_in};
 ghost use Rattle.mf_options.specs.Values.{texts_of};
 ghost use Rattle.mf_view.specs.Messages.{message_of, usage};
-ghost use Rattle.mf_view.specs.Performances.{streams_of};
+ghost use Rattle.mf_view.specs.Performances.{screen_streams_of};
 ghost use Rattle.mf_view.specs.Statuses.{status_of};
 ghost use Rattle.mf_view_words.specs.Requests.{IsCommandLine, IsWordsInRange};
 
@@ -66,11 +66,11 @@ pub fn program<S: Wait + Threads + Files + Clock + Sync, R: Read, W: Write + Sen
     ensures wanting { (IsCommandLine (texts_of words) → ⊥) → result ≡ WANTING
         → GetsMessage (E.contents errors.old) (E.contents errors.new) (message_of ProgramFault.OutOfMemory) }
     ensures usage { result ≡ BAD_WORDS → GetsMessage (E.contents errors.old) (E.contents errors.new) usage }
-    ensures done { result ≡ DONE → EndsWell (texts_of words)
-        (streams_of R.remaining reader.old W.contents screen.old screen.new E.contents errors.old errors.new) }
+    ensures done { result ≡ DONE → Fulfils (texts_of words)
+        (screen_streams_of R.remaining reader.old W.contents screen.old screen.new E.contents errors.old errors.new) }
     ensures fault { (result ≡ STREAM_FAULT) ⊎ (result ≡ WANTING) ⊎ (result ≡ TOO_SMALL)
-        → ReportsFault (texts_of words) result
-        (streams_of R.remaining reader.old W.contents screen.old screen.new E.contents errors.old errors.new) }
+        → ReportsFaultLast (texts_of words) result
+        (screen_streams_of R.remaining reader.old W.contents screen.old screen.new E.contents errors.old errors.new) }
     ensures text_alone { AsksForText (texts_of words) → reader.new ≡ reader.old }
     ensures too_small { IsCommandLine (texts_of words) → LacksRoom (texts_of words)
         → (result ≡ TOO_SMALL) ⊎ (result ≡ WANTING) }
@@ -102,16 +102,16 @@ fn watch<S: Wait + Threads + Files + Clock + Sync, R: Read, W: Write + Send, E: 
 ) -> Result<(), ProgramFault>
     requires { IsWordsInRange words }
     ensures done { OnOk result
-        (IsWatched words (streams_of R.remaining reader.old W.contents screen.old screen.new E.contents errors.old errors.new)) }
+        (IsWatched words (screen_streams_of R.remaining reader.old W.contents screen.old screen.new E.contents errors.old errors.new)) }
     ensures quiet { (words.transcript ≡ None) ⊎ (errors.new ≡ errors.old) }
     ensures too_small { (IsLargeEnough words.columns words.rows → ⊥) ↔ (result ≡ Err ProgramFault.TooSmall) }
     ensures untouched { result ≡ Err ProgramFault.TooSmall → (reader.new ≡ reader.old) × (screen.new ≡ screen.old) }
     ensures no_characters { result ≡ Err ProgramFault.NoCharacters → IsSome words.gf }
     ensures none { result ≡ Err ProgramFault.NoCharacters
-        → ShipsNothing words (streams_of R.remaining reader.old W.contents screen.old screen.new E.contents errors.old errors.new) }
+        → ShipsNothing words (screen_streams_of R.remaining reader.old W.contents screen.old screen.new E.contents errors.old errors.new) }
     ensures plates { IfErr result (λ fault. ConcernsPlate fault → IsSome words.plates) }
     ensures told { IfErr result (λ fault. words.transcript ≡ None → IsToldBefore words
-        (streams_of R.remaining reader.old W.contents screen.old screen.new E.contents errors.old errors.new) fault) }
+        (screen_streams_of R.remaining reader.old W.contents screen.old screen.new E.contents errors.old errors.new) fault) }
 {
     let Words {
         columns,
@@ -182,7 +182,7 @@ fn perform_into<
     transcript: Option<String>,
 ) -> Result<GfFile, ProgramFault>
     ensures done { IfOk result (IsShownInto (option_map string_bytes transcript) showing.style showing.canvas
-        (streams_of R.remaining reader.old W.contents screen.old screen.new E.contents errors.old errors.new)) }
+        (screen_streams_of R.remaining reader.old W.contents screen.old screen.new E.contents errors.old errors.new)) }
     ensures quiet { (transcript ≡ None) ⊎ (errors.new ≡ errors.old) }
     ensures plates { IfErr result (λ fault. ConcernsPlate fault → IsSome showing.plates) }
     ensures begun { transcript ≡ None → IfErr result (HasBegun (R.remaining reader.old) (E.contents errors.old) (E.contents errors.new)) }

@@ -4,7 +4,7 @@ ghost use Rattle.mf_live.specs.Entries.{is_closed, pic, rev};
 ghost use Rattle.mf_live.specs.Sheets.{HasLooked, sheet_picture, sheet_revision};
 ghost use Rattle.mf_live.specs.Viewers as viewers;
 ghost use Rattle.mf_easel.specs.Easels.{HasLookedLast, HasSameManner, IsLastNotDrawn, IsNotDrawn, canvas_of, drawing_of, drawing_with, identity, looked_at_list, revision_of, style_of, viewer_of};
-ghost use Rattle.mf_easel.specs.Screens.{GetsFrame, GetsNoMore, IsAbove, new_revision, over};
+ghost use Rattle.mf_easel.specs.Screens.{GetsFrame, GetsNoMore, IsAbove, new_revision, over, screen_of};
 
 use super::Easel;
 use crate::fault::EaselFault;
@@ -54,8 +54,8 @@ impl Easel {
         ensures answer { IfOk result (λ shown. shown ≡ new_revision (revision_of self.old) (rev (looked_at_list self.new))) }
         ensures drawn { MatchResult result (λ _. revision_of self.new ≡ Some (rev (looked_at_list self.new)))
             (λ _. revision_of self.new ≡ revision_of self.old) }
-        ensures screen { IfOk result (λ shown. GetsFrame W.contents screen.old screen.new (drawing_of self.old (looked_at_list self.new)) shown) }
-        ensures cut { IfErr result (λ fault. GetsNoMore W.contents screen.old screen.new (drawing_of self.old (looked_at_list self.new)) fault) }
+        ensures screen { IfOk result (GetsFrame (screen_of W.contents screen.old screen.new) (drawing_of self.old (looked_at_list self.new))) }
+        ensures cut { IfErr result (GetsNoMore (screen_of W.contents screen.old screen.new) (drawing_of self.old (looked_at_list self.new))) }
         ensures rising { IfOk result (λ shown. IfSome shown (IsAbove (revision_of self.old))) }
     {
         let sheet = self.viewer.sheet(alloc)?;
@@ -80,8 +80,8 @@ impl Easel {
         ensures answer { IfOk result (λ shown. shown ≡ new_revision (revision_of self.old) (rev (viewers.told_list notice))) }
         ensures drawn { MatchResult result (λ _. revision_of self.new ≡ Some (rev (viewers.told_list notice)))
             (λ _. revision_of self.new ≡ revision_of self.old) }
-        ensures screen { IfOk result (λ shown. GetsFrame W.contents screen.old screen.new (drawing_of self.old (viewers.told_list notice)) shown) }
-        ensures cut { IfErr result (λ fault. GetsNoMore W.contents screen.old screen.new (drawing_of self.old (viewers.told_list notice)) fault) }
+        ensures screen { IfOk result (GetsFrame (screen_of W.contents screen.old screen.new) (drawing_of self.old (viewers.told_list notice))) }
+        ensures cut { IfErr result (GetsNoMore (screen_of W.contents screen.old screen.new) (drawing_of self.old (viewers.told_list notice))) }
         ensures rising { IfOk result (λ shown. IfSome shown (IsAbove (revision_of self.old))) }
     {
         let sheet = last_sheet(&mut self.viewer, alloc, notice)?;
@@ -102,8 +102,8 @@ impl Easel {
         ensures answer { IfOk result (λ shown. shown ≡ new_revision (revision_of self.old) (rev (looked_at_list self.old))) }
         ensures drawn { MatchResult result (λ _. revision_of self.new ≡ Some (rev (looked_at_list self.old)))
             (λ _. revision_of self.new ≡ revision_of self.old) }
-        ensures screen { IfOk result (λ shown. GetsFrame W.contents screen.old screen.new (drawing_of self.old (looked_at_list self.old)) shown) }
-        ensures cut { IfErr result (λ fault. GetsNoMore W.contents screen.old screen.new (drawing_of self.old (looked_at_list self.old)) fault) }
+        ensures screen { IfOk result (GetsFrame (screen_of W.contents screen.old screen.new) (drawing_of self.old (looked_at_list self.old))) }
+        ensures cut { IfErr result (GetsNoMore (screen_of W.contents screen.old screen.new) (drawing_of self.old (looked_at_list self.old))) }
         ensures rising { IfOk result (λ shown. IfSome shown (IsAbove (revision_of self.old))) }
         ensures fault { IfErr result (λ fault. (fault ≡ EaselFault.OutOfMemory) ⊎ (fault ≡ EaselFault.WriteFault)) }
     {

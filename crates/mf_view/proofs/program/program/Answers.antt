@@ -1,5 +1,5 @@
 use Rattle.std.proofs.Common.{Err, ap, refl, ◌∙◌}
-use Rattle.mf_view.specs.Performances.{streams_of}
+use Rattle.mf_view.specs.Performances.{screen_streams_of}
 use Rattle.mf_view.specs.declared.fault.ProgramFault.TheVariants.{OutOfMemory}
 use Rattle.mf_view.proofs.Reports.{answered, may_end, reported, reported-after}
 use Rattle.mf_view.proofs.program.program.Goals as goal
@@ -12,7 +12,7 @@ returns-in-Err-clause-fault g c = λ _.
     let request = rw c.in-Show.is at c.in-Ok.ensures.value in
     let asked = c.in-Show.words in
     let s =
-    streams_of g.R.Read.remaining c.args.reader.now g.W.Write.contents c.args.screen.now c.watch.new.screen
+    screen_streams_of g.R.Read.remaining c.args.reader.now g.W.Write.contents c.args.screen.now c.watch.new.screen
     g.E.Write.contents c.args.errors.now c.watch.new.errors in
     let may = may_end _ asked request s c.in-Err.fault
     (λ is. c.watch.ensures.too_small.1 (c.in-Err.is ∙ ap Err is))

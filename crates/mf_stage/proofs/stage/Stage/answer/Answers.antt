@@ -19,7 +19,7 @@ returns-in_err-write_text-clause-begun g c =
     rw (failed.1, failed.2, c.in_err-write_text.ensures.fault) (λ s stands.
     let answered = c.in_ok-text.ensures.answer s stands in
     let gets = subst (GetsMessage _ _) c.as_slice.ensures.value c.in_err-write_text.ensures.front in
-    line-cut c.args.self.now _ s answered.next c.args.line.now c.in_ok-text.text.items _ _ answered.answer answered.stands gets)
+    line-cut _ s answered.next c.args.line.now c.in_ok-text.text.items answered.answer answered.stands gets)
 
 pub returns-in_err-publication-clause-begun : goal.returns-in_err-publication-clause-begun
 returns-in_err-publication-clause-begun g c =
@@ -28,7 +28,7 @@ returns-in_err-publication-clause-begun g c =
     let answered = c.in_ok-text.ensures.answer s stands in
     let given = c.in_ok-publishes.ensures.0 c.if-publishes.true in
     let all = published-all _ s c.args.line.now c.in_ok-text.text.items answered.next answered.answer given in
-    line-published c.args.self.now _ s answered.next c.args.line.now c.in_ok-text.text.items _ _ _ answered.answer answered.stands
+    line-published _ s answered.next c.args.line.now c.in_ok-text.text.items _ answered.answer answered.stands
     (subst (Appends _ _) c.as_slice.ensures.value c.in_ok-write_text.ensures.text) all
     (subst (λ shown. IsOfPlate shown c.in_err-publication.field-0.0) (sym all) (inl (c.in_err-publication.ensures.fault answered.next answered.stands)))
     c.in_err-publication.ensures.asked)

@@ -4,7 +4,7 @@ use Rattle.mf_stage.proofs.Broken.{under_way-broken, under_way-cut}
 use Rattle.mf_stage.proofs.Scripts.{under_way-end, under_way-next, under_way-start}
 use Rattle.mf_stage.specs.Faults.{BreaksLines}
 use Rattle.mf_stage.specs.Lines.{without_ending}
-use Rattle.mf_stage.specs.Scripts.{HasPerformed, act_of}
+use Rattle.mf_stage.specs.Scripts.{PerformsFrom, act_of}
 use Rattle.mf_stage.specs.declared.fault.StageFault.TheVariants.{ReadFault}
 use Rattle.mf_stage.proofs.stage.Stage.perform_lines.Goals as goal
 
@@ -27,21 +27,20 @@ lines-preserved g c =
       under_way-next c.args.self.now c.lines.self c.perform_line.new.self (g.B.Read.remaining c.args.script.now)
           (g.B.Read.remaining c.lines.script) remaining (g.W.Write.contents c.args.transcript.now) held holds line limits_are under_way
           (rw c.in-Some.is at c.in_ok-line.ensures.whole) read
-          (λ s stands. subst (λ l. HasPerformed (act_of c.lines.self s c.perform_line.new.self held holds) (l ∷ [])) bare (done.performed s stands)),
+          (λ s stands. subst (λ l. PerformsFrom (act_of c.lines.self c.perform_line.new.self held holds) s (l ∷ [])) bare (done.performed s stands)),
       λ s stands. let (now, represented) = represents s stands in let next = done.performed now represented in (next.last, next.stands),
     )
 
 pub returns-in_default-clause-transcript : goal.returns-in_default-clause-transcript
 returns-in_default-clause-transcript g c =
     let (limits_are, identity_is, plates_are, under_way, represents) = c.lines.invariant in
-    under_way-end c.args.self.now c.lines.self (g.B.Read.remaining c.args.script.now) (g.B.Read.remaining c.lines.script)
-    (g.W.Write.contents c.args.transcript.now) (g.W.Write.contents c.lines.transcript) under_way (c.in_ok-line.ensures.end c.in_default.is)
+    under_way-end _ (g.B.Read.remaining c.args.script.now) (g.B.Read.remaining c.lines.script) under_way (c.in_ok-line.ensures.end c.in_default.is)
 
 pub returns-in_err-line-clause-begun : goal.returns-in_err-line-clause-begun
 returns-in_err-line-clause-begun g c =
     let (limits_are, identity_is, plates_are, under_way, represents) = c.lines.invariant in
     let failed = err_from_is_err_and c.from_residual.result c.from_residual.ensures.1 in
-    rw (failed.1, failed.2) (under_way-broken _ _ _ _ _ _ c.in_err-line.field-0.0 under_way c.in_err-line.ensures.fault)
+    rw (failed.1, failed.2) (under_way-broken _ _ _ c.in_err-line.field-0.0 under_way c.in_err-line.ensures.fault)
 
 pub returns-in_err-perform_line-clause-begun : goal.returns-in_err-perform_line-clause-begun
 returns-in_err-perform_line-clause-begun g c =
@@ -54,9 +53,9 @@ returns-in_err-perform_line-clause-begun g c =
     rw (failed.1, failed.2) (under_way-cut c.args.self.now c.lines.self c.perform_line.new.self (g.B.Read.remaining c.args.script.now)
     (g.B.Read.remaining c.lines.script) (g.B.Read.remaining c.next_line.new.script) (g.W.Write.contents c.args.transcript.now) held holds
     c.in-Some.line.items fault limits_are plates_are under_way (rw c.in-Some.is at c.in_ok-line.ensures.whole) (rw c.in-Some.is at c.in_ok-line.ensures.line)
-    (subst (λ l. BreaksLines c.lines.self (l ∷ []) fault c.perform_line.new.self held holds) bare c.in_err-perform_line.ensures.begun))
+    (subst (λ l. BreaksLines (act_of c.lines.self c.perform_line.new.self held holds) (l ∷ []) fault) bare c.in_err-perform_line.ensures.begun))
 
 pub returns-clause-begun : goal.returns-clause-begun
 returns-clause-begun g c =
     let (limits_are, identity_is, plates_are, under_way, represents) = c.lines.invariant in
-    under_way-broken _ _ _ _ _ _ ReadFault under_way (inr refl)
+    under_way-broken _ _ _ ReadFault under_way (inr refl)
