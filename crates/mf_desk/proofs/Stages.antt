@@ -105,7 +105,7 @@ module _ (held holds : Option (List ℕ)) (read : List ℕ) (run : Progress) (af
       (performed-more (strip_carriage_return (unended read)) more next (whole more next answer))
 
   -- a line feed is read, and its line has been performed
-  IsAfter-ended : (later : Option (List ℕ)) (line : List ℕ) (new : Progress) → StandsForEnded line
+  pub IsAfter-ended : (later : Option (List ℕ)) (line : List ℕ) (new : Progress) → StandsForEnded line
       → Gets holds later (IsWritten run.performer so_far.last line new.performer)
       → limits new.performer.session ≡ bounds → new.line ≡ [] → IsAfter held (read ++ 10 ∷ []) new later
   IsAfter-ended later line new whole written same empty = record {
@@ -114,15 +114,10 @@ module _ (held holds : Option (List ℕ)) (read : List ℕ) (run : Progress) (af
   }
 
   -- the line that was kept may be cut
-  kept-ended : StandsForEnded (strip_carriage_return run.line)
+  pub kept-ended : StandsForEnded (strip_carriage_return run.line)
   kept-ended text next answer =
       let s = so_far.last in
       Answers-stripped bounds s next (unended read) text (subst (λ line. Answers bounds s (strip_carriage_return line) text next) after.line answer)
-
-  pub IsAfter-line_feed : (later : Option (List ℕ)) (new : Progress)
-      → Gets holds later (IsWritten run.performer so_far.last (strip_carriage_return run.line) new.performer)
-      → limits new.performer.session ≡ bounds → new.line ≡ [] → IsAfter held (read ++ 10 ∷ []) new later
-  IsAfter-line_feed later new = IsAfter-ended later (strip_carriage_return run.line) new kept-ended
 
   -- an allocation fails between two lines
   pub Breaks-between : (left : Option (List ℕ)) (bytes more : List ℕ)
@@ -162,18 +157,13 @@ module _ (held holds : Option (List ℕ)) (read : List ℕ) (run : Progress) (af
       let (written, out, none) = broken in absurd none
 
   -- the text of a line that a line feed ends breaks off
-  Breaks-ended : (fault : RunFault) (left later : Option (List ℕ)) (more line : List ℕ) → StandsForEnded line
+  pub Breaks-ended : (fault : RunFault) (left later : Option (List ℕ)) (more line : List ℕ) → StandsForEnded line
       → BreaksLine line fault later → HasPassed (Breaks bounds fault) left (read ++ 10 ∷ [] ++ more) held later
   Breaks-ended fault left later more line whole broken =
       let (others, before) = ended_lines-front read (10 ∷ more) in
       let (behind, with_line) = ended_lines-front (read ++ 10 ∷ []) more in
       Breaks-text fault left later (read ++ 10 ∷ [] ++ more) line others (ended_lines (read ++ 10 ∷ [])) behind
       (inl (ap ended_lines (append_assoc read (10 ∷ []) more) ∙ before)) (inl with_line) (performed-ended line whole) broken
-
-  pub Breaks-line_feed : (fault : RunFault) (left later : Option (List ℕ)) (more : List ℕ)
-      → BreaksLine (strip_carriage_return run.line) fault later
-      → HasPassed (Breaks bounds fault) left (read ++ 10 ∷ [] ++ more) held later
-  Breaks-line_feed fault left later more = Breaks-ended fault left later more (strip_carriage_return run.line) kept-ended
 
   -- there are bytes after the last line feed
   some-unended : eqb (length run.line) 0 ≡ false → eqb (length (unended read)) 0 ≡ false
@@ -265,8 +255,8 @@ pub IsAfter-flushed : (held holds later : Option (List ℕ)) (read : List ℕ) (
 IsAfter-flushed held holds later read progress same after =
     record { lines = HasCounted-flushed held holds later (ended_lines read) progress.performer same after.lines; line = after.line }
 
--- flushing the texts of these lines fails
-Breaks-flush : (l : Limits) (held left holds later : Option (List ℕ)) (read : List ℕ) (ls : List (List ℕ)) (performer : Performer)
+-- flushing the texts of these lines, which are all that were completely read, fails
+pub Breaks-flush : (l : Limits) (held left holds later : Option (List ℕ)) (read : List ℕ) (ls : List (List ℕ)) (performer : Performer)
     → AreWholeLines left read (ls ++ []) → limits performer.session ≡ l → Keeps holds later → HasCounted held ls performer holds
     → (fault : RunFault) → fault ≡ WriteFault performer.written → HasPassed (Breaks l fault) left read held later
 Breaks-flush l held left holds later read ls performer whole limits_are same was fault is =
@@ -278,16 +268,3 @@ Breaks-flush l held left holds later read ls performer whole limits_are same was
       Appends-kept held holds later done.text done.out same,
       (sym was.counted, ([], first-text l left read ls [] (done.text ++ []) done.last whole performed)),
     )
-
--- flushing the texts of the lines that a line feed ended fails
-pub Breaks-unflushed : (held left holds later : Option (List ℕ)) (read : List ℕ) (progress : Progress) → Keeps holds later → IsAfter held read progress holds
-    → (fault : RunFault) → fault ≡ WriteFault progress.performer.written → HasPassed (Breaks (limits progress.performer.session) fault) left read held later
-Breaks-unflushed held left holds later read progress same after =
-    Breaks-flush _ held left holds later read (ended_lines read) progress.performer (inl (sym (append-nil _))) refl same after.lines
-
--- flushing the texts of all lines fails
-pub Breaks-last_unflushed : (l : Limits) (held left holds later : Option (List ℕ)) (read : List ℕ) (performer : Performer)
-    → IsAtEnd left → limits performer.session ≡ l → Keeps holds later → HasCounted held (lines read) performer holds
-    → (fault : RunFault) → fault ≡ WriteFault performer.written → HasPassed (Breaks l fault) left read held later
-Breaks-last_unflushed l held left holds later read performer all_read =
-    Breaks-flush l held left holds later read (lines read) performer (inr (all_read, sym (append-nil _)))

@@ -1,5 +1,5 @@
 use Rattle.std.proofs.lemmas.Result.{err_from_is_err_and}
-use Rattle.mf_desk.proofs.Stages.{IsAfter-line_feed, Breaks-line_feed}
+use Rattle.mf_desk.proofs.Stages.{IsAfter-ended, Breaks-ended, kept-ended}
 use Rattle.mf_desk.proofs.progress.Progress.end_line.Goals as goal
 
 pub returns-in_err-perform-clause-fault : goal.returns-in_err-perform-clause-fault
@@ -7,10 +7,11 @@ returns-in_err-perform-clause-fault g c =
     let passed_on = err_from_is_err_and c.from_residual.result c.from_residual.ensures.1 in
     let broken = rw c.at_line_feed.ensures at c.in_err-perform.ensures.fault in
     rw (passed_on.1, passed_on.2) (
-    λ held left read more after. Breaks-line_feed held _ read c.args.self.now after _ left _ more (broken after.lines.done.last after.lines.done.stands)
+    λ held left read more after. Breaks-ended held _ read c.args.self.now after _ left _ more _ (kept-ended held _ read c.args.self.now after)
+    (broken after.lines.done.last after.lines.done.stands)
     )
 
 pub returns-clause-after : goal.returns-clause-after
 returns-clause-after g c =
-    λ held read after. IsAfter-line_feed held _ read c.args.self.now after _ _
+    λ held read after. IsAfter-ended held _ read c.args.self.now after _ _ _ (kept-ended held _ read c.args.self.now after)
     (rw (← c.at_line_feed.ensures) (c.in_ok-perform.ensures.written after.lines.done.last after.lines.done.stands)) c.perform.ensures.limits c.clear.ensures

@@ -1,7 +1,8 @@
-use Rattle.std.proofs.Common.{Result, Ok, Err, sym}
+use Rattle.std.proofs.Common.{Result, Ok, Err, append-nil, inr, sym}
 use Rattle.std.specs.Prelude.{OnOk}
+use Rattle.std.specs.Str.Lines.{lines}
 use Rattle.std.proofs.lemmas.Result.{err_from_is_err_and, IfErr-weaker}
-use Rattle.mf_desk.proofs.Stages.{HasCounted-all, HasCounted-flushed, HasCounted-last, Breaks-last, Breaks-last_unflushed}
+use Rattle.mf_desk.proofs.Stages.{HasCounted-all, HasCounted-flushed, HasCounted-last, Breaks-last, Breaks-flush}
 use Rattle.mf_desk.proofs.progress.Progress.finish.Goals as goal
 
 pub returns-then-is_empty-clause-done : goal.returns-then-is_empty-clause-done
@@ -34,6 +35,6 @@ returns-clause-fault g c =
     let some = sym c.if-is_empty.ensures in
     let written = rw c.at_end.ensures at c.in_ok-perform.ensures.written in
     IfErr-weaker c.flush.result _ _ (λ fault is held left read all_read after.
-    Breaks-last_unflushed _ held left _ _ read c.perform.new.self all_read c.perform.ensures.limits c.flush.ensures.kept
+    Breaks-flush _ held left _ _ read (lines read) c.perform.new.self (inr (all_read, sym (append-nil _))) c.perform.ensures.limits c.flush.ensures.kept
     (HasCounted-last held _ read c.args.self.now after _ c.perform.new.self some c.perform.ensures.limits
     (written after.lines.done.last after.lines.done.stands)) fault is) c.flush.ensures.fault

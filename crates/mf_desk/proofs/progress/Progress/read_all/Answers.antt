@@ -1,11 +1,12 @@
-use Rattle.std.proofs.Common.{◌≡◌, ◌<◌, ◌++◌, Option, [], List, ℕ, length, take, refl, ap, ◌∙◌, subst, append-nil, arith}
+use Rattle.std.proofs.Common.{◌≡◌, ◌<◌, ◌++◌, Option, [], List, ℕ, length, take, inl, refl, sym, ap, ◌∙◌, subst, append-nil, arith}
 use Rattle.std.proofs.KnownBytes.{Consumes-nil, Consumes-trans, Consumes-kept}
 use Rattle.std.proofs.lemmas.Result.{err_from_is_err_and, on_ok_weaker, IfErr-weaker}
 use Rattle.std.specs.Io.KnownBytes.{Consumes, IsAtEnd}
+use Rattle.mf_desk.specs.Ended.{ended_lines}
 use Rattle.mf_desk.specs.Fault.{Breaks}
 use Rattle.mf_desk.specs.Streams.{HasPassed}
 use Rattle.mf_session.specs.Sessions.{limits}
-use Rattle.mf_desk.proofs.Stages.{Breaks-reads, Breaks-unflushed, IsAfter-flushed}
+use Rattle.mf_desk.proofs.Stages.{Breaks-flush, Breaks-reads, IsAfter-flushed}
 use Rattle.mf_desk.proofs.progress.Progress.read_all.Goals as goal
 
 -- a read that gives no byte
@@ -21,8 +22,12 @@ pub returns-in_err-flush-clause-fault : goal.returns-in_err-flush-clause-fault
 returns-in_err-flush-clause-fault g c =
     let (read, consumed, after) = c.reads.invariant.1 in
     let passed_on = err_from_is_err_and c.from_residual.result c.from_residual.ensures.1 in
-    rw (passed_on.1, passed_on.2, ← c.reads.invariant.2)
-    (read, consumed, Breaks-unflushed _ _ _ _ read c.reads.self c.flush.ensures.kept after c.in_err-flush.field-0.0 c.in_err-flush.ensures.fault)
+    rw (passed_on.1, passed_on.2, ← c.reads.invariant.2) (
+      read,
+      consumed,
+      Breaks-flush _ _ _ _ _ read (ended_lines read) c.reads.self.performer (inl (sym (append-nil _))) refl c.flush.ensures.kept after.lines
+          c.in_err-flush.field-0.0 c.in_err-flush.ensures.fault,
+    )
 
 pub returns-in-Err-clause-fault : goal.returns-in-Err-clause-fault
 returns-in-Err-clause-fault g c =
