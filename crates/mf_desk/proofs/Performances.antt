@@ -15,7 +15,7 @@ use Rattle.mf_desk.specs.declared.outcome.Outcome.{Outcome}
 use Rattle.mf_desk.specs.declared.settings.Settings.{Settings}
 use Rattle.mf_desk.specs.EndedRuns.{IsOver, glance}
 use Rattle.mf_desk.specs.Fault.{Breaks}
-use Rattle.mf_desk.specs.Performances.{IsCompleteText, IsPerformance, IsShownText, Tells, task, run_limits, viewer_lines}
+use Rattle.mf_desk.specs.Performances.{IsCompleteText, IsPerformance, Tells, task, run_limits, viewer_lines}
 use Rattle.mf_desk.specs.Streams.{Passes, Streams, streams}
 use Rattle.mf_session.specs.States.{Limits}
 use Rattle.mf_watch.specs.Watchers.{HasSeen, glance_at}
@@ -71,20 +71,15 @@ module _ (settings : Settings) (viewers : ℕ) where
             → (fault ≡ FileTooLong → (characters : List Character) → Keeps file [] characters → IsLongFile (max_bytes_of file) settings.font [] characters)
             → (fault ≡ FileTooLong) ⊎ (fault ≡ OutOfMemory) → Passes (streams unread left held later) (Tells settings viewers fault)
         Tells-unfinished file fault same too_long =
+            let text = over.text ++ viewer_lines viewers (glance run) in
+            let all = complete viewers (viewer_lines viewers (glance run)) refl in
             ⊎_elim
             (λ long.
             let is_long =
             subst (λ n. IsLongFile n settings.font [] over.last.characters) (ap max_bytes_of same ∙ over.max_bytes_is)
             (too_long long over.last.characters (kept file same)) in
-            let text = over.text ++ viewer_lines viewers (glance run) in
-            rw long (read, consumed, (text, out-more _ out, inr (all_read, record { complete = complete viewers _ refl; too_long = is_long }))))
-            (λ wanting.
-            let shown : IsShownText (run_limits settings) viewers read (over.text ++ viewer_lines viewers (glance run)) = record {
-              shown = viewers;
-              few = omega arith;
-              complete = complete viewers _ refl;
-            } in
-            rw wanting (read, consumed, (over.text ++ viewer_lines viewers (glance run), out-more _ out, inr (all_read, shown))))
+            rw long (read, consumed, (text, out-more _ out, inr (all_read, record { complete = all; too_long = is_long }))))
+            (λ wanting. rw wanting (read, consumed, (text, out-more _ out, inr (all_read, record { shown = viewers; few = omega arith; complete = all }))))
 
     -- the run ends well
     pub IsPerformance-over : (unread left : Option (List ℕ)) (looks : ℕ) (outcome : Outcome) (file : GfFile) → file ≡ run.file

@@ -20,7 +20,7 @@ use Rattle.mf_desk.specs.Streams.{Gets, HasPassed}
 use Rattle.mf_session.specs.Sessions.{HasPerformed, StandsFor, limits}
 use Rattle.mf_session.specs.States.{State, Limits, start}
 use Rattle.mf_session.specs.Transcript.{Perform, due}
-use Rattle.mf_desk.proofs.Ended.{ended_lines-line_feed, unended-line_feed, ended_lines-unbroken, unended-unbroken, ended_lines-front, lines-none, lines-last}
+use Rattle.mf_desk.proofs.Ended.{ended_lines-line_feed, unended-line_feed, ended_lines-unbroken, unended-unbroken, ended_lines-front, lines-last}
 use Rattle.mf_desk.proofs.LongLines.{take-taken, Answers-kept, Answers-stripped}
 use Rattle.mf_session.proofs.Performing.{Perform-line}
 
@@ -186,13 +186,10 @@ module _ (held holds : Option (List ℕ)) (read : List ℕ) (run : Progress) (af
       (inr (all_read, lines-last read (some-unended some))) (inr (all_read, sym (append-nil _))) (performed-last some)
 
   -- there is no byte after the last line feed
-  empty-unended : eqb (length run.line) 0 ≡ true → unended read ≡ []
+  pub empty-unended : eqb (length run.line) 0 ≡ true → unended read ≡ []
   empty-unended none =
       let kept : length (take MAX_KEPT (unended read)) ≡ 0 = ap length (sym after.line) ∙ eqb-true (length run.line) 0 none in
       nil_from_length (unended read) (omega (arith, length-take MAX_KEPT (unended read)))
-
-  pub HasCounted-all : eqb (length run.line) 0 ≡ true → HasCounted held (lines read) run.performer holds
-  HasCounted-all none = rw (lines-none read (empty-unended none)) after.lines
 
   -- the last line ends with the script
   pub HasCounted-last : (later : Option (List ℕ)) (new : Performer) → eqb (length run.line) 0 ≡ false → limits new.session ≡ bounds

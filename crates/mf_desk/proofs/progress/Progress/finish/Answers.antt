@@ -2,11 +2,13 @@ use Rattle.std.proofs.Common.{Result, Ok, Err, append-nil, inr, sym}
 use Rattle.std.specs.Prelude.{OnOk}
 use Rattle.std.specs.Str.Lines.{lines}
 use Rattle.std.proofs.lemmas.Result.{err_from_is_err_and, IfErr-weaker}
-use Rattle.mf_desk.proofs.Stages.{HasCounted-all, HasCounted-flushed, HasCounted-last, Breaks-last, Breaks-flush}
+use Rattle.mf_desk.proofs.Ended.{lines-none}
+use Rattle.mf_desk.proofs.Stages.{HasCounted-flushed, HasCounted-last, empty-unended, Breaks-last, Breaks-flush}
 use Rattle.mf_desk.proofs.progress.Progress.finish.Goals as goal
 
 pub returns-then-is_empty-clause-done : goal.returns-then-is_empty-clause-done
-returns-then-is_empty-clause-done g c = λ held read after. HasCounted-all held _ read c.args.self.now after (sym c.if-is_empty.ensures)
+returns-then-is_empty-clause-done g c = λ held read after.
+    rw (lines-none read (empty-unended held _ read c.args.self.now after (sym c.if-is_empty.ensures))) after.lines
 
 -- a fact that holds whatever the result is
 always : {T E : Type 0} {P : Type 0} (r : Result T E) → P → OnOk r P
