@@ -22,12 +22,9 @@ use Rattle.mf_view.specs.declared.fault.ProgramFault.TheVariants.{OutOfMemory, N
 
 -- a fault of a plate is one to the stage, too
 concerns-stage : (cause : StageFault) → ConcernsPlate (fault_of_stage cause) → stage.ConcernsPlate cause
-concerns-stage stages.OutOfMemory concerns = concerns
-concerns-stage stages.FileTooLong concerns = concerns
-concerns-stage stages.ReadFault concerns = concerns
-concerns-stage stages.WriteFault concerns = concerns
 concerns-stage (stages.ImageTooLarge revision) concerns = tt
 concerns-stage (stages.PlateFault revision) concerns = tt
+concerns-stage cause concerns = absurd concerns
 
 -- a performance on this stage ends with a fault
 module _ (before after : Stage) (unread told tells : Option (List ℕ)) (limited : limits before ≡ script_limits) (begins : StandsFor before start) where

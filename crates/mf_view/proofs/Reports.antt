@@ -10,7 +10,7 @@ use Rattle.mf_view.specs.Messages.{message_of}
 use Rattle.mf_view.specs.Performances.{ScreenStreams}
 use Rattle.mf_view.specs.Statuses.{status_of}
 use Rattle.mf_view.specs.declared.fault.ProgramFault.{ProgramFault}
-use Rattle.mf_view.specs.declared.fault.ProgramFault.TheVariants.{OutOfMemory, NoPlace, NoLook, TooSmall, FileTooLong, ReadFault, WriteFault, ImageTooLarge, PlateFault, NoCharacters}
+use Rattle.mf_view.specs.declared.fault.ProgramFault.TheVariants.{TooSmall, WriteFault, ImageTooLarge, PlateFault, NoCharacters}
 use Rattle.mf_view_words.specs.Requests.{IsRequest}
 use Rattle.mf_view_words.specs.declared.words.Request.TheVariants.{Show}
 use Rattle.mf_view_words.specs.declared.words.Words.{Words}
@@ -34,14 +34,9 @@ module _ (words : List Text) (asked : Words) (request : IsRequest words (Show as
       → (fault ≡ NoCharacters → IsSome asked.gf × ShipsNothing asked s) → (ConcernsPlate fault → IsSome asked.plates) → MayEnd words s fault
   may_end s TooSmall small some plates = record { asked = asked; request = request; small = small refl }
   may_end s NoCharacters small some plates = let (file, none) = some refl in record { asked = asked; request = request; some = file; nothing = none }
-  may_end s OutOfMemory small some plates = tt
-  may_end s NoPlace small some plates = tt
-  may_end s NoLook small some plates = tt
-  may_end s FileTooLong small some plates = tt
-  may_end s ReadFault small some plates = tt
-  may_end s WriteFault small some plates = tt
   may_end s (ImageTooLarge revision) small some plates = record { asked = asked; request = request; some = plates tt }
   may_end s (PlateFault revision) small some plates = record { asked = asked; request = request; some = plates tt }
+  may_end s fault small some plates = tt
 
   -- a fault of a script that was reported, after the transcript if that goes to the same stream
   pub reported-after : {E : Type 0} (contents : E → Option (List ℕ)) (before then : E) (fault : ProgramFault) (status : ℕ) (s : ScreenStreams)
