@@ -4,7 +4,7 @@ use Rattle.mf_text.specs.declared.command.Command.{Command}
 use Rattle.mf_text.specs.declared.command.Command.TheVariants as command
 use Rattle.mf_text.specs.declared.fault.TextFault.{TextFault}
 use Rattle.mf_text.specs.declared.fault.TextFault.TheVariants as faults
-use Rattle.mf_text.specs.Grammar.{Form, Nothing, AddContour, AddPicture, CullKeeping, CullDropping, Clear, Move, ShowTotal, ShowPicture, ShowProof, ShipOut, SetCheck, PublishAll}
+use Rattle.mf_text.specs.Grammar.{Form, AddContour}
 use Rattle.mf_text.specs.Lines.{Gives, IsLineWith, IsRefused}
 use Rattle.mf_text.specs.Meaning.{Means, TakesMemory, meaning}
 use Rattle.mf_text.proofs.OneAnswer.{given_or_refused, same_form}
@@ -16,18 +16,7 @@ HasNoContour given = Unit {0}
 
 form_takes_none : (form : Form) (given : Command) → HasNoContour given → Means (meaning form) given → TakesMemory form → ⊥
 form_takes_none (AddContour name path weight) given none is memory = subst HasNoContour is.1.1 none
-form_takes_none Nothing given none is memory = memory
-form_takes_none (AddPicture name sign source) given none is memory = memory
-form_takes_none (CullKeeping name range weight) given none is memory = memory
-form_takes_none (CullDropping name range weight) given none is memory = memory
-form_takes_none (Clear name) given none is memory = memory
-form_takes_none (Move name transform) given none is memory = memory
-form_takes_none (ShowTotal source) given none is memory = memory
-form_takes_none (ShowPicture source) given none is memory = memory
-form_takes_none (ShowProof source) given none is memory = memory
-form_takes_none (ShipOut source code dx width) given none is memory = memory
-form_takes_none (SetCheck n) given none is memory = memory
-form_takes_none PublishAll given none is memory = memory
+form_takes_none form given none is memory = memory
 
 wants_no_memory : (line : List ℕ) (given : Command) → HasNoContour given → Gives line given → IsLineWith line TakesMemory → ⊥
 wants_no_memory line given none p q =
@@ -36,11 +25,4 @@ wants_no_memory line given none p q =
 -- a line that gives such a command is not refused, not even with `OutOfMemory`
 pub is_not_refused : (line : List ℕ) (given : Command) (fault : TextFault) → HasNoContour given → Gives line given → IsRefused line fault → ⊥
 is_not_refused line given faults.OutOfMemory none p q = wants_no_memory line given none p q
-is_not_refused line given (faults.Cycle why) none p q = given_or_refused line given (faults.Cycle why) (λ is. cc) p q
-is_not_refused line given faults.BadWeight none p q = given_or_refused line given faults.BadWeight (λ is. cc) p q
-is_not_refused line given faults.BadCull none p q = given_or_refused line given faults.BadCull (λ is. cc) p q
-is_not_refused line given faults.BadScale none p q = given_or_refused line given faults.BadScale (λ is. cc) p q
-is_not_refused line given faults.BadTurn none p q = given_or_refused line given faults.BadTurn (λ is. cc) p q
-is_not_refused line given faults.LineTooLong none p q = given_or_refused line given faults.LineTooLong (λ is. cc) p q
-is_not_refused line given faults.NotAscii none p q = given_or_refused line given faults.NotAscii (λ is. cc) p q
-is_not_refused line given (faults.Syntax column) none p q = given_or_refused line given (faults.Syntax column) (λ is. cc) p q
+is_not_refused line given fault none p q = given_or_refused line given fault (λ is. cc) p q
