@@ -1,5 +1,5 @@
 -- Groups that take up what is kept beside them, place by place.
-use Rattle.std.proofs.Common.{◌≡◌, ℕ, zero, suc, ◌+◌, ◌<◌, ◌≤◌, ℤ, pos, ◌+ℤ◌, ◌-ℤ◌, List, [], ◌∷◌, ◌++◌, length, set, get_or, Option, None, refl, ap, sym, subst, ◌∙◌, arith}
+use Rattle.std.proofs.Common.{◌≡◌, ℕ, zero, suc, ◌+◌, ◌<◌, ◌≤◌, ℤ, pos, ◌+ℤ◌, ◌-ℤ◌, [], ◌∷◌, ◌++◌, length, set, Option, None, refl, ap, sym, subst, ◌∙◌, arith}
 use Rattle.std.proofs.lemmas.Int.{ints}
 use Rattle.std.proofs.lemmas.List.{length-set}
 use Rattle.std.specs.declared.alloc.Global.{Global}
@@ -7,9 +7,9 @@ use Rattle.std.specs.declared.sync.Arc.{Arc}
 use Rattle.mf_geom.specs.Coordinates.{last_in_field}
 use Rattle.mf_rows.specs.declared.group.Group.{Group}
 use Rattle.mf_rows.specs.declared.group.TheConstants.{GROUP_HEIGHT}
-use Rattle.mf_rows.specs.EdgeRows.{EdgeRow, AreRows, weight_in_rows}
+use Rattle.mf_rows.specs.EdgeRows.{AreRows, weight_in_rows}
 use Rattle.mf_rows.specs.Groups.{rows_at_place, rows_of_groups, IsLayer, AreLayersFrom, AreGroups}
-use Rattle.mf_rows.specs.Piles.{HaveSameSum, StayInReach, ArePiled}
+use Rattle.mf_rows.specs.Piles.{HaveSameSum, ArePiled}
 use Rattle.mf_rows.specs.Sums.{weight_in_all, HaveRowWeights}
 use Rattle.mf_rows.proofs.BothRowsLemmas.{weight_in_rows-both}
 use Rattle.mf_rows.proofs.EdgeRowsLemmas.{weight_in_rows-append}

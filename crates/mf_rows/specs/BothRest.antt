@@ -11,9 +11,9 @@ use Rattle.mf_rows.specs.EdgeRows.{EdgeRow}
 use Rattle.mf_rows.specs.Merging.{row_found}
 use Rattle.mf_rows.specs.Rest.{remaining_rows}
 
--- the edges of two rows together
+-- the edges of a row in one list, or of two rows together
 abbrev pub both_edges : BothEdges → List Edge
-both_edges both = edges_of_both both.left.now both.right.now
+both_edges both = both.alone.now ++ edges_of_both both.left.now both.right.now
 
 -- a row as its edges
 abbrev pub both_row : BothRow → EdgeRow

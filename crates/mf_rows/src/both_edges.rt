@@ -7,10 +7,12 @@ use mf_edges::Edge;
 
 mod columns;
 
-/// The edges of two rows together, of which no list is made: edges in one column are added up as they are taken. Mostly the right row
-/// has no edge; a step then costs what it costs on a slice.
+/// The edges of a row, or of two rows together, of which no list is made: edges in one column are added up as they are taken. Most rows
+/// are in one list, and a step then costs what it costs on a slice.
 #[derive(Clone, Copy, Debug)]
 pub(crate) struct BothEdges<'a> {
+    /// The edges of a row that is in one list. It has no others.
+    alone: &'a [Edge],
     left: &'a [Edge],
     right: &'a [Edge],
     ghost lawful: { AreLeftOfBoth left.now right.now } by { AreLeftOfBoth-prop left.now right.now },
@@ -25,6 +27,7 @@ impl<'a> BothEdges<'a> {
         ensures { both_edges result ≡ [] }
     {
         BothEdges {
+            alone: &[],
             left: &[],
             right: &[],
         }
@@ -33,11 +36,11 @@ impl<'a> BothEdges<'a> {
     /// The edges of a row.
     #[inline(always)]
     pub(crate) fn of(edges: &'a [Edge]) -> BothEdges<'a>
-        requires { AreEdges edges.now }
         ensures { both_edges result ≡ edges.now }
     {
         BothEdges {
-            left: edges,
+            alone: edges,
+            left: &[],
             right: &[],
         }
     }
@@ -48,7 +51,11 @@ impl<'a> BothEdges<'a> {
         requires right { AreEdges right.now }
         ensures { both_edges result ≡ edges_of_both left.now right.now }
     {
-        BothEdges { left, right }
+        BothEdges {
+            alone: &[],
+            left,
+            right,
+        }
     }
 
     /// Whether there are no edges.
@@ -65,8 +72,11 @@ impl<'a> BothEdges<'a> {
         ensures first { IfSome result (λ edge. both_edges self.now ≡ edge ∷ drop 1 (both_edges self.now)) }
         ensures none { IfNone result (both_edges self.now ≡ []) }
     {
-        let mut rest = *self;
-        rest.take_first()
+        if let Some(edge) = self.alone.first() {
+            return Some(*edge);
+        }
+        let (edge, _, _) = split_first(self.left, self.right)?;
+        Some(edge)
     }
 
     /// Takes the first edge away, `None` where there are none.
@@ -75,9 +85,8 @@ impl<'a> BothEdges<'a> {
         ensures first { IfSome result (λ edge. both_edges self.old ≡ edge ∷ both_edges self.new) }
         ensures none { IfNone result ((both_edges self.old ≡ []) × (both_edges self.new ≡ [])) }
     {
-        if self.right.is_empty() {
-            let (edge, edges) = self.left.split_first()?;
-            self.left = edges;
+        if let Some((edge, edges)) = self.alone.split_first() {
+            self.alone = edges;
             return Some(*edge);
         }
         let (edge, left, right) = split_first(self.left, self.right)?;
@@ -91,18 +100,19 @@ impl<'a> BothEdges<'a> {
         ensures last { IfSome result (λ edge. both_edges self.old ≡ both_edges self.new ++ edge ∷ []) }
         ensures none { IfNone result ((both_edges self.old ≡ []) × (both_edges self.new ≡ [])) }
     {
-        if self.right.is_empty() {
-            let (edge, edges) = self.left.split_last()?;
-            self.left = edges;
-            return Some(*edge);
+        if let Some((edge, left, right)) = split_last(self.left, self.right) {
+            (self.left, self.right) = (left, right);
+            return Some(edge);
         }
-        let (edge, left, right) = split_last(self.left, self.right)?;
-        (self.left, self.right) = (left, right);
-        Some(edge)
+        let (edge, edges) = self.alone.split_last()?;
+        self.alone = edges;
+        Some(*edge)
     }
 }
 
-/// The first edge of two rows together, and what is left of them.
+/// The first edge of two rows together, and what is left of them. Not inlined, so that what is done at each edge of a row in one list
+/// stays short.
+#[inline(never)]
 fn split_first<'a>(left: &'a [Edge], right: &'a [Edge]) -> Option<(Edge, &'a [Edge], &'a [Edge])>
     requires { AreLeftOfBoth left.now right.now }
     ensures some { IfSome result (λ split. IsFirstOfBoth (edges_of_both left.now right.now) split.0 split.1.now split.2.now) }
@@ -129,6 +139,7 @@ fn split_first<'a>(left: &'a [Edge], right: &'a [Edge]) -> Option<(Edge, &'a [Ed
 }
 
 /// The last edge of two rows together, and what is left of them.
+#[inline(never)]
 fn split_last<'a>(left: &'a [Edge], right: &'a [Edge]) -> Option<(Edge, &'a [Edge], &'a [Edge])>
     requires { AreLeftOfBoth left.now right.now }
     ensures some { IfSome result (λ split. IsLastOfBoth (edges_of_both left.now right.now) split.0 split.1.now split.2.now) }

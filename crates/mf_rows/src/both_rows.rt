@@ -23,7 +23,7 @@ pub(crate) struct BothRow<'a> {
 }
 
 /// The rows of groups, from the top down, of which the first may have been looked at.
-#[derive(Drop)]
+#[derive(Clone, Copy)]
 pub(crate) struct RowsAhead<'a> {
     /// The first row, where it was looked at, and the rows below it.
     first: Option<Row<'a>>,
@@ -36,7 +36,7 @@ pub(crate) struct RowsAhead<'a> {
 
 /// An iterator over the rows of two lists together, from the top down. Rows of one height are one row, which is left out where it
 /// is blank. Its steps are inlined, as those of `Walk` are, and after the last recent row they look at one list alone.
-#[derive(Drop)]
+#[derive(Clone, Copy)]
 pub(crate) struct BothRows<'a> {
     rows: RowsAhead<'a>,
     recent: RowsAhead<'a>,
@@ -176,7 +176,7 @@ impl<'a> Iterator for BothRows<'a> {
 
     ghost remaining = { item_count remaining_both_rows };
 
-    #[inline(always)]
+    #[inline(never)]
     fn next(&mut self) -> Option<BothRow<'a>> {
         if self.recent.is_over {
             return self.next_of_rows();

@@ -105,6 +105,9 @@ impl Picture {
         ensures value { result ≡ total_of self.now }
         ensures lawful { IsPicture self.now }
     {
+        if self.is_blank() {
+            return 0;
+        }
         let mut sum = 0i64;
         for run in self.runs() {
             sum += run.total();
@@ -316,7 +319,7 @@ impl Picture {
     fn is_blank(&self) -> bool
         ensures { IsTrue result ↔ (self.now ≡ []) }
     {
-        self.pile.rows().next().is_none()
+        self.pile.has_no_groups() || self.pile.rows().next().is_none()
     }
 
     /// The groups of all rows of the picture.

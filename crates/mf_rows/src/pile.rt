@@ -1,5 +1,5 @@
 //! The rows of a picture, the newest contours beside the others.
-ghost use Rattle.std.specs.Prelude.{◌≡◌, ◌≢◌, ◌≤◌, ◌≤ℤ◌, [], pos, IsOk, IfOk, IfErr, OnOk, OnErr, length};
+ghost use Rattle.std.specs.Prelude.{◌≡◌, ◌≢◌, ◌≤◌, ◌≤ℤ◌, [], pos, IsOk, IsTrue, IfOk, IfErr, OnOk, OnErr, length};
 ghost use Rattle.mf_edges.specs.LawfulWeights.{IsLawfulWeight, greatest_weight};
 ghost use Rattle.mf_rows.specs.Bands.{slice_rows};
 ghost use Rattle.mf_rows.specs.EdgeRows.{AreRows, picture_of_rows, weight_in_rows};
@@ -29,7 +29,7 @@ use std::sync::Arc;
 
 /// Where rows have more edges than this on average, they are kept apart from the newest contours. A contour that is added to shorter
 /// rows copies few edges, too, and then nobody has to add up two lists of groups to read the picture.
-const LONG_ROWS: usize = 32;
+const LONG_ROWS: usize = 128;
 
 /// The newest contours are added to the long rows when they have so many edges for each of these, and a fourth of the edges of these. A
 /// contour copies the rows of the newest ones that it reaches, so these must be short. Adding them to the long rows copies all rows
@@ -103,6 +103,14 @@ impl Pile {
         })
     }
 
+    /// Whether there are no groups, as in a picture to which nothing was added.
+    #[inline(always)]
+    pub(crate) fn has_no_groups(&self) -> bool
+        ensures { IsTrue result → self.now ≡ [] }
+    {
+        self.older.is_empty() && self.groups.is_empty()
+    }
+
     /// The rows, from the top down.
     pub(crate) fn rows(&self) -> BothRows<'_>
         ensures rows { remaining_both_rows result ≡ self.now }
@@ -172,7 +180,8 @@ impl Pile {
         let groups = self.whole(alloc)?;
         let others = other.whole(alloc)?;
         let sum = sum_of_groups(alloc, &groups, &others, sign)?;
-        let (older, groups) = keep_apart(alloc, sum, !self.older.is_empty());
+        let are_long = !self.older.is_empty() || !other.older.is_empty();
+        let (older, groups) = keep_apart(alloc, sum, are_long);
         self.older = older;
         self.groups = groups;
         self.reach = reach_of_sum(self.reach, other.reach);
@@ -190,7 +199,7 @@ impl Pile {
         ensures too_large { IfErr result (λ fault. fault ≢ AddFault.OutOfMemory → IsUnlawfulSomewhere (weight_in_all self.old (slice_rows rows.entry))) }
     {
         let reach = self.reach + rows.reach();
-        let edges = rows.edge_count();
+        let edges = rows.all_edge_count();
         if reach > MAX_WEIGHT || edges > self.room {
             return self.add_and_measure(alloc, rows);
         }

@@ -10,7 +10,7 @@ use crate::slice::RowSlice;
 use std::sync::Arc;
 
 /// An iterator over the rows of groups, from the top down. Its steps are inlined, as those of `Walk` are.
-#[derive(Drop)]
+#[derive(Clone, Copy)]
 pub(crate) struct Rows<'a> {
     /// The rows of the current band that are still to come, the bands below it in its group, and the groups below that.
     rows: RowSlice<'a>,

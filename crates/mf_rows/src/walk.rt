@@ -85,7 +85,11 @@ impl<'a> Walk<'a> {
         if !self.edges.is_empty() {
             return;
         }
-        if let Some(row) = self.rows.next() {
+        // A copy goes to the call, so that what is used at each edge stays in registers.
+        let mut rows = self.rows;
+        let next = rows.next();
+        self.rows = rows;
+        if let Some(row) = next {
             self.y = row.y;
             self.edges = row.edges;
         }

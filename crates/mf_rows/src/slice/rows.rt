@@ -77,6 +77,15 @@ impl<'a> RowSlice<'a> {
         count
     }
 
+    /// The number of all edges of these rows, where those that rows share count once for each.
+    pub(crate) fn all_edge_count(self) -> usize {
+        let mut count = 0usize;
+        for head in self.heads {
+            count = count.saturating_add(row_of_head(self.edges, head).edges.len());
+        }
+        count
+    }
+
     /// A reach of all rows: no weight exceeds it in absolute value.
     pub(crate) fn reach(self) -> i32
         requires { AreRows (slice_rows self) }

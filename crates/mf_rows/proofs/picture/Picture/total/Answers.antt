@@ -1,10 +1,14 @@
-use Rattle.std.proofs.Common.{◌≡◌, ◌+ℤ◌, to_z, of_z, w64, arith}
+use Rattle.std.proofs.Common.{◌≡◌, ◌+ℤ◌, to_z, of_z, w64, refl, arith}
 use Rattle.std.proofs.lemmas.Int.{ints, to_z-of_z}
 use Rattle.mf_rows.specs.Dots.{total_of}
 use Rattle.mf_rows.specs.Runs.{dots_of}
 use Rattle.mf_rows.proofs.PassedRuns.{next_is_lawful}
 use Rattle.mf_rows.proofs.Totals.{total_none, total_more, total_fits, total_all}
 use Rattle.mf_rows.proofs.picture.Picture.total.Goals as goal
+
+pub returns-then-is_blank-clause-value : goal.returns-then-is_blank-clause-value
+unfolding total_of
+returns-then-is_blank-clause-value c = rw (c.is_blank.ensures.0 c.if-is_blank.true) refl
 
 pub loop-run-init : goal.loop-run-init
 loop-run-init c = total_none _ _ c.runs-run-items.ensures.lawful (rw c.into_iter-run-iterator.ensures.into_iter_gives c.runs-run-items.ensures.runs)

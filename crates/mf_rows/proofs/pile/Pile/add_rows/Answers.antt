@@ -1,6 +1,5 @@
-use Rattle.std.proofs.Common.{◌≡◌, ◌≤ℤ◌, ◌+ℤ◌, to_z, of_z, w32, arith}
+use Rattle.std.proofs.Common.{◌≡◌, ◌+ℤ◌, to_z, of_z, w32, arith}
 use Rattle.std.proofs.lemmas.Int.{ints}
-use Rattle.mf_edges.specs.LawfulWeights.{greatest_weight}
 use Rattle.mf_rows.specs.Bands.{slice_rows}
 use Rattle.mf_rows.proofs.PilesLemmas.{piled_rows, piled_with, reach_fits, reach_is_no_less, weights_with}
 use Rattle.mf_rows.proofs.pile.Pile.add_rows.Goals as goal

@@ -1,6 +1,5 @@
-use Rattle.std.proofs.Common.{◌≡◌, ◌+ℤ◌, to_z, of_z, w32, sym, arith}
+use Rattle.std.proofs.Common.{◌≡◌, to_z, of_z, w32, arith}
 use Rattle.std.proofs.lemmas.Int.{ints}
-use Rattle.mf_rows.specs.EdgeRows.{weight_in_rows}
 use Rattle.mf_rows.specs.Groups.{rows_of_groups}
 use Rattle.mf_rows.proofs.BothRowsLemmas.{weight_in_rows-both}
 use Rattle.mf_rows.proofs.PilesLemmas.{piled_rows}
