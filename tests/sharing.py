@@ -57,7 +57,7 @@ GROUP, BAND, LINE = 4 * 8 * 32, 1024, 512
 CONTOUR = LINE + 2 * (GROUPS + GROUP)
 # A copy needs a list of groups in the command, in the sum and in the picture that it becomes, and a sum of few groups makes these anew.
 LISTS = 4 * GROUPS
-# Where rows have more than 32 edges on average, a picture keeps the newest contours apart from them, in a second list of groups. They
+# Where rows have more than 128 edges on average, a picture keeps the newest contours apart from them, in a second list of groups. They
 # may have this many edges for each of the long rows, or a fourth of the edges of these, which is not more in a comb of 128 teeth. A
 # contour that exceeds that is added to the long rows, after those before it (mf_rows/src/pile.rt).
 NEWEST_EDGES = 64
@@ -66,8 +66,8 @@ PASS = 3 * 4 * ROWS
 # The edges of a row of a comb. With 128 teeth, those of all rows are ten times a pass.
 TEETH = 128
 COMB = 2 * TEETH * EDGE
-# With 30 teeth and a pole, a row has 62 edges, so it is long, but they are few enough for the list of its band. A band that is made
-# anew first has room for those of each of its rows, and gives back what rows with equal edges do not need.
+# With 30 teeth and a pole, a row has 62 edges. It is not long, and they are few enough for the list of its band. A band that is made anew
+# first has room for those of each of its rows, and gives back what rows with equal edges do not need.
 FEW = 30
 SHORT = 17 * (2 * FEW + 2) * EDGE
 
@@ -104,13 +104,13 @@ def comb(name, bottom, top, teeth=TEETH):
 
 
 def striped(name, teeth=TEETH):
-    """Lines for a comb in all rows of the field, and for a pole in all of them, which the picture keeps apart from the long rows."""
+    """Lines for a comb in all rows of the field, and for a pole in all of them, which the picture keeps apart where those are long."""
     return comb(name, -4095, 4095, teeth) + box(name, -2, -4095, -1, 4095)
 
 
 def settled(name, teeth=TEETH):
-    """Lines for the same picture after an operation that goes through all rows, and so adds the pole to them. Each row has its own
-    edges then, or each band where they are few."""
+    """Lines for the same picture after an operation that goes through all rows, and so adds the pole to them where it is apart. Each
+    row has its own edges then, or each band where they are few."""
     return striped(name, teeth) + f"{name} := {name} yscaled 1\n"
 
 

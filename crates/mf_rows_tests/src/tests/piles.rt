@@ -1,6 +1,6 @@
-//! Pictures with long rows, from which the newest contours are kept apart. Rows are long where they have more than 32 edges on average,
-//! and the contours may have 64 edges for each of these, or a fourth of their edges. Such a picture must answer and change like any
-//! other.
+//! Pictures with long rows, from which the newest contours are kept apart. Rows are long where they have more than 128 edges on average:
+//! where a 128th of their edges, rounded down, exceeds their number, so three rows are long from 512 edges on. The contours may have 64
+//! edges for each of these rows, or a fourth of their edges. Such a picture must answer and change like any other.
 ghost use Rattle.mf_rows.specs.Corners.{AreCorners};
 ghost use Rattle.std.specs.Prelude.{IfOk};
 
@@ -45,14 +45,14 @@ macro_rules! comb_of {
 /// The area in which all combs lie. It crosses borders between bands, one of which is between groups: row -2 is the first of a group.
 const AREA: [Rectangle; 1] = [Rectangle {
     left: -24,
-    bottom: -62,
-    right: 142,
-    top: 42,
+    bottom: -24,
+    right: 284,
+    top: 20,
     weight: 0,
 }];
 
-/// Three rows of 60 edges, from which contours of 192 edges may be kept apart.
-const LONG: Comb = comb_of!(0, 2, 30, -2, 1, 1);
+/// Three rows of 240 edges, from which contours of 192 edges may be kept apart.
+const LONG: Comb = comb_of!(0, 2, 120, -2, 1, 1);
 
 /// A picture, and the rectangles of which it is the sum, the area first.
 #[derive(Debug, Drop)]
@@ -161,18 +161,19 @@ fn assert_drawn<R: Abort + AllocGlobal>(rt: &R, combs: &[Comb]) {
 }
 
 /// Contours on long rows. Of the 192 edges that may be kept apart from these, the first two have 90 each, so the third one exceeds that and
-/// is added to the long rows together with them. Then 192 edges may be kept apart again. The next three contours have 90, 12 and 90, so
-/// the one after them is added to the long rows, too.
+/// is added to the long rows together with them. Then 192 edges may be kept apart again. The next three contours have 120, 10 and 60, so
+/// the one after them is added to the long rows, too. The five rows that there are then have 828 edges and are still long, so the last
+/// two stay apart.
 const ON_LONG: [Comb; 10] = [
     LONG,
     comb_of!(1, 3, 15, -2, 1, 2),
-    // It cancels every second tooth of the long rows.
+    // It cancels every second one of the first teeth of the long rows.
     comb_of!(0, 4, 15, -2, 1, -1),
     comb_of!(30, 2, 15, -1, 0, 1),
-    comb_of!(70, 2, 15, -2, 1, -3),
+    comb_of!(242, 2, 20, -2, 1, -3),
     // It reaches rows above and below the long ones.
-    comb_of!(-20, 1, 10, -4, 2, 1),
-    comb_of!(0, 4, 15, -2, 1, 1),
+    comb_of!(-20, 1, 10, -3, 2, 1),
+    comb_of!(0, 4, 10, -2, 1, 1),
     comb_of!(5, 1, 1, -2, 1, 1),
     comb_of!(2, 2, 20, -2, -1, -1),
     comb_of!(0, 1, 60, -2, 1, 1),
@@ -183,14 +184,14 @@ fn contours_are_added_to_long_rows(rt: HostRuntime) {
     assert_drawn(&rt, &ON_LONG);
 }
 
-/// Rows that become long. After the first contour, the picture looks at its size again when 192 more edges have come: at the fifth one,
-/// with which the rows have 70 edges.
+/// Rows that become long. The first contour has 160 edges in each of them, which is too few. After it, the picture looks at its size
+/// again when 192 more edges have come: at the fifth one, with which the rows have 198 edges.
 const BECOME_LONG: [Comb; 6] = [
-    comb_of!(0, 2, 10, -2, 1, 1),
-    comb_of!(20, 2, 10, -2, 1, 1),
-    comb_of!(40, 2, 10, -2, 1, 1),
+    comb_of!(0, 2, 80, -2, 1, 1),
+    comb_of!(160, 2, 8, -2, 1, 1),
+    comb_of!(176, 2, 8, -2, 1, 1),
     comb_of!(1, 3, 10, -2, 1, 1),
-    comb_of!(60, 2, 10, -2, 1, 1),
+    comb_of!(192, 2, 8, -2, 1, 1),
     comb_of!(0, 4, 10, -2, 1, -1),
 ];
 
@@ -199,11 +200,11 @@ fn rows_become_long(rt: HostRuntime) {
     assert_drawn(&rt, &BECOME_LONG);
 }
 
-/// A contour of a hundred short rows, after which the rows have few edges on average.
+/// A contour of forty short rows, which has too many edges to stay apart. After it, the rows have few edges on average.
 const BECOME_SHORT: [Comb; 4] = [
     LONG,
     comb_of!(1, 3, 10, -2, 1, 1),
-    comb_of!(90, 1, 1, -60, 40, 1),
+    comb_of!(250, 2, 2, -22, 18, 1),
     comb_of!(0, 4, 10, -2, 1, -1),
 ];
 
@@ -212,12 +213,15 @@ fn long_rows_become_few(rt: HostRuntime) {
     assert_drawn(&rt, &BECOME_SHORT);
 }
 
-/// Rows of 140 edges, which have lists of their own, and contours with as many.
-const OWN_LISTS: [Comb; 4] = [
-    comb_of!(0, 2, 70, -2, 0, 1),
-    comb_of!(3, 1, 2, -2, 0, 1),
-    comb_of!(1, 2, 70, -1, 1, 2),
-    comb_of!(0, 2, 70, -2, -1, -1),
+/// Contours with a row of 140 edges, which has a list of its own like each of the long rows. The first one of them stays apart, on a short
+/// row of the contour before it. The next one is added to the long rows together with those, and the last one stays apart again. It
+/// cancels teeth of a long row.
+const OWN_LISTS: [Comb; 5] = [
+    LONG,
+    comb_of!(3, 1, 2, -2, 1, 1),
+    comb_of!(1, 2, 70, -1, 0, 2),
+    comb_of!(0, 2, 70, -2, -1, -2),
+    comb_of!(0, 2, 70, 0, 1, -1),
 ];
 
 #[test]
@@ -225,17 +229,52 @@ fn contours_have_long_rows(rt: HostRuntime) {
     assert_drawn(&rt, &OWN_LISTS);
 }
 
-/// Contours that cancel long rows, one after another, until nothing is left. With 180 edges they stay apart.
+/// Contours that cancel long rows, one after another, until nothing is left. None of them stays apart: each has 240 edges.
 const CANCELLED: [Comb; 4] = [
     LONG,
-    comb_of!(0, 2, 30, 0, 1, -1),
-    comb_of!(0, 2, 30, -2, -1, -1),
-    comb_of!(0, 2, 30, -1, 0, -1),
+    comb_of!(0, 2, 120, 0, 1, -1),
+    comb_of!(0, 2, 120, -2, -1, -1),
+    comb_of!(0, 2, 120, -1, 0, -1),
 ];
 
 #[test]
 fn contours_cancel_long_rows(rt: HostRuntime) {
     assert_drawn(&rt, &CANCELLED);
+}
+
+/// A contour that cancels all but thirty teeth of the long rows.
+const MOST: Comb = comb_of!(0, 2, 90, -2, 1, -1);
+
+/// Contours that cancel the other teeth, one row after another.
+const REST: [Comb; 3] = [
+    comb_of!(180, 2, 30, 0, 1, -1),
+    comb_of!(180, 2, 30, -2, -1, -1),
+    comb_of!(180, 2, 30, -1, 0, -1),
+];
+
+/// The picture in which those teeth are left: a sum, which has its rows in the place of long ones, since one of the two pictures does. As
+/// many edges may be kept apart from them as from those of either picture: 192.
+fn mostly_cancelled<R: Abort + AllocGlobal>(rt: &R) -> Drawing {
+    Drawing::of(rt, &[LONG]).with(rt, &Drawing::of(rt, &[MOST]))
+}
+
+/// A picture of which nothing is left. The contours that cancel the last teeth have 180 edges, so they stay apart.
+fn cancelled<R: Abort + AllocGlobal>(rt: &R) -> Drawing {
+    let mut drawing = mostly_cancelled(rt);
+    for comb in &REST {
+        drawing.draw(rt, comb);
+    }
+    drawing
+}
+
+#[test]
+fn contours_apart_cancel_rows(rt: HostRuntime) {
+    let mut drawing = mostly_cancelled(&rt);
+    drawing.assert_answers(&rt, 0);
+    for (case, comb) in REST.iter().enumerate() {
+        drawing.draw(&rt, comb);
+        drawing.assert_answers(&rt, case.wrapping_add(1));
+    }
 }
 
 /// Long rows and contours apart from them. The first two contours reach long rows and change or cancel their edges; row 0 has none of
@@ -244,8 +283,8 @@ pub(crate) const APART: [Comb; 5] = [
     LONG,
     comb_of!(1, 3, 15, -2, 0, 2),
     comb_of!(0, 4, 10, -2, -1, -1),
-    comb_of!(3, 1, 4, 40, 41, 3),
-    comb_of!(-9, 1, 3, -61, -60, -2),
+    comb_of!(3, 1, 4, 18, 19, 3),
+    comb_of!(-9, 1, 3, -22, -21, -2),
 ];
 
 /// Long rows and contours apart from them with 180 edges, so many that the next contour finds too little room.
@@ -255,10 +294,10 @@ pub(crate) const MANY_APART: [Comb; 3] = [
     comb_of!(0, 4, 15, -2, 1, -1),
 ];
 
-/// Other long rows, some of them below those, and a contour apart from them.
+/// Other long rows, one of them below those, and a contour apart from them.
 pub(crate) const OTHERS: [Comb; 2] = [
-    comb_of!(1, 2, 40, -4, -1, -1),
-    comb_of!(5, 3, 8, -4, -2, -2),
+    comb_of!(1, 2, 100, -3, -1, -1),
+    comb_of!(5, 3, 8, -3, -2, -2),
 ];
 
 /// A contour that is added later.
@@ -282,7 +321,7 @@ fn pictures_are_made_from_contours_apart(rt: HostRuntime) {
 
 #[test]
 fn pictures_are_made_from_nothing_that_is_left(rt: HostRuntime) {
-    let drawing = Drawing::of(&rt, &CANCELLED);
+    let drawing = cancelled(&rt);
     assert_makes_equal(&rt, &drawing.picture, &Picture::blank(rt.alloc()));
     drawing.assert_answers(&rt, 0);
 }
@@ -331,7 +370,7 @@ fn contours_apart_are_added(rt: HostRuntime) {
     assert_added(&rt, &one, &other);
     assert_added(&rt, &other, &one);
     assert_added(&rt, &one, &one);
-    let none = Drawing::of(&rt, &CANCELLED);
+    let none = cancelled(&rt);
     assert_added(&rt, &one, &none);
     assert_added(&rt, &none, &one);
 }
@@ -346,8 +385,7 @@ fn contours_apart_are_added_to_settled_rows(rt: HostRuntime) {
 }
 
 /// Asserts that a picture stays as it is when it is settled, and that a contour is added to it after that.
-fn assert_settled<R: Abort + AllocGlobal>(rt: &R, combs: &[Comb]) {
-    let mut drawing = Drawing::of(rt, combs);
+fn assert_settled<R: Abort + AllocGlobal>(rt: &R, drawing: &mut Drawing) {
     for case in 0..2 {
         drawing.picture.settle(rt.alloc());
         drawing.assert_answers(rt, case);
@@ -358,16 +396,19 @@ fn assert_settled<R: Abort + AllocGlobal>(rt: &R, combs: &[Comb]) {
 
 #[test]
 fn pictures_are_settled(rt: HostRuntime) {
-    assert_settled(&rt, &APART);
-    assert_settled(&rt, &CANCELLED);
-    assert_settled(&rt, &[]);
+    for combs in [APART.as_slice(), &CANCELLED, &[]] {
+        let mut drawing = Drawing::of(&rt, combs);
+        assert_settled(&rt, &mut drawing);
+    }
+    let mut drawing = cancelled(&rt);
+    assert_settled(&rt, &mut drawing);
 }
 
 /// Columns and rows of pixels of the picture with contours apart, and whether they have a weight above 0: of a long row alone, of a
 /// contour alone, of both, of neither, and of a tooth that a contour cancels.
 const PIXELS: [(i32, i32, bool); 6] = [
     (2, 0, true),
-    (3, 40, true),
+    (3, 18, true),
     (7, -1, true),
     (4, -2, true),
     (41, 0, false),
@@ -406,12 +447,12 @@ fn weights_are_refused_where_contours_are_apart(rt: HostRuntime) {
 /// they are accepted. The weights have the sign of those pixels. The sum of the greatest ones exceeds 32767 from the third contour on,
 /// and only in column -2 are there weights that would.
 const HEAVY: [(i32, i32, bool); 9] = [
-    (100, 1, true),
-    (100, 1, true),
+    (250, 1, true),
+    (250, 1, true),
     (-2, 3, false),
-    (100, 3, true),
+    (250, 3, true),
     (-2, 1, true),
-    (100, 3, true),
+    (250, 3, true),
     (-2, 2, false),
     (-2, 1, true),
     (-2, 1, false),
