@@ -1,5 +1,5 @@
 //! The edges of two rows together, which are taken one after another from the left or from the right.
-ghost use Rattle.std.specs.Prelude.{◌≡◌, ◌∷◌, ◌++◌, [], IfNone, IfSome};
+ghost use Rattle.std.specs.Prelude.{◌≡◌, ◌∷◌, ◌++◌, [], IfNone, IfSome, drop};
 ghost use Rattle.mf_edges.specs.Edges.{AreEdges};
 ghost use Rattle.mf_rows.specs.BothEdges.{edges_of_both, AreLeftOfBoth, AreLeftOfBoth-prop, IsFirstOfBoth, IsLastOfBoth};
 
@@ -19,7 +19,7 @@ pub(crate) struct BothEdges<'a> {
 }
 
 impl<'a> BothEdges<'a> {
-    ghost use Rattle.std.specs.Prelude.{◌↔◌, IsTrue, drop};
+    ghost use Rattle.std.specs.Prelude.{◌↔◌, IsTrue};
     ghost use Rattle.mf_rows.specs.BothRest.{both_edges};
 
     /// No edges.
@@ -72,11 +72,10 @@ impl<'a> BothEdges<'a> {
         ensures first { IfSome result (λ edge. both_edges self.now ≡ edge ∷ drop 1 (both_edges self.now)) }
         ensures none { IfNone result (both_edges self.now ≡ []) }
     {
-        if let Some(edge) = self.alone.first() {
-            return Some(*edge);
+        match self.alone.first() {
+            Some(edge) => Some(*edge),
+            None => first_of_both(self.left, self.right),
         }
-        let (edge, _, _) = split_first(self.left, self.right)?;
-        Some(edge)
     }
 
     /// Takes the first edge away, `None` where there are none.
@@ -85,10 +84,23 @@ impl<'a> BothEdges<'a> {
         ensures first { IfSome result (λ edge. both_edges self.old ≡ edge ∷ both_edges self.new) }
         ensures none { IfNone result ((both_edges self.old ≡ []) × (both_edges self.new ≡ [])) }
     {
-        if let Some((edge, edges)) = self.alone.split_first() {
-            self.alone = edges;
-            return Some(*edge);
+        match self.alone.split_first() {
+            Some((edge, edges)) => {
+                self.alone = edges;
+                Some(*edge)
+            }
+            None => self.take_first_of_both(),
         }
+    }
+
+    /// Takes the first edge of two rows away, `None` where there are none. A step of its own, so that its locals are not cleared at each
+    /// edge of a row in one list.
+    #[inline(always)]
+    fn take_first_of_both(&mut self) -> Option<Edge>
+        requires { self.old.alone.now ≡ [] }
+        ensures first { IfSome result (λ edge. both_edges self.old ≡ edge ∷ both_edges self.new) }
+        ensures none { IfNone result ((both_edges self.old ≡ []) × (both_edges self.new ≡ [])) }
+    {
         let (edge, left, right) = split_first(self.left, self.right)?;
         (self.left, self.right) = (left, right);
         Some(edge)
@@ -108,6 +120,17 @@ impl<'a> BothEdges<'a> {
         self.alone = edges;
         Some(*edge)
     }
+}
+
+/// The first edge of two rows together, `None` where there are none.
+#[inline(never)]
+fn first_of_both(left: &[Edge], right: &[Edge]) -> Option<Edge>
+    requires { AreLeftOfBoth left.now right.now }
+    ensures first { IfSome result (λ edge. edges_of_both left.now right.now ≡ edge ∷ drop 1 (edges_of_both left.now right.now)) }
+    ensures none { IfNone result (edges_of_both left.now right.now ≡ []) }
+{
+    let (edge, _, _) = split_first(left, right)?;
+    Some(edge)
 }
 
 /// The first edge of two rows together, and what is left of them. Not inlined, so that what is done at each edge of a row in one list

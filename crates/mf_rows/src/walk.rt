@@ -82,10 +82,20 @@ impl<'a> Walk<'a> {
         ensures over { both_edges self.new.edges ≡ [] → remaining_runs self.new ≡ [] }
         ensures weight { self.new.weight ≡ self.old.weight }
     {
-        if !self.edges.is_empty() {
-            return;
+        if self.edges.is_empty() {
+            self.enter_next_row();
         }
-        // A copy goes to the call, so that what is used at each edge stays in registers.
+    }
+
+    /// Enters the next row. A step of its own, so that its locals are cleared once a row, and a copy of `rows` goes to the call, so that
+    /// what is used at each edge stays in registers.
+    #[inline(always)]
+    fn enter_next_row(&mut self)
+        requires { both_edges self.old.edges ≡ [] }
+        ensures left { remaining_runs self.new ≡ remaining_runs self.old }
+        ensures over { both_edges self.new.edges ≡ [] → remaining_runs self.new ≡ [] }
+        ensures weight { self.new.weight ≡ self.old.weight }
+    {
         let mut rows = self.rows;
         let next = rows.next();
         self.rows = rows;

@@ -5,11 +5,11 @@ use Rattle.mf_rows.specs.EdgeRows.{IsEdgeRow}
 use Rattle.mf_rows.specs.Rest.{AreEdgeRows}
 use Rattle.mf_rows.specs.Walk.{runs_of_edges}
 use Rattle.mf_rows.proofs.RemainingRuns.{rest_entered, runs_entered}
-use Rattle.mf_rows.proofs.walk.Walk.enter_row.Goals as goal
+use Rattle.mf_rows.proofs.walk.Walk.enter_next_row.Goals as goal
 
 pub invariant_of-self : goal.invariant_of-self
 invariant_of-self c =
-    let over = c.is_empty.ensures.0 c.if-not-is_empty.false in
+    let over = c.requires in
     let rows = subst AreEdgeRows c.in-Some.ensures.steps c.args.self.now.others in
     record {
       rest = rest_entered _ _ _ _ over c.args.self.now.rest rows;
@@ -18,7 +18,7 @@ invariant_of-self c =
 
 pub returns-in-Some-clause-left : goal.returns-in-Some-clause-left
 returns-in-Some-clause-left c =
-    let over = c.is_empty.ensures.0 c.if-not-is_empty.false in
+    let over = c.requires in
     let y_fits : FitsSigned w32 c.in-Some.row.y = search rules in
     let y : to_z w32 (of_z w32 c.in-Some.row.y) ≡ c.in-Some.row.y = omega (arith, ints) in
     rw (y, c.in-Some.ensures.steps) (runs_entered _ _ _ _ _ over c.args.self.now.rest)
