@@ -1,4 +1,4 @@
--- The first index at which a test answers true.
+-- The first place at which a test answers true.
 use Rattle.std.proofs.Common.{◌≡◌, ◌↔◌, ◌⊎◌, ℕ, zero, suc, ◌<◌, Bool, true, false, Option, Some, None, IfNone, IfSome, refl, sym, inl, inr, arith}
 use Rattle.std.proofs.lemmas.Bool.{cases_Bool, cases_lt, both_ways, false_from_ne_true}
 use Rattle.std.specs.Option.{option_or}
@@ -38,7 +38,7 @@ pub neither : {A : Type 0} (first later : Option A) → option_or first later �
 neither None later none = (refl, none)
 neither (Some x) later none = absurd cc
 
--- where there is no first index, the test answers false everywhere
+-- where there is no first place, the test answers false everywhere
 pub none_passes : (n : ℕ) (test : ℕ → Bool) → first_place n test ≡ None → (i : ℕ) → i < n → test i ≡ false
 unfolding first_place
 none_passes zero test none i below = absurd (omega arith)
@@ -50,7 +50,7 @@ none_passes (suc n) test none i below =
       | inr outer ↦ let last : i ≡ n = omega arith in rw last last_fails
     ]
 
--- the test answers true at a first index below n
+-- the test answers true at a first place below n
 record Found (n : ℕ) (test : ℕ → Bool) : Type 0 where
   place : ℕ
   below : place < n

@@ -20,7 +20,7 @@ unfolding sum_below
 sum_below-zero zero = refl
 sum_below-zero (suc n) = ap (λ s. s +ℤ pos 0) (sum_below-zero n)
 
-sum_below-add : (n : ℕ) (f g : ℕ → ℤ) → sum_below n (λ i. f i +ℤ g i) ≡ sum_below n f +ℤ sum_below n g
+pub sum_below-add : (n : ℕ) (f g : ℕ → ℤ) → sum_below n (λ i. f i +ℤ g i) ≡ sum_below n f +ℤ sum_below n g
 unfolding sum_below
 sum_below-add zero f g = refl
 sum_below-add (suc n) f g = let before = sum_below-add n f g in omega (arith, ints)
@@ -64,7 +64,7 @@ pub next_place-below : (ps : List Point) (i : ℕ) → i < length ps → next_pl
 unfolding next_place
 next_place-below ps i below = grind (arith, nat_tests)
 
--- a function that takes each index to the next, and the last to the first, only reorders the sum
+-- a function that takes each place to the next, and the last to the first, only reorders the sum
 sum_below-round : (n : ℕ) (next : ℕ → ℕ) (f : ℕ → ℤ) → ((i : ℕ) → i + 1 < n → next i ≡ i + 1)
     → ((i : ℕ) → i + 1 ≡ n → next i ≡ 0) → sum_below n (λ i. f (next i)) ≡ sum_below n f
 unfolding sum_below
@@ -73,17 +73,17 @@ sum_below-round (suc n) next f inner last =
     (λ t. sum_below-same n (λ i. f (next i)) (λ i. f (i + 1)) (λ i below. ap f (inner i (omega arith))) t +ℤ f (last n (omega arith) t))
     ∙ sum_below-next n f
 
--- round a cycle, the sum over the next indices is the sum over the indices
+-- round a cycle, the sum over the next places is the sum over the places
 pub sum_below-next_place : (ps : List Point) (f : ℕ → ℤ) → sum_below (length ps) (λ i. f (next_place ps i)) ≡ sum_below (length ps) f
 sum_below-next_place ps f = sum_below-round (length ps) (next_place ps) f (next_place-inner ps) (next_place-last ps)
 
--- so the differences from each index to the next add up to 0
+-- so the differences from each place to the next add up to 0
 pub sum_below-differences : (ps : List Point) (f : ℕ → ℤ) → sum_below (length ps) (λ i. f (next_place ps i) -ℤ f i) ≡ pos 0
 sum_below-differences ps f =
     let same = sum_below-next_place ps f in
     sum_below-sub (length ps) (λ i. f (next_place ps i)) f ∙ omega (arith, ints)
 
--- round a cycle, a sum of multiples stays the same when differences from each index to the next are added to its terms
+-- round a cycle, a sum of multiples stays the same when differences from each place to the next are added to its terms
 pub sum_below-mul_and_differences : (ps : List Point) (a : ℤ) (f g h : ℕ → ℤ)
     → ((i : ℕ) → i < length ps → f i ≡ a *ℤ g i +ℤ (h (next_place ps i) -ℤ h i)) → sum_below (length ps) f ≡ a *ℤ sum_below (length ps) g
 sum_below-mul_and_differences ps a f g h parts =

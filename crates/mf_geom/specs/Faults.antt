@@ -10,7 +10,7 @@ use Rattle.mf_geom.specs.declared.cycle.CycleFault.TheVariants.{TooFewPoints, To
 use Rattle.mf_geom.specs.Path.{Segment, point_at, segment_at, segment_into, across, up}
 use Rattle.mf_geom.specs.Turning.{turning}
 
--- the first index below n that passes the test
+-- the first place below n that passes the test
 unfoldable pub first_place : ℕ → (ℕ → Bool) → Option ℕ
 first_place zero test = None
 first_place (suc n) test = option_or (first_place n test) (if test n then Some n else None)

@@ -39,13 +39,13 @@ pub record PassesCheck (ps : List Point) : Type 0 where
   pub onward : NeverReverses ps
   pub turns : turning ps ≢ pos 0
 
--- i is the first index below n for which P holds
+-- i is the first place below n for which P holds
 pub record IsFirst (n : ℕ) (P : ℕ → Type 0) (i : ℕ) : Type 0 where
   pub below : i < n
   pub here : P i
   pub none_before : (k : ℕ) → k < i → P k → ⊥
 
--- the list is refused with this fault: the first that applies, in the order of the cases, at the first index where it
+-- the list is refused with this fault: the first that applies, in the order of the cases, at the first place where it
 -- does; the last two are from the turning check, and a cycle may have them
 unfoldable pub IsFault : List Point → CycleFault → Type 0
 IsFault ps TooFewPoints = length ps < fewest_points

@@ -3,7 +3,7 @@ use Rattle.std.specs.Prelude.{ℕ, List, ◌++◌, codes, decimal}
 use Rattle.mf_geom.specs.declared.cycle.CycleFault.{CycleFault}
 use Rattle.mf_geom.specs.declared.cycle.CycleFault.TheVariants.{TooFewPoints, TooManyPoints, PointOutOfRange, NotRectilinear, Backtracks, TurningZero}
 
--- the name of a fault, followed by a space and its index where it has one
+-- the name of a fault, followed by a space and its place where it has one
 abbrev pub fault_text : CycleFault → List ℕ
 fault_text TooFewPoints = codes "TooFewPoints"
 fault_text TooManyPoints = codes "TooManyPoints"

@@ -3,15 +3,15 @@ use Rattle.std.specs.Prelude.{◌≡◌, ◌≢◌, ℕ, ◌+◌, ◌-◌, ◌==
 use Rattle.mf_geom.specs.Coordinates.{IsCoordinate}
 use Rattle.mf_geom.specs.declared.point.Point.{Point}
 
--- the point at index i
+-- the point at place i
 unfoldable pub point_at : List Point → ℕ → Point
 point_at ps i = slice_index_or ps i (record { x = pos 0; y = pos 0 })
 
--- the index after i: after the last point comes the first
+-- the place after i: after the last point comes the first
 unfoldable pub next_place : List Point → ℕ → ℕ
 next_place ps i = if i + 1 == length ps then 0 else i + 1
 
--- the index before i: before the first point comes the last
+-- the place before i: before the first point comes the last
 unfoldable pub previous_place : List Point → ℕ → ℕ
 previous_place ps i = if i == 0 then length ps - 1 else i - 1
 

@@ -9,7 +9,7 @@ use std::error::Error;
 use std::fmt;
 use std::marker::Model;
 
-/// Why a list of points is not a cycle, or why a cycle fails the turning check. The number is the index, counted from
+/// Why a list of points is not a cycle, or why a cycle fails the turning check. The number is the place, counted from
 /// 0, of the first point, segment or vertex at fault; segment i leads from point i to the next one, and the last segment
 /// leads back to point 0.
 #[derive(Clone, Copy, Debug, PartialEq, Eq)]

@@ -53,7 +53,7 @@ pub fn area_is_whole()
 {}
 
 /// A list of points either is a cycle that passes the turning check or has exactly one fault: the first that applies, at the
-/// first index where it does. It is a cycle exactly where its form has no fault, and a cycle passes the turning check exactly
+/// first place where it does. It is a cycle exactly where its form has no fault, and a cycle passes the turning check exactly
 /// where that finds no fault.
 pub fn one_fault()
     ensures refused { (ps : List Point) (fault : CycleFault) → IsFault ps fault ↔ option_or (form_fault ps) (turning_fault ps) ≡ Some fault }

@@ -62,7 +62,7 @@ pub fn area(points: &[Point]) -> i64
     doubled / 2
 }
 
-/// The index of the first point out of range.
+/// The place of the first point out of range.
 fn first_out_of_range(points: &[Point]) -> Option<u32>
     requires { HasLawfulLength points.now }
     ensures value { result ≡ first_out_of_range points.now }
@@ -71,7 +71,7 @@ fn first_out_of_range(points: &[Point]) -> Option<u32>
     first_place(points.len(), |place| !is_in_range(points[place]))
 }
 
-/// The index of the first segment that is not rectilinear.
+/// The place of the first segment that is not rectilinear.
 fn first_not_rectilinear(points: &[Point]) -> Option<u32>
     requires { StaysInRange points.now }
     ensures { result ≡ first_not_rectilinear points.now }
@@ -87,7 +87,7 @@ pub fn first_reversal(points: &[Point]) -> Option<u32>
     first_place(points.len(), |vertex| is_reversal(points, vertex))
 }
 
-/// The first index below `count` for which `at_fault` answers true.
+/// The first place below `count` for which `at_fault` answers true.
 fn first_place<F: Fn(usize) -> bool>(count: usize, at_fault: F) -> Option<u32>
     requires few { count ≤ MAX_POINTS }
     requires callable { (k : ℕ) → k < count → F.pre at_fault k }

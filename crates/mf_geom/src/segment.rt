@@ -1,4 +1,4 @@
-//! The segments and vertices of a closed path, each given by its index in the path's slice of points: segment i leaves
+//! The segments and vertices of a closed path, each given by its place in the path's slice of points: segment i leaves
 //! vertex i.
 ghost use Rattle.std.specs.Prelude.{◌≡◌, ◌↔◌, ◌<◌, pos, negsuc, neg_ℤ, ◌*ℤ◌, ◌≤ℤ◌, length, IsTrue};
 ghost use Rattle.mf_geom.specs.Area.{shoelace_at};
@@ -92,7 +92,7 @@ pub fn ends(points: &[Point], segment: usize) -> (Point, Point)
     (points[segment], points[next_place(points, segment)])
 }
 
-/// The index after this one: after the last point comes the first.
+/// The place after this one: after the last point comes the first.
 #[tactic(auto, unfolding(crate::specs::Path::next_place))]
 fn next_place(points: &[Point], place: usize) -> usize
     requires { place < length points.now }
@@ -106,7 +106,7 @@ fn next_place(points: &[Point], place: usize) -> usize
     }
 }
 
-/// The index before this one: before the first point comes the last.
+/// The place before this one: before the first point comes the last.
 #[tactic(auto, unfolding(crate::specs::Path::previous_place))]
 fn previous_place(points: &[Point], place: usize) -> usize
     requires { place < length points.now }
