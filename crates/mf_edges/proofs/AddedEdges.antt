@@ -12,7 +12,8 @@ use Rattle.mf_geom.specs.Coordinates.{least_coordinate, greatest_coordinate}
 use Rattle.mf_edges.specs.declared.edge.Edge.{Edge}
 use Rattle.mf_edges.specs.Edges.{weight_in, IsEdge, AreEdgesFrom, AreOpenEdges}
 use Rattle.mf_edges.specs.Sums.{HaveWeights, with_edge_in}
-use Rattle.mf_edges.proofs.EdgesLemmas.{weight_in-left, weight_in-right, weight_in-before, edges_from-lower}
+use Rattle.mf_edges.proofs.EdgesAt.{edges_from-at, step_at_edge}
+use Rattle.mf_edges.proofs.EdgesLemmas.{edges_from-lower}
 
 -- what an edge adds to the weight at a column
 abbrev part_at : Edge → ℤ → ℤ
@@ -38,14 +39,6 @@ weight_in-insert [] (suc at) e x = refl
 weight_in-insert (f ∷ es) (suc at) e x = omega (arith, ints, weight_in-insert es at e x)
 
 -- ---- order
-
-pub edges_from-at : (low : ℤ) (es : List Edge) (at : ℕ) (d : Edge) → AreEdgesFrom low es → at < length es
-    → IsEdge (get_or es at d) × (low ≤ℤ (get_or es at d).x)
-edges_from-at low [] at d from lt = absurd (omega (arith, lt))
-edges_from-at low (e ∷ es) zero d from lt = (from.0, from.1)
-edges_from-at low (e ∷ es) (suc at) d from lt =
-    let rest = edges_from-at (e.x +ℤ pos 1) es at d from.2 (omega arith) in
-    (rest.0, omega (arith, ints, from.1, rest.1))
 
 edges_from-remove : (low : ℤ) (es : List Edge) (at : ℕ) → AreEdgesFrom low es → AreEdgesFrom low (remove es at)
 edges_from-remove low [] zero from = from
@@ -75,33 +68,9 @@ edges_from-insert low (f ∷ es) (suc at) e from le edge right before behind =
           (λ k lt. before (suc k) (omega arith)) (λ k ge lt. behind (suc k) (omega arith) (omega arith)),
     )
 
--- ---- the weight of an edge is the difference between the weights at its column and before it
+-- ---- the weight of an edge
 
-step_at_edge : (low : ℤ) (es : List Edge) (at : ℕ) (d : Edge) → AreEdgesFrom low es → at < length es
-    → weight_in es (get_or es at d).x ≡ weight_in es ((get_or es at d).x -ℤ pos 1) +ℤ (get_or es at d).weight
-step_at_edge low [] at d from lt = absurd (omega (arith, lt))
-step_at_edge low (e ∷ es) zero d from lt =
-    let after : e.x <ℤ (e.x +ℤ pos 1) = omega (arith, ints) in
-    omega (
-      arith,
-      ints,
-      weight_in-left e es e.x (omega (arith, ints)),
-      weight_in-right e es (e.x -ℤ pos 1) (omega (arith, ints)),
-      weight_in-before (e.x +ℤ pos 1) es e.x from.2 after,
-      weight_in-before (e.x +ℤ pos 1) es (e.x -ℤ pos 1) from.2 (omega (arith, ints)),
-    )
-step_at_edge low (e ∷ es) (suc at) d from lt =
-    let here = get_or es at d in
-    let right = (edges_from-at (e.x +ℤ pos 1) es at d from.2 (omega arith)).1 in
-    omega (
-      arith,
-      ints,
-      step_at_edge (e.x +ℤ pos 1) es at d from.2 (omega arith),
-      weight_in-left e es here.x (omega (arith, ints, right)),
-      weight_in-left e es (here.x -ℤ pos 1) (omega (arith, ints, right)),
-    )
-
--- so the weight fits, and a lawful weight may be added to it
+-- it is the difference of two lawful weights, so it fits, and a lawful weight may be added to it
 pub edge_is_small : (es : List Edge) (at : ℕ) (d : Edge) → AreOpenEdges es → at < length es → d ≡ get_or es at d
     → record { least : negsuc 65533 ≤ℤ d.weight; greatest : d.weight ≤ℤ pos 65534 }
 edge_is_small es at d edges lt read =

@@ -1,21 +1,21 @@
 -- The sum of two rows of edges, column by column.
-use Rattle.std.proofs.Common.{◌≡◌, ◌≢◌, ◌⊎◌, Bool, true, false, cond, ℤ, pos, ◌+ℤ◌, ◌-ℤ◌, ◌≤ℤ◌, ◌<ℤ◌, List, [], ◌∷◌, ◌++◌, refl, ap, sym, subst, ◌∙◌, ⊎_elim, arith}
+use Rattle.std.proofs.Common.{◌≡◌, ◌≢◌, ℕ, Bool, true, false, cond, ℤ, pos, ◌+ℤ◌, ◌-ℤ◌, ◌≤ℤ◌, ◌<ℤ◌, FitsSigned, to_z, of_z, w32, List, [], ◌∷◌, ◌++◌, get_or, take, drop, refl, ap, sym, subst, ◌∙◌, arith}
 use Rattle.std.specs.List.{All}
 use Rattle.std.specs.Int.RustNames.{int_le}
 use Rattle.std.specs.Ordering.{int_eq}
 use Rattle.std.proofs.lemmas.Bool.{cond-true, cond-false, cond_both}
 use Rattle.std.proofs.lemmas.Bool.Decides.{Decides-int_eq, not_from_Decides}
 use Rattle.std.proofs.lemmas.Int.{ints, by_lt_z}
-use Rattle.std.proofs.lemmas.List.{append-nil}
-use Rattle.std.proofs.lemmas.List.Elements.{All-head, All-tail, All-cons, All-nil, All-weaker, All-push}
+use Rattle.std.proofs.lemmas.List.{append-nil, append_assoc}
+use Rattle.std.proofs.lemmas.List.Elements.{All-append, All-drop, All-head, All-tail, All-nil, All-weaker, All-push}
 use Rattle.mf_geom.specs.Coordinates.{least_coordinate, greatest_coordinate}
 use Rattle.mf_edges.specs.declared.edge.Edge.{Edge}
 use Rattle.mf_edges.specs.LawfulWeights.{IsLawfulWeight}
 use Rattle.mf_edges.specs.Edges.{weight_in, AreEdgesFrom, AreEdges}
-use Rattle.mf_edges.specs.Merging.{IsChange, IsDifference, AreChanges, AreEdgesLeft, BeginAt, BeginFrom, IsSplitAt, unless_zero}
-use Rattle.mf_edges.specs.Sums.{with_edge_in, weight_in_both}
-use Rattle.mf_edges.specs.SumsSoFar.{IsSumSoFar}
-use Rattle.mf_edges.proofs.EdgesLemmas.{weight_in-append, weight_in-left, weight_in-right, weight_in-before, edges_from-append}
+use Rattle.mf_edges.specs.Merging.{IsDifference, AreChanges, AreEdgesLeft, BeginAt, BeginFrom, IsSplitAt, unless_zero}
+use Rattle.mf_edges.specs.Sums.{with_edge_in, weight_in_both, HasEdgeSum, HasMoreEdges}
+use Rattle.mf_edges.proofs.EdgesAt.{step_at_edge}
+use Rattle.mf_edges.proofs.EdgesLemmas.{weight_in-append, weight_in-left, weight_in-right, weight_in-parts, edges_from-append, edges_from-drop, edges_from-lower, edges_from-take}
 
 -- ---- one edge more
 
@@ -72,28 +72,11 @@ split_behind es x left apart = record {
   shorter = λ here. absurd (apart here);
 }
 
--- ---- the first column
-
 -- a column at which an edge may be, at or to the right of column low
 pub record IsColumnFrom (low x : ℤ) : Type 0 where
   pub from : low ≤ℤ x
   pub left : least_coordinate ≤ℤ x
   pub right : x ≤ℤ greatest_coordinate
-
-begins_in_reach : (low x : ℤ) (es : List Edge) → AreEdgesFrom low es → BeginAt x es → IsColumnFrom low x
-begins_in_reach low x [] sorted at = absurd at
-begins_in_reach low x (e ∷ es) sorted at =
-    let start : low ≤ℤ e.x = sorted.1 in
-    record { from = omega (arith, ints); left = omega (arith, ints, sorted.0.left); right = omega (arith, ints, sorted.0.right) }
-
--- column x is the first at which one of two rows has an edge
-pub record IsNextColumn (es fs : List Edge) (x : ℤ) : Type 0 where
-  pub left : BeginFrom x es
-  pub right : BeginFrom x fs
-  pub reached : BeginAt x es ⊎ BeginAt x fs
-
-first_in_reach : (low x : ℤ) (es fs : List Edge) → AreEdgesLeft low es → AreEdgesLeft low fs → IsNextColumn es fs x → IsColumnFrom low x
-first_in_reach low x es fs left right first = ⊎_elim (begins_in_reach low x es left.sorted) (begins_in_reach low x fs right.sorted) first.reached
 
 -- ---- rows of edges as changes
 
@@ -108,45 +91,25 @@ changes_of_edges es edges = record {
   closed = edges.closed;
 }
 
--- where edges change a change, each edge is the difference of two changes
-differences_from : (low weight : ℤ) (es : List Edge) → AreEdgesFrom low es
-    → ((x : ℤ) → IsChange (weight +ℤ weight_in es x)) → All (λ e. IsDifference e.weight) es
-differences_from low weight [] sorted changes = All-nil (λ e. IsDifference e.weight)
-differences_from low weight (e ∷ es) sorted changes =
-    let before = weight_in-right e es (e.x -ℤ pos 1) (omega (arith, ints)) in
-    let none_before = weight_in-before (e.x +ℤ pos 1) es (e.x -ℤ pos 1) sorted.2 (omega (arith, ints)) in
-    let here = weight_in-left e es e.x (omega (arith, ints)) in
-    let none_here = weight_in-before (e.x +ℤ pos 1) es e.x sorted.2 (omega (arith, ints)) in
-    let old = changes (e.x -ℤ pos 1) in
-    let new = changes e.x in
-    All-cons (λ e. IsDifference e.weight) e es
-    (record { least = omega (arith, ints, old.greatest, new.least); greatest = omega (arith, ints, old.least, new.greatest) })
-    (differences_from (e.x +ℤ pos 1) (weight +ℤ e.weight) es sorted.2 (λ x. by_lt_z x e.x
-    (λ lt. let none = weight_in-before (e.x +ℤ pos 1) es x sorted.2 (omega (arith, ints)) in subst IsChange (omega (arith, ints)) new)
-    (λ le. let whole = weight_in-left e es x le in subst IsChange (omega (arith, ints)) (changes x))))
-
+-- each of their edges is the difference of two changes
 pub changes_left : (es : List Edge) → AreChanges es → AreEdgesLeft least_coordinate es
 changes_left es changes = record {
   sorted = changes.sorted;
-  differences = differences_from least_coordinate (pos 0) es changes.sorted (λ x. subst IsChange (omega (arith, ints)) (changes.changes x));
+  differences = λ at d lt.
+      let e : Edge = get_or es at d in
+      let step = step_at_edge _ es at d changes.sorted lt in
+      let old = changes.changes (e.x -ℤ pos 1) in
+      let new = changes.changes e.x in
+      record { least = omega (arith, ints); greatest = omega (arith, ints) };
 }
 
--- ---- the sum so far
+pub difference_is : (w : ℤ) → IsDifference w → to_z w32 (of_z w32 w) ≡ w
+difference_is w difference = omega (arith, ints, difference.least, difference.greatest)
 
-pub sum_none : (es fs : List Edge) → AreEdges es → AreChanges fs → IsSumSoFar es fs [] es fs (pos 0)
-unfolding weight_in
-sum_none es fs left right = record {
-  low = least_coordinate;
-  reach = omega (arith, ints);
-  edges = record { sorted = tt; lawful = λ x. zero_lawful };
-  before = All-nil (λ e. e.x <ℤ least_coordinate);
-  left = changes_left es (changes_of_edges es left);
-  right = changes_left fs right;
-  running = λ x le. refl;
-  lawful = zero_lawful;
-  weights = λ x. omega (arith, ints);
-  later = λ x le. omega (arith, ints);
-}
+pub more_fits : (v w : ℤ) → IsDifference v → IsDifference w → FitsSigned w32 (v +ℤ w)
+more_fits v w left right = omega (arith, ints, left.least, left.greatest, right.least, right.greatest)
+
+-- ---- an edge is pushed
 
 -- one more edge at the end of the sum, unless its weight is 0
 pub by_push : (P : List Edge → Type 0) (sum : List Edge) (x w : ℤ) → (w ≡ pos 0 → P sum)
@@ -178,68 +141,119 @@ before_push sum low x w before le =
     by_push (All (λ e. e.x <ℤ (x +ℤ pos 1))) sum x w (λ _. old)
     (λ _. All-push (λ e. e.x <ℤ (x +ℤ pos 1)) sum (record { x = x; weight = w }) old (omega (arith, ints)))
 
+-- ---- the sum so far
+
+-- what was appended has, together with the edges that are left of two rows, their weights; the edges that are left are
+-- at or to the right of a column, and what was appended is to the left of it
+pub record IsSumSoFar (before whole_left whole_right after es fs : List Edge) : Type 0 where
+  pub more : List Edge
+  pub all : after ≡ before ++ more
+  pub low : ℤ
+  pub reach : least_coordinate ≤ℤ low
+  pub sorted : AreEdgesFrom least_coordinate more
+  pub below : All (λ e. e.x <ℤ low) more
+  pub left : AreEdgesLeft low es
+  pub right : AreEdgesLeft low fs
+  pub weights : (x : ℤ) → weight_in more x +ℤ weight_in_both es fs x ≡ weight_in_both whole_left whole_right x
+
+pub sum_none : (before es fs : List Edge) → AreEdges es → AreChanges fs → IsSumSoFar before es fs before es fs
+unfolding weight_in
+sum_none before es fs left right = record {
+  more = [];
+  all = sym (append-nil before);
+  low = least_coordinate;
+  reach = omega (arith, ints);
+  sorted = tt;
+  below = All-nil (λ e. e.x <ℤ least_coordinate);
+  left = changes_left es (changes_of_edges es left);
+  right = changes_left fs right;
+  weights = λ x. omega (arith, ints);
+}
+
 cond-sum : (test : Bool) (v w : ℤ) → cond test (v +ℤ w) (pos 0) ≡ cond test v (pos 0) +ℤ cond test w (pos 0)
 cond-sum true v w = refl
 cond-sum false v w = refl
 
-module _ (whole_left whole_right sum es fs : List Edge) (weight : ℤ)
-    (so_far : IsSumSoFar whole_left whole_right sum es fs weight) (x : ℤ) (first : IsNextColumn es fs x) where
-  pub reach : IsColumnFrom so_far.low x
-  reach = first_in_reach so_far.low x es fs so_far.left so_far.right first
+module _ (before whole_left whole_right after es fs : List Edge) (so_far : IsSumSoFar before whole_left whole_right after es fs) where
+  appended : (gs : List Edge) → after ++ gs ≡ before ++ (so_far.more ++ gs)
+  appended gs = ap (λ t. t ++ gs) so_far.all ∙ append_assoc before so_far.more gs
 
-  module _ (others_left others_right : List Edge) (v w : ℤ) (split_left : IsSplitAt es x v others_left) (split_right : IsSplitAt fs x w others_right) where
-    pub sum_at_column : weight_in_both whole_left whole_right x ≡ weight +ℤ (v +ℤ w)
-    unfolding weight_in_both
-    sum_at_column =
-        let old = so_far.weights x in
-        let running = so_far.running x reach.from in
-        let left = split_left.weights.weights x ∙ with_edge_in-behind others_left x v x (omega (arith, ints)) in
-        let right = split_right.weights.weights x ∙ with_edge_in-behind others_right x w x (omega (arith, ints)) in
-        let none_left = weight_in-before (x +ℤ pos 1) others_left x split_left.left.sorted (omega (arith, ints)) in
-        let none_right = weight_in-before (x +ℤ pos 1) others_right x split_right.left.sorted (omega (arith, ints)) in
-        omega (arith, ints)
+  pub left_sorted : AreEdgesFrom least_coordinate es
+  left_sorted = edges_from-lower least_coordinate so_far.low es so_far.reach so_far.left.sorted
 
-    running_more : (c : ℤ) → x ≤ℤ c → weight_in (sum ++ unless_zero (record { x = x; weight = v +ℤ w })) c ≡ weight +ℤ (v +ℤ w)
-    running_more c le =
-        let old = so_far.running c (omega (arith, ints, reach.from)) in
-        let more = weight_in-push sum x (v +ℤ w) c ∙ with_edge_in-behind sum x (v +ℤ w) c le in
-        omega (arith, ints)
+  -- whatever they are, edges were appended
+  pub sum_kept : (gs : List Edge) → HasMoreEdges before (after ++ gs)
+  sum_kept gs = record { more = so_far.more ++ gs; all = appended gs }
 
-    weights_more : (c : ℤ) → weight_in (sum ++ unless_zero (record { x = x; weight = v +ℤ w })) c +ℤ weight_in_both others_left others_right c
-        ≡ weight_in_both whole_left whole_right c
-    unfolding weight_in_both with_edge_in
-    weights_more c =
-        let old = so_far.weights c in
-        let more = weight_in-push sum x (v +ℤ w) c in
-        let left = split_left.weights.weights c in
-        let right = split_right.weights.weights c in
-        let both = cond-sum (int_le x c) v w in
-        omega (arith, ints)
+-- the next change, which comes after the first n edges of the left row
+pub record IsNextChange (es changes : List Edge) (n : ℕ) (f : Edge) (fs : List Edge) : Type 0 where
+  pub next : changes ≡ f ∷ fs
+  pub below : All (λ e. e.x <ℤ f.x) (take n es)
+  pub from : BeginFrom f.x (drop n es)
 
-    later_more : (c : ℤ) → (x +ℤ pos 1) ≤ℤ c
-        → weight_in whole_right c -ℤ weight_in others_right c ≡ weight_in whole_right greatest_coordinate -ℤ weight_in others_right greatest_coordinate
-    later_more c le =
-        let old = so_far.later c (omega (arith, ints, reach.from)) in
-        let here = split_right.weights.weights c ∙ with_edge_in-behind others_right x w c (omega (arith, ints)) in
-        let last = split_right.weights.weights greatest_coordinate ∙ with_edge_in-behind others_right x w greatest_coordinate reach.right in
-        omega (arith, ints)
+-- these edges join, and then the change with the edge at its column
+module _ (before whole_left whole_right after es changes : List Edge) (n : ℕ) (f : Edge) (fs : List Edge)
+    (so_far : IsSumSoFar before whole_left whole_right after es changes) (is_next : IsNextChange es changes n f fs) where
+  right_left : AreEdgesLeft so_far.low (f ∷ fs)
+  right_left = subst (AreEdgesLeft so_far.low) is_next.next so_far.right
 
-    pub sum_more : IsLawfulWeight (weight +ℤ (v +ℤ w))
-        → IsSumSoFar whole_left whole_right (sum ++ unless_zero (record { x = x; weight = v +ℤ w })) others_left others_right (weight +ℤ (v +ℤ w))
-    sum_more lawful = record {
-      low = x +ℤ pos 1;
-      reach = omega (arith, ints, reach.left);
-      edges = record {
-        sorted = sorted_push sum so_far.low x (v +ℤ w) so_far.edges.sorted so_far.before reach;
-        lawful = λ c. by_lt_z c x
-            (λ before. subst IsLawfulWeight (sym (weight_in-push sum x (v +ℤ w) c ∙ with_edge_in-before sum x (v +ℤ w) c before)) (so_far.edges.lawful c))
-            (λ behind. subst IsLawfulWeight (sym (running_more c behind)) lawful);
-      };
-      before = before_push sum so_far.low x (v +ℤ w) so_far.before reach.from;
-      left = split_left.left;
-      right = split_right.left;
-      running = λ c le. running_more c (omega (arith, ints));
-      lawful = lawful;
-      weights = weights_more;
-      later = later_more;
-    }
+  pub left_of_change : AreEdgesLeft f.x (drop n es)
+  left_of_change = record {
+    sorted = edges_from-drop so_far.low f.x n es so_far.left.sorted is_next.from;
+    differences = All-drop (λ e. IsDifference e.weight) n es so_far.left.differences;
+  }
+
+  pub change_difference : IsDifference f.weight
+  change_difference = All-head (λ e. IsDifference e.weight) f fs right_left.differences
+
+  abbrev kept : List Edge
+  kept = so_far.more ++ take n es
+
+  kept_sorted : AreEdgesFrom least_coordinate kept
+  kept_sorted =
+      edges_from-append least_coordinate so_far.low so_far.more (take n es) so_far.reach so_far.sorted so_far.below
+      (edges_from-take so_far.low n es so_far.left.sorted)
+
+  kept_below : All (λ e. e.x <ℤ f.x) kept
+  kept_below =
+      let start : so_far.low ≤ℤ f.x = right_left.sorted.1 in
+      All-append (λ e. e.x <ℤ f.x) so_far.more (take n es)
+      (All-weaker (λ e. e.x <ℤ so_far.low) (λ e. e.x <ℤ f.x) (λ e lt. omega (arith, ints)) so_far.more so_far.below) is_next.below
+
+  pub sum_more : (v : ℤ) (others : List Edge) → IsSplitAt (drop n es) f.x v others
+      → IsSumSoFar before whole_left whole_right ((after ++ take n es) ++ unless_zero (record { x = f.x; weight = v +ℤ f.weight })) others fs
+  unfolding weight_in weight_in_both with_edge_in
+  sum_more v others split =
+      let edge = right_left.sorted.0 in
+      let column : IsColumnFrom f.x f.x = record { from = omega (arith, ints); left = edge.left; right = edge.right } in
+      record {
+        more = kept ++ unless_zero (record { x = f.x; weight = v +ℤ f.weight });
+        all = ap (λ t. t ++ unless_zero (record { x = f.x; weight = v +ℤ f.weight })) (appended _ _ _ _ _ _ so_far (take n es)) ∙ append_assoc before kept _;
+        low = f.x +ℤ pos 1;
+        reach = omega (arith, ints, edge.left);
+        sorted = sorted_push kept f.x f.x (v +ℤ f.weight) kept_sorted kept_below column;
+        below = before_push kept f.x f.x (v +ℤ f.weight) kept_below column.from;
+        left = split.left;
+        right = record { sorted = right_left.sorted.2; differences = All-tail (λ e. IsDifference e.weight) f fs right_left.differences };
+        weights = λ x.
+            let old = subst (λ fs. weight_in so_far.more x +ℤ weight_in_both es fs x ≡ weight_in_both whole_left whole_right x) is_next.next (so_far.weights x) in
+            let parts = weight_in-parts n es x in
+            let pushed = weight_in-push kept f.x (v +ℤ f.weight) x in
+            let joined = weight_in-append so_far.more (take n es) x in
+            let here = split.weights.weights x in
+            let both = cond-sum (int_le f.x x) v f.weight in
+            omega (arith, ints);
+      }
+
+-- where no change is left, all other edges of the left row join
+pub sum_all : (before whole_left whole_right after es : List Edge) → IsSumSoFar before whole_left whole_right after es []
+    → HasEdgeSum before whole_left whole_right (after ++ es)
+unfolding weight_in weight_in_both
+sum_all before whole_left whole_right after es so_far = record {
+  more = so_far.more ++ es;
+  all = appended _ _ _ _ _ _ so_far es;
+  sum = record {
+    sorted = edges_from-append least_coordinate so_far.low so_far.more es so_far.reach so_far.sorted so_far.below so_far.left.sorted;
+    weights = record { weights = λ x. let old = so_far.weights x in let joined = weight_in-append so_far.more es x in omega (arith, ints) };
+  };
+}

@@ -1,12 +1,14 @@
 -- The weights of edges.
-use Rattle.std.proofs.Common.{◌≡◌, ℤ, pos, ◌+ℤ◌, ◌≤ℤ◌, ◌<ℤ◌, int_le, true, false, List, [], ◌∷◌, ◌++◌, refl, sym, ap, ◌∙◌, arith}
+use Rattle.std.proofs.Common.{◌≡◌, ℕ, zero, suc, ℤ, pos, ◌+ℤ◌, ◌≤ℤ◌, ◌<ℤ◌, int_le, true, false, List, [], ◌∷◌, ◌++◌, take, drop, refl, sym, ap, ◌∙◌, arith}
 use Rattle.std.specs.List.{All}
 use Rattle.std.proofs.lemmas.Bool.{cond-true, cond-false}
 use Rattle.std.proofs.lemmas.Int.{ints, by_lt_z}
+use Rattle.std.proofs.lemmas.List.{take-append-drop}
 use Rattle.std.proofs.lemmas.List.Elements.{All-head, All-tail}
 use Rattle.mf_geom.specs.Coordinates.{least_coordinate, greatest_coordinate, last_in_field}
 use Rattle.mf_edges.specs.declared.edge.Edge.{Edge}
 use Rattle.mf_edges.specs.Edges.{weight_in, AreEdgesFrom, AreEdges}
+use Rattle.mf_edges.specs.Merging.{BeginFrom}
 
 pub weight_in-append : (es fs : List Edge) (x : ℤ) → weight_in (es ++ fs) x ≡ weight_in es x +ℤ weight_in fs x
 unfolding weight_in
@@ -57,6 +59,21 @@ edges_from-append low middle [] fs le front before back = edges_from-lower low m
 edges_from-append low middle (e ∷ es) fs le front before back =
     let lower : e.x <ℤ middle = All-head (λ e. e.x <ℤ middle) e es before in
     (front.0, front.1, edges_from-append (e.x +ℤ pos 1) middle es fs (omega (arith, ints)) front.2 (All-tail (λ e. e.x <ℤ middle) e es before) back)
+
+-- the first edges and the others
+pub edges_from-take : (low : ℤ) (n : ℕ) (es : List Edge) → AreEdgesFrom low es → AreEdgesFrom low (take n es)
+edges_from-take low zero es edges = tt
+edges_from-take low (suc n) [] edges = tt
+edges_from-take low (suc n) (e ∷ es) edges = (edges.0, edges.1, edges_from-take (e.x +ℤ pos 1) n es edges.2)
+
+pub edges_from-drop : (low x : ℤ) (n : ℕ) (es : List Edge) → AreEdgesFrom low es → BeginFrom x (drop n es) → AreEdgesFrom x (drop n es)
+edges_from-drop low x zero [] edges from = tt
+edges_from-drop low x zero (e ∷ es) edges from = (edges.0, from, edges.2)
+edges_from-drop low x (suc n) [] edges from = tt
+edges_from-drop low x (suc n) (e ∷ es) edges from = edges_from-drop (e.x +ℤ pos 1) x n es edges.2 from
+
+pub weight_in-parts : (n : ℕ) (es : List Edge) (x : ℤ) → weight_in es x ≡ weight_in (take n es) x +ℤ weight_in (drop n es) x
+weight_in-parts n es x = ap (λ es. weight_in es x) (sym (take-append-drop n es)) ∙ weight_in-append (take n es) (drop n es) x
 
 -- outside the columns of the field a row has weight 0
 pub weight_in-outside : (es : List Edge) (x : ℤ) → AreEdges es → (least_coordinate ≤ℤ x → x ≤ℤ last_in_field → ⊥) → weight_in es x ≡ pos 0

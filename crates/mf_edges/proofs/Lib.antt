@@ -1,12 +1,11 @@
 pub mod AddedEdges
-pub mod AppendedSums
 pub mod EdgeChanges
 pub mod EdgeMaps
-pub mod EdgesJoined
+pub mod EdgesAt
 pub mod EdgesLemmas
 pub mod EdgeSums
 pub mod Falls
+pub mod LeftOfColumns
 pub mod ReachesLemmas
-pub mod ReachesOfSums
 pub mod Sources
-pub mod SumsBefore
+pub mod TotalsLemmas

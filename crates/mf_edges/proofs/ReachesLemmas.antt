@@ -1,67 +1,123 @@
--- The reach of a row, edge by edge.
-use Rattle.std.proofs.Common.{◌≡◌, ◌<◌, ◌+◌, cond, nat_abs, Bool, true, false, ℕ, ℤ, get_or, drop, length, FitsSigned, to_z, of_z, w32, neg_ℤ, pos, ◌+ℤ◌, ◌-ℤ◌, ◌≤ℤ◌, ◌<ℤ◌, List, [], ◌∷◌, refl, sym, ap, subst, ◌∙◌, arith}
+-- The reach of edges, and of the sum of two rows.
+use Rattle.std.proofs.Common.{◌≡◌, ◌<◌, ◌≤◌, ◌+◌, cond, nat_abs, ℕ, ℤ, get_or, take, length, FitsSigned, to_z, of_z, w32, pos, ◌+ℤ◌, ◌-ℤ◌, ◌≤ℤ◌, ◌<ℤ◌, List, refl, sym, ap, subst, ◌∙◌, arith}
 use Rattle.std.specs.Ordering.{int_cmp, is_lt, ord_max}
 use Rattle.std.proofs.lemmas.Cmp.{by_ranked, int_ranked}
 use Rattle.std.proofs.lemmas.Int.{ints, by_lt_z}
-use Rattle.std.proofs.lemmas.List.{drop_more}
-use Rattle.mf_geom.specs.Coordinates.{least_coordinate}
+use Rattle.std.proofs.lemmas.List.{take_all}
+use Rattle.mf_geom.specs.Coordinates.{least_coordinate, greatest_coordinate}
 use Rattle.mf_edges.specs.declared.edge.Edge.{Edge}
-use Rattle.mf_edges.specs.LawfulWeights.{least_weight, greatest_weight}
-use Rattle.mf_edges.specs.Edges.{weight_in, AreEdgesFrom, AreEdges}
-use Rattle.mf_edges.specs.Reaches.{IsAttained, StaysInReach}
-use Rattle.mf_edges.proofs.EdgesLemmas.{weight_in-left, weight_in-right, weight_in-before}
+use Rattle.mf_edges.specs.LawfulWeights.{IsLawfulWeight, least_weight, greatest_weight}
+use Rattle.mf_edges.specs.Edges.{weight_in, AreEdges}
+use Rattle.mf_edges.specs.Merging.{AreChanges, IsChange, greatest_change}
+use Rattle.mf_edges.specs.Reaches.{IsLeastReach, StaysInReach}
+use Rattle.mf_edges.specs.Sums.{IsEdgeSum, IsUnlawfulColumn, weight_in_both}
+use Rattle.mf_edges.proofs.EdgesAt.{edges_from-at, step_at_edge, weight_in-take_behind, weight_in-take_more, weight_in-take_same}
+use Rattle.mf_edges.proofs.EdgesLemmas.{weight_in-before}
 
--- a weight does not exceed a reach in absolute value
-pub record IsInReach (reach w : ℤ) : Type 0 where
-  pub least : pos 0 ≤ℤ (w +ℤ reach)
-  pub greatest : w ≤ℤ reach
+-- the greater of two numbers is one of them
+by_greater : (P : ℤ → Type 0) (a b : ℤ) → (b ≤ℤ a → P a) → (a ≤ℤ b → P b) → P (ord_max int_cmp a b)
+by_greater P a b first second =
+    by_ranked _ _ _ (int_cmp b a) (int_ranked b a (int_cmp b a) refl)
+    (λ less under. subst P (sym (ap (λ o. cond (is_lt o) a b) less)) (first (omega (arith, ints, under))))
+    (λ equal same. subst P (sym (ap (λ o. cond (is_lt o) a b) equal)) (second (omega (arith, ints, same))))
+    (λ greater over. subst P (sym (ap (λ o. cond (is_lt o) a b) greater)) (second (omega (arith, ints, over))))
 
--- ---- the reach of the edges that were passed
+pub record IsGreater (a b greater bound : ℤ) : Type 0 where
+  pub left : a ≤ℤ greater
+  pub right : b ≤ℤ greater
+  pub most : greater ≤ℤ bound
 
--- the weights to the left of the rest of a row stay in a reach, and the weight just before the rest is w
-pub record IsReachBefore (es rest : List Edge) (w reach : ℤ) : Type 0 where
-  pub low : ℤ
-  pub sorted : AreEdgesFrom low rest
-  pub before : (x : ℤ) → x <ℤ low → IsInReach reach (weight_in es x)
-  pub behind : (x : ℤ) → low ≤ℤ x → weight_in es x ≡ w +ℤ weight_in rest x
-  pub now : IsInReach reach w
-  pub most : reach ≤ℤ greatest_weight
+pub ord_max_is : (a b most : ℤ) → a ≤ℤ most → b ≤ℤ most → IsGreater a b (ord_max int_cmp a b) most
+ord_max_is a b most below_a below_b =
+    by_greater (λ greater. IsGreater a b greater most) a b
+    (λ le. record { left = omega (arith, ints); right = le; most = below_a })
+    (λ le. record { left = le; right = omega (arith, ints); most = below_b })
 
-pub reach_none : (es : List Edge) → AreEdges es → IsReachBefore es es (pos 0) (pos 0)
-reach_none es edges = record {
-  low = least_coordinate;
-  sorted = edges.sorted;
-  before = λ x left. let none = weight_in-before least_coordinate es x edges.sorted left in record {
-    least = omega (arith, ints);
-    greatest = omega (arith, ints);
-  };
-  behind = λ x right. omega (arith, ints);
-  now = record { least = omega (arith, ints); greatest = omega (arith, ints) };
-  most = omega (arith, ints);
+-- ---- the least reach of edges, edge by edge
+
+-- w is the weight behind the first edges, no weight of these exceeds a reach in absolute value, and a weight of all edges has it
+pub record IsReachSoFar (es : List Edge) (count : ℕ) (w reach : ℤ) : Type 0 where
+  pub weight : w ≡ weight_in (take count es) greatest_coordinate
+  pub least : (x : ℤ) → pos 0 ≤ℤ (weight_in (take count es) x +ℤ reach)
+  pub greatest : (x : ℤ) → weight_in (take count es) x ≤ℤ reach
+  pub x : ℤ
+  pub here : pos (nat_abs (weight_in es x)) ≡ reach
+
+pub reach_none : (es : List Edge) → AreChanges es → IsReachSoFar es 0 (pos 0) (pos 0)
+unfolding weight_in
+reach_none es changes = record {
+  weight = refl;
+  least = λ x. omega (arith, ints);
+  greatest = λ x. omega (arith, ints);
+  x = least_coordinate -ℤ pos 1;
+  here = ap (λ w. pos (nat_abs w)) (weight_in-before least_coordinate es (least_coordinate -ℤ pos 1) changes.sorted (omega (arith, ints)));
 }
 
-pub reach_read : (es : List Edge) (i : ℕ) (d : Edge) (w reach : ℤ) → i < length es
-    → IsReachBefore es (drop i es) w reach → IsReachBefore es (get_or es i d ∷ drop (i + 1) es) w reach
-reach_read es i d w reach inside before = subst (λ rest. IsReachBefore es rest w reach) (drop_more es i d inside) before
+-- the weights before and behind an edge, and the reach so far
+pub record AreChangesAt (w change reach : ℤ) : Type 0 where
+  pub before : IsChange w
+  pub behind : IsChange (w +ℤ change)
+  pub reached : IsChange reach
 
--- to the left of its first edge the rest of a row adds nothing
-rest_before : (e : Edge) (rest : List Edge) (low x : ℤ) → AreEdgesFrom low (e ∷ rest) → x <ℤ e.x → weight_in (e ∷ rest) x ≡ pos 0
-rest_before e rest low x sorted left = weight_in-right e rest x left ∙ weight_in-before (e.x +ℤ pos 1) rest x sorted.2 (omega (arith, ints))
+module _ (es : List Edge) (count : ℕ) (d : Edge) (w reach : ℤ) (changes : AreChanges es) (inside : count < length es)
+    (so_far : IsReachSoFar es count w reach) where
+  abbrev pub e : Edge
+  e = get_or es count d
 
--- at the column of its first edge it adds that edge's weight alone
-rest_at : (e : Edge) (rest : List Edge) (low x : ℤ) → AreEdgesFrom low (e ∷ rest) → x ≡ e.x → weight_in (e ∷ rest) x ≡ e.weight
-rest_at e rest low x sorted here =
-    let first = weight_in-left e rest x (omega (arith, ints)) in
-    let none = weight_in-before (e.x +ℤ pos 1) rest x sorted.2 (omega (arith, ints)) in
-    omega (arith, ints)
+  before : (x : ℤ) → e.x ≤ℤ x → weight_in (take count es) x ≡ w
+  before x behind =
+      let right = (edges_from-at least_coordinate es count d changes.sorted inside).0.right in
+      weight_in-take_behind least_coordinate es count d x changes.sorted inside behind
+      ∙ sym (weight_in-take_behind least_coordinate es count d greatest_coordinate changes.sorted inside right) ∙ sym so_far.weight
 
--- the weight from an edge on is a weight of the row
-pub weight_behind : (es : List Edge) (e : Edge) (rest : List Edge) (w reach : ℤ) → IsReachBefore es (e ∷ rest) w reach → weight_in es e.x ≡ w +ℤ e.weight
-weight_behind es e rest w reach so_far =
-    let start = so_far.sorted.1 in
-    let all = so_far.behind e.x start in
-    let here = rest_at e rest so_far.low e.x so_far.sorted refl in
-    omega (arith, ints)
+  at_edge : weight_in es e.x ≡ w +ℤ e.weight
+  at_edge =
+      let step = step_at_edge least_coordinate es count d changes.sorted inside in
+      let old = weight_in-take_behind least_coordinate es count d e.x changes.sorted inside (omega (arith, ints)) in
+      let same = before e.x (omega (arith, ints)) in
+      omega (arith, ints)
+
+  pub changes_at : AreChangesAt w e.weight reach
+  changes_at =
+      let old = weight_in-take_behind least_coordinate es count d e.x changes.sorted inside (omega (arith, ints)) in
+      let same = before e.x (omega (arith, ints)) in
+      let reached = changes.changes so_far.x in
+      let here = so_far.here in
+      record {
+        before = subst IsChange (sym old ∙ same) (changes.changes (e.x -ℤ pos 1));
+        behind = subst IsChange at_edge (changes.changes e.x);
+        reached = record { least = omega (arith, ints); greatest = omega (arith, ints) };
+      }
+
+  grown : (next : ℤ) → reach ≤ℤ next → pos (nat_abs (w +ℤ e.weight)) ≤ℤ next → (x : ℤ) → pos (nat_abs (weight_in es x)) ≡ next
+      → IsReachSoFar es (count + 1) (w +ℤ e.weight) next
+  grown next wider enough x here =
+      let right = (edges_from-at least_coordinate es count d changes.sorted inside).0.right in
+      record {
+        weight = sym (weight_in-take_more es count d greatest_coordinate inside right ∙ ap (λ v. v +ℤ e.weight) (sym so_far.weight));
+        least = λ x. by_lt_z x e.x
+            (λ left. let same = weight_in-take_same es count d x inside left in let old = so_far.least x in omega (arith, ints))
+            (λ behind. let more = weight_in-take_more es count d x inside behind in let old = before x behind in omega (arith, ints));
+        greatest = λ x. by_lt_z x e.x
+            (λ left. let same = weight_in-take_same es count d x inside left in let old = so_far.greatest x in omega (arith, ints))
+            (λ behind. let more = weight_in-take_more es count d x inside behind in let old = before x behind in omega (arith, ints));
+        x = x;
+        here = here;
+      }
+
+  -- the greater of the reach and the absolute value of the next weight is the next reach
+  pub reach_more : IsReachSoFar es (count + 1) (w +ℤ e.weight) (ord_max int_cmp reach (pos (nat_abs (w +ℤ e.weight))))
+  reach_more =
+      by_greater (IsReachSoFar es (count + 1) (w +ℤ e.weight)) reach (pos (nat_abs (w +ℤ e.weight)))
+      (λ enough. grown reach (omega (arith, ints)) enough so_far.x so_far.here)
+      (λ wider. grown (pos (nat_abs (w +ℤ e.weight))) wider (omega (arith, ints)) e.x (ap (λ v. pos (nat_abs v)) at_edge))
+
+pub reach_all : (es : List Edge) (w reach : ℤ) (count : ℕ) → IsReachSoFar es count w reach → length es ≤ count → IsLeastReach reach es
+reach_all es w reach count so_far end =
+    let all = subst (λ fs. (x : ℤ) → (pos 0 ≤ℤ (weight_in fs x +ℤ reach)) × (weight_in fs x ≤ℤ reach)) (take_all count es end) (λ x. (so_far.least x, so_far.greatest x)) in
+    record { least = λ x. (all x).0; greatest = λ x. (all x).1; x = so_far.x; here = so_far.here }
+
+-- ---- numbers that fit
 
 -- the weight before an edge and the weight after it are lawful
 pub record IsNextWeight (w change : ℤ) : Type 0 where
@@ -69,19 +125,6 @@ pub record IsNextWeight (w change : ℤ) : Type 0 where
   pub greatest : w ≤ℤ greatest_weight
   pub next_least : least_weight ≤ℤ (w +ℤ change)
   pub next_greatest : (w +ℤ change) ≤ℤ greatest_weight
-
-pub next_weight : (es : List Edge) (e : Edge) (rest : List Edge) (w reach : ℤ) → AreEdges es → IsReachBefore es (e ∷ rest) w reach → IsNextWeight w e.weight
-next_weight es e rest w reach edges so_far =
-    let next = weight_behind es e rest w reach so_far in
-    let lawful = edges.lawful e.x in
-    let now = so_far.now in
-    let most = so_far.most in
-    record {
-      least = omega (arith, ints, now.least);
-      greatest = omega (arith, ints, now.greatest);
-      next_least = omega (arith, ints, lawful.least);
-      next_greatest = omega (arith, ints, lawful.greatest);
-    }
 
 pub change_is : (w change : ℤ) → IsNextWeight w change → to_z w32 (of_z w32 change) ≡ change
 change_is w change next = omega (arith, ints, next.least, next.greatest, next.next_least, next.next_greatest)
@@ -92,110 +135,99 @@ next_fits w change next = omega (arith, ints, next.next_least, next.next_greates
 pub next_is : (w change : ℤ) → IsNextWeight w change → to_z w32 (of_z w32 (w +ℤ change)) ≡ w +ℤ change
 next_is w change next = omega (arith, ints, next.next_least, next.next_greatest)
 
-pub negated_fits : (w change : ℤ) → IsNextWeight w change → FitsSigned w32 (neg_ℤ (w +ℤ change))
-negated_fits w change next = omega (arith, ints, next.next_least, next.next_greatest)
+pub reach_bounds : (reach : ℤ) (es : List Edge) → StaysInReach reach es → (pos 0 ≤ℤ reach) × (reach ≤ℤ greatest_weight)
+reach_bounds reach es stays =
+    let least = stays.least (pos 0) in
+    let greatest = stays.greatest (pos 0) in
+    (omega (arith, ints), stays.most)
 
--- the absolute value of the next weight
-pub record IsSizeOf (w size : ℤ) : Type 0 where
-  pub least : pos 0 ≤ℤ (w +ℤ size)
-  pub greatest : w ≤ℤ size
-  pub most : size ≤ℤ greatest_weight
+pub reach_is : (reach : ℤ) (es : List Edge) → StaysInReach reach es → to_z w32 (of_z w32 reach) ≡ reach
+reach_is reach es stays = let bounds = reach_bounds reach es stays in omega (arith, ints)
 
-pub size_is : (w change size : ℤ) → IsNextWeight w change → size ≡ pos (nat_abs (w +ℤ change)) → IsSizeOf (w +ℤ change) size
-size_is w change size next is =
-    let least = next.next_least in
-    let greatest = next.next_greatest in
-    record { least = omega (arith, ints); greatest = omega (arith, ints); most = omega (arith, ints) }
+pub least_reach_bounds : (reach : ℤ) (es : List Edge) → AreChanges es → IsLeastReach reach es → (pos 0 ≤ℤ reach) × (reach ≤ℤ greatest_change)
+least_reach_bounds reach es changes least =
+    let weight = changes.changes least.x in
+    let here = least.here in
+    (omega (arith, ints), omega (arith, ints))
 
-pub size_fits : (w change size : ℤ) → IsNextWeight w change → size ≡ pos (nat_abs (w +ℤ change)) → to_z w32 (of_z w32 size) ≡ size
-size_fits w change size next is =
-    let sized = size_is w change size next is in
-    omega (arith, ints, sized.least, sized.greatest, sized.most)
+pub least_reach_is : (reach : ℤ) (es : List Edge) → AreChanges es → IsLeastReach reach es → to_z w32 (of_z w32 reach) ≡ reach
+least_reach_is reach es changes least = let bounds = least_reach_bounds reach es changes least in omega (arith, ints)
 
--- the greater of two numbers
-pub record IsGreater (a b greater bound : ℤ) : Type 0 where
-  pub left : a ≤ℤ greater
-  pub right : b ≤ℤ greater
-  pub most : greater ≤ℤ bound
+-- the least reach is one where it is at most 32767
+pub least_is_reach : (reach : ℤ) (es : List Edge) → IsLeastReach reach es → reach ≤ℤ greatest_weight → StaysInReach reach es
+least_is_reach reach es least most = record { most = most; least = least.least; greatest = least.greatest }
 
-pub ord_max_is : (a b most : ℤ) → a ≤ℤ most → b ≤ℤ most → IsGreater a b (ord_max int_cmp a b) most
-ord_max_is a b most below_a below_b =
-    by_ranked _ _ _ (int_cmp b a) (int_ranked b a (int_cmp b a) refl)
-    (λ less under.
-    let is : ord_max int_cmp a b ≡ a = ap (λ o. cond (is_lt o) a b) less in
-    record { left = omega (arith, ints); right = omega (arith, ints, under); most = omega (arith, ints) })
-    (λ equal same.
-    let is : ord_max int_cmp a b ≡ b = ap (λ o. cond (is_lt o) a b) equal in
-    record { left = omega (arith, ints, same); right = omega (arith, ints); most = omega (arith, ints) })
-    (λ greater over.
-    let is : ord_max int_cmp a b ≡ b = ap (λ o. cond (is_lt o) a b) greater in
-    record { left = omega (arith, ints, over); right = omega (arith, ints); most = omega (arith, ints) })
+-- that of a row always is
+pub reach_of_row : (reach : ℤ) (es : List Edge) → AreEdges es → IsLeastReach reach es → StaysInReach reach es
+reach_of_row reach es edges least =
+    let lawful = edges.lawful least.x in
+    let here = least.here in
+    least_is_reach reach es least (omega (arith, ints))
 
-pub reach_more : (es : List Edge) (e : Edge) (rest : List Edge) (w reach more : ℤ) → IsReachBefore es (e ∷ rest) w reach
-    → reach ≤ℤ more → pos 0 ≤ℤ ((w +ℤ e.weight) +ℤ more) → (w +ℤ e.weight) ≤ℤ more → more ≤ℤ greatest_weight → IsReachBefore es rest (w +ℤ e.weight) more
-reach_more es e rest w reach more so_far wider least greatest most = record {
-  low = e.x +ℤ pos 1;
-  sorted = so_far.sorted.2;
-  before = λ x left.
-      by_lt_z x so_far.low
-      (λ further. let old = so_far.before x further in record { least = omega (arith, ints, old.least); greatest = omega (arith, ints, old.greatest) })
-      (λ not_further.
-      let all = so_far.behind x (omega (arith, ints)) in
-      by_lt_z x e.x
-      (λ between.
-      let none = rest_before e rest so_far.low x so_far.sorted between in
-      let old = so_far.now in
-      record { least = omega (arith, ints, old.least); greatest = omega (arith, ints, old.greatest) })
-      (λ not_between.
-      let here = rest_at e rest so_far.low x so_far.sorted (omega (arith, ints)) in
-      record { least = omega (arith, ints); greatest = omega (arith, ints) }));
-  behind = λ x right.
-      let all = so_far.behind x (omega (arith, ints, so_far.sorted.1)) in
-      let added = weight_in-left e rest x (omega (arith, ints)) in
-      omega (arith, ints);
-  now = record { least = least; greatest = greatest };
-  most = most;
-}
+-- ---- the sum of two rows
 
--- the greater of a reach and the absolute value of the next weight is the next reach
-pub reach_grows : (es : List Edge) (e : Edge) (rest : List Edge) (w reach size next : ℤ) → AreEdges es
-    → IsReachBefore es (e ∷ rest) w reach → size ≡ pos (nat_abs (w +ℤ e.weight)) → next ≡ ord_max int_cmp reach size
-    → IsReachBefore es rest (w +ℤ e.weight) next × (to_z w32 (of_z w32 next) ≡ next)
-reach_grows es e rest w reach size next edges so_far size_of next_of =
-    let small = next_weight es e rest w reach edges so_far in
-    let sized = size_is w e.weight size small size_of in
-    let most = so_far.most in
-    let greater = ord_max_is reach size greatest_weight most sized.most in
-    let left : reach ≤ℤ next = omega (arith, ints, greater.left, next_of) in
-    let right : size ≤ℤ next = omega (arith, ints, greater.right, next_of) in
-    let bound : next ≤ℤ greatest_weight = omega (arith, ints, greater.most, next_of) in
-    let least = sized.least in
-    let greatest = sized.greatest in
-    (reach_more es e rest w reach next so_far left (omega (arith, ints)) (omega (arith, ints)) bound, omega (arith, ints))
+-- no weight is neither lawful nor unlawful
+lawful_unless : (w : ℤ) → ((IsLawfulWeight w → ⊥) → ⊥) → IsLawfulWeight w
+lawful_unless w lawful =
+    by_lt_z w least_weight
+    (λ below. absurd (lawful (λ is. omega (arith, ints, is.least, below))))
+    (λ least. by_lt_z greatest_weight w
+    (λ over. absurd (lawful (λ is. omega (arith, ints, is.greatest, over))))
+    (λ greatest. record { least = least; greatest = greatest }))
 
-pub reach_all : (es : List Edge) (w reach : ℤ) → IsReachBefore es [] w reach → StaysInReach reach es
-unfolding weight_in
-reach_all es w reach so_far =
-    let all : (x : ℤ) → IsInReach reach (weight_in es x) = λ x. by_lt_z x so_far.low (λ left. so_far.before x left) (λ not_left.
-    let same = so_far.behind x (omega (arith, ints)) in
-    let now = so_far.now in
-    record { least = omega (arith, ints, now.least); greatest = omega (arith, ints, now.greatest) }) in
-    record { most = so_far.most; least = λ x. (all x).least; greatest = λ x. (all x).greatest }
+module _ (es fs sum : List Edge) (is_sum : IsEdgeSum es fs sum) where
+  -- it is changes
+  pub sum_is_changes : AreEdges es → AreEdges fs → AreChanges sum
+  unfolding weight_in_both
+  sum_is_changes left right = record {
+    sorted = is_sum.sorted;
+    changes = λ x.
+        let all = is_sum.weights.weights x in
+        let first = left.lawful x in
+        let second = right.lawful x in
+        record { least = omega (arith, ints); greatest = omega (arith, ints) };
+    closed = is_sum.weights.weights greatest_coordinate ∙ omega (arith, ints, left.closed, right.closed);
+  }
 
--- ---- the reach is attained
+  -- where its weights are lawful, it is the edges of a row
+  sum_is_row : AreEdges es → AreChanges fs → ((x : ℤ) → IsLawfulWeight (weight_in_both es fs x)) → AreEdges sum
+  unfolding weight_in_both
+  sum_is_row left right lawful = record {
+    sorted = is_sum.sorted;
+    lawful = λ x. subst IsLawfulWeight (sym (is_sum.weights.weights x)) (lawful x);
+    closed = is_sum.weights.weights greatest_coordinate ∙ omega (arith, ints, left.closed, right.closed);
+  }
 
-pub attained_none : (es : List Edge) → AreEdges es → IsAttained (pos 0) es
-attained_none es edges = record {
-  x = least_coordinate -ℤ pos 1;
-  here = ap (λ w. pos (nat_abs w)) (weight_in-before least_coordinate es (least_coordinate -ℤ pos 1) edges.sorted (omega (arith, ints)));
-}
+  -- which they are where they stay in reach
+  pub row_in_reach : (reach : ℤ) → AreEdges es → AreChanges fs → StaysInReach reach sum → AreEdges sum
+  row_in_reach reach left right stays =
+      sum_is_row left right (λ x.
+      let all = is_sum.weights.weights x in
+      let least = stays.least x in
+      let greatest = stays.greatest x in
+      let most = stays.most in
+      record { least = omega (arith, ints); greatest = omega (arith, ints) })
 
-one_of : (P : ℤ → Type 0) (t : Bool) (a b : ℤ) → P a → P b → P (cond t a b)
-one_of P true a b first second = first
-one_of P false a b first second = second
+  -- and where no column is unlawful
+  pub row_unless_unlawful : AreEdges es → AreChanges fs → (IsUnlawfulColumn (weight_in_both es fs) → ⊥) → AreEdges sum
+  row_unless_unlawful left right none =
+      sum_is_row left right (λ x. lawful_unless (weight_in_both es fs x) (λ unlawful. none (record { x = x; unlawful = unlawful })))
 
-pub attained_more : (es : List Edge) (e : Edge) (rest : List Edge) (w reach size next : ℤ)
-    → IsReachBefore es (e ∷ rest) w reach → IsAttained reach es → size ≡ pos (nat_abs (w +ℤ e.weight)) → next ≡ ord_max int_cmp reach size → IsAttained next es
-attained_more es e rest w reach size next so_far attained size_of next_of =
-    let here : IsAttained size es = record { x = e.x; here = ap (λ v. pos (nat_abs v)) (weight_behind es e rest w reach so_far) ∙ sym size_of } in
-    subst (λ r. IsAttained r es) (sym next_of) (one_of (λ r. IsAttained r es) (is_lt (int_cmp size reach)) reach size attained here)
+  -- a column is, where the least reach is too great
+  pub unlawful_beyond : (reach : ℤ) → IsLeastReach reach sum → greatest_weight <ℤ reach → IsUnlawfulColumn (weight_in_both es fs)
+  unlawful_beyond reach least too_great = record {
+    x = least.x;
+    unlawful = λ lawful.
+        let all = is_sum.weights.weights least.x in
+        let here = least.here in
+        omega (arith, ints);
+  }
+
+  -- the sum of two reaches is a reach of the sum
+  pub reach_of_sum : (a b : ℤ) → StaysInReach a es → StaysInReach b fs → (a +ℤ b) ≤ℤ greatest_weight → StaysInReach (a +ℤ b) sum
+  unfolding weight_in_both
+  reach_of_sum a b left right most = record {
+    most = most;
+    least = λ x. let all = is_sum.weights.weights x in let l = left.least x in let r = right.least x in omega (arith, ints);
+    greatest = λ x. let all = is_sum.weights.weights x in let l = left.greatest x in let r = right.greatest x in omega (arith, ints);
+  }

@@ -6,5 +6,5 @@ pub mod Names
 pub mod Reaches
 pub mod RowChanges
 pub mod Sums
-pub mod SumsSoFar
+pub mod Totals
 pub mod WeightMaps

@@ -2,7 +2,8 @@
 use Rattle.std.specs.Prelude.{◌≡◌, ℤ, pos, ◌+ℤ◌, int_le, List, ◌++◌, if◌then◌else◌}
 use Rattle.mf_edges.specs.declared.edge.Edge.{Edge}
 use Rattle.mf_edges.specs.LawfulWeights.{IsLawfulWeight}
-use Rattle.mf_edges.specs.Edges.{AreEdges, weight_in}
+use Rattle.mf_geom.specs.Coordinates.{least_coordinate}
+use Rattle.mf_edges.specs.Edges.{AreEdgesFrom, weight_in}
 
 -- the weight at column x of two rows together
 unfoldable pub weight_in_both : List Edge → List Edge → ℤ → ℤ
@@ -21,12 +22,16 @@ pub record HaveWeights (f : ℤ → ℤ) (es : List Edge) : Type 0 where
 unfoldable pub with_edge_in : List Edge → ℤ → ℤ → ℤ → ℤ
 with_edge_in es x w c = weight_in es c +ℤ (if int_le x c then w else pos 0)
 
+-- the edges of the sum of two rows: sorted, with the weights of both together between them
+pub record IsEdgeSum (es fs sum : List Edge) : Type 0 where
+  pub sorted : AreEdgesFrom least_coordinate sum
+  pub weights : HaveWeights (weight_in_both es fs) sum
+
 -- the edges of the sum of two rows were appended to a list
 pub record HasEdgeSum (before es fs after : List Edge) : Type 0 where
   pub more : List Edge
   pub all : after ≡ before ++ more
-  pub edges : AreEdges more
-  pub weights : HaveWeights (weight_in_both es fs) more
+  pub sum : IsEdgeSum es fs more
 
 -- some edges, or none, were appended to a list
 pub record HasMoreEdges (before after : List Edge) : Type 0 where

@@ -5,10 +5,12 @@ ghost use Rattle.std.specs.Vec.{vec_len, vec_capacity};
 ghost use Rattle.mf_geom.specs.Coordinates.{least_coordinate, greatest_coordinate};
 ghost use Rattle.mf_edges.specs.LawfulWeights.{IsLawfulWeight};
 ghost use Rattle.mf_edges.specs.Edges.{AreEdges, AreEdgesFrom, AreOpenEdges, weight_in};
-ghost use Rattle.mf_edges.specs.Merging.{unless_zero};
-ghost use Rattle.mf_edges.specs.Reaches.{IsAttained, StaysInReach};
+ghost use Rattle.mf_edges.specs.Merging.{unless_zero, AreChanges};
+ghost use Rattle.mf_edges.specs.Reaches.{IsLeastReach};
 ghost use Rattle.mf_edges.specs.Sums.{HaveWeights, with_edge_in};
+ghost use Rattle.mf_edges.specs.Totals.{edges_total};
 
+use crate::field::FIELD_END;
 use mf_base::OutOfMemory;
 
 /// An edge of a row: the weights of the row's pixels at and to the right of its column are greater by its weight
@@ -38,12 +40,24 @@ pub fn weight_at_column(edges: &[Edge], x: i32) -> i32
     weight
 }
 
-/// The least reach of a row with these edges: the greatest absolute value of its weights, 0 where there are no edges.
+/// The sum of the weights of all pixels of a row with these edges: each edge adds its weight to the columns from its own to the last.
 /// Requires the edges of a row, as `weight_at_column` does.
-pub fn reach_of(edges: &[Edge]) -> i32
+pub fn total_of_edges(edges: &[Edge]) -> i64
     requires { AreEdges edges.now }
-    ensures stays { StaysInReach result edges.now }
-    ensures attained { IsAttained result edges.now }
+    ensures { result ≡ edges_total edges.now }
+{
+    let mut total = 0i64;
+    for edge in edges {
+        total += i64::from(edge.weight) * i64::from(FIELD_END - edge.x);
+    }
+    total
+}
+
+/// The least reach of edges: the greatest absolute value of the weights between them, 0 where there are no edges. Requires sorted
+/// edges with a sum of 0, and between them sums of two lawful weights. So they are the edges of a row where it is at most 32767.
+pub fn reach_of(edges: &[Edge]) -> i32
+    requires { AreChanges edges.now }
+    ensures { IsLeastReach result edges.now }
 {
     let mut weight = 0i32;
     let mut reach = 0;

@@ -1,80 +1,40 @@
 //! The sum of two rows of edges.
-ghost use Rattle.std.specs.Prelude.{◌≡◌, ◌≢◌, ◌≤◌, ◌<ℤ◌, ◌++◌, IfOk, IfErr, OnOk, OnErr, All, drop, length, take};
+ghost use Rattle.std.specs.Prelude.{◌≡◌, ◌≤◌, ◌<ℤ◌, ◌++◌, OnOk, OnErr, All, drop, length, take};
 ghost use Rattle.mf_geom.specs.Coordinates.{least_coordinate};
-ghost use Rattle.mf_edges.specs.LawfulWeights.{IsLawfulWeight};
 ghost use Rattle.mf_edges.specs.Edges.{AreEdges, AreEdgesFrom};
-ghost use Rattle.mf_edges.specs.Merging.{AreChanges, AreEdgesLeft, BeginFrom, IsDifference, IsSplitAt};
-ghost use Rattle.mf_edges.specs.Reaches.{AddInReach};
-ghost use Rattle.mf_edges.specs.SumsSoFar.{ArePassed, AreStopped};
-ghost use Rattle.mf_edges.specs.Sums.{weight_in_both, HasEdgeSum, HasMoreEdges, IsUnlawfulColumn};
+ghost use Rattle.mf_edges.specs.Merging.{AreChanges, AreEdgesLeft, BeginFrom, IsSplitAt};
+ghost use Rattle.mf_edges.specs.Sums.{HasEdgeSum, HasMoreEdges};
 
 use crate::edge::{Edge, push_unless_zero};
-use crate::fault::AddFault;
-use crate::field::is_lawful_weight;
 use mf_base::OutOfMemory;
 
-/// Appends the edges of the sum of a row and of what is added to it to a list of edges. The edges of the row up to the next
-/// change are copied at once, so a change at few places costs little more than a copy; all weights that may become too
-/// large are checked. Refused with `WeightTooLarge` where a weight between the edges would exceed 32767 in absolute value,
-/// and with `OutOfMemory` where an allocation fails, which may come instead of `WeightTooLarge`; some of the edges may then
-/// have been appended. Requires the edges of a row on the left, and changes of a row on the right: sorted edges with a sum of
-/// 0, and between them differences of two lawful weights.
-pub fn push_sum_of_edges(sum: &mut Vec<Edge>, left: &[Edge], right: &[Edge]) -> Result<(), AddFault>
-    requires left { AreEdges left.now }
-    requires right { AreChanges right.now }
-    ensures pushed { OnOk result (HasEdgeSum sum.old.items left.now right.now sum.new.items) }
-    ensures kept { OnErr result (HasMoreEdges sum.old.items sum.new.items) }
-    ensures too_large { IfErr result (λ fault. fault ≢ AddFault.OutOfMemory → IsUnlawfulColumn (weight_in_both left.now right.now)) }
-{
-    sum.reserve(left.len() + right.len())?;
-    let (mut left, mut right) = (left, right);
-    let mut weight = 0;
-    while let Some((change, changes)) = right.split_first() {
-        let passed = pass_edges(left, change.x, weight)?;
-        let (kept, others) = left.split_at(passed.count);
-        push_edges(sum, kept)?;
-        let (edge, rest) = split_at(others, change.x);
-        let more = edge + change.weight;
-        weight = passed.weight + more;
-        if !is_lawful_weight(weight) {
-            return Err(AddFault::WeightTooLarge);
-        }
-        push_unless_zero(
-            sum,
-            Edge {
-                x: change.x,
-                weight: more,
-            },
-        )?;
-        (left, right) = (rest, changes);
-    }
-    sum.extend_from_slice(left)?;
-    Ok(())
-}
+/// A row of at most this many edges is added to another by binary search, and one of more edges is merged with it: then there is mostly
+/// one edge of the other between two of its edges, or none. A contour changes a row at few places, so it costs about a copy of the row.
+const FEW_EDGES: usize = 8;
 
-/// Appends the edges of the sum of two rows whose reaches leave room for each other to a list of edges. No weight can exceed
-/// 32767 in absolute value, so no weight between the edges of the left row is looked at, and the place of each edge of the
-/// right row is found by binary search. Refused with `OutOfMemory` where an allocation fails; some of the edges may then
-/// have been appended. Requires the edges of two rows whose least reaches add up to at most 32767.
-pub fn push_with_changes(
-    edges: &mut Vec<Edge>,
+/// Appends the edges of the sum of a row and of what is added to it to a list of edges. The edges of the row up to the next change are
+/// copied at once. Whether the weights between the edges of the sum are lawful, the caller knows, or finds out afterwards. Refused
+/// with `OutOfMemory` where an allocation fails; some of the edges may then have been appended. Requires the edges of a row on the
+/// left, and changes of a row on the right: sorted edges with a sum of 0, and between them differences of two lawful weights.
+pub fn push_sum_of_edges(
+    sum: &mut Vec<Edge>,
     left: &[Edge],
     right: &[Edge],
 ) -> Result<(), OutOfMemory>
     requires left { AreEdges left.now }
-    requires right { AreEdges right.now }
-    requires reach { AddInReach left.now right.now }
-    ensures pushed { OnOk result (HasEdgeSum edges.old.items left.now right.now edges.new.items) }
-    ensures kept { OnErr result (HasMoreEdges edges.old.items edges.new.items) }
+    requires right { AreChanges right.now }
+    ensures pushed { OnOk result (HasEdgeSum sum.old.items left.now right.now sum.new.items) }
+    ensures kept { OnErr result (HasMoreEdges sum.old.items sum.new.items) }
 {
-    edges.reserve(left.len() + right.len())?;
+    sum.reserve(left.len() + right.len())?;
+    let are_few = right.len() <= FEW_EDGES;
     let (mut left, mut right) = (left, right);
     while let Some((change, changes)) = right.split_first() {
-        let (kept, others) = left.split_at(count_left_of(left, change.x));
-        push_edges(edges, kept)?;
+        let (kept, others) = left.split_at(count_left_of(left, change.x, are_few));
+        push_edges(sum, kept)?;
         let (edge, rest) = split_at(others, change.x);
         push_unless_zero(
-            edges,
+            sum,
             Edge {
                 x: change.x,
                 weight: edge + change.weight,
@@ -82,7 +42,7 @@ pub fn push_with_changes(
         )?;
         (left, right) = (rest, changes);
     }
-    edges.extend_from_slice(left)?;
+    sum.extend_from_slice(left)?;
     Ok(())
 }
 
@@ -100,53 +60,41 @@ pub fn push_edges(edges: &mut Vec<Edge>, others: &[Edge]) -> Result<(), OutOfMem
     }
 }
 
-/// The number of edges to the left of column x, which are the first ones. Of two changes that stand together, the second
-/// mostly has none to its left.
-fn count_left_of(edges: &[Edge], x: i32) -> usize
+/// The number of edges to the left of column x, which are the first ones. They are found by binary search where the columns asked for are
+/// few, and counted otherwise. Of two changes that stand together, the second mostly has none to its left.
+fn count_left_of(edges: &[Edge], x: i32, are_few: bool) -> usize
     requires { AreEdgesFrom least_coordinate edges.now }
     ensures within { result ≤ length edges.now }
     ensures left { All (λ edge. edge.x <ℤ x) (take result edges.now) }
     ensures others { BeginFrom x (drop result edges.now) }
 {
     match edges.first() {
-        Some(first) if first.x < x => edges.partition_point(|edge| edge.x < x),
+        Some(first) if first.x < x => {
+            if are_few {
+                edges.partition_point(|edge| edge.x < x)
+            } else {
+                pass_left_of(edges, x)
+            }
+        }
         _ => 0,
     }
 }
 
-/// The edges that were passed: their number, and the weight after the last of them.
-#[derive(Clone, Copy)]
-struct Passed {
-    count: usize,
-    weight: i32,
-}
-
-/// Passes the edges to the left of column x, where the weight before them is the given one. Refused with
-/// `WeightTooLarge` where a weight between them exceeds 32767 in absolute value.
-fn pass_edges(edges: &[Edge], x: i32, weight: i32) -> Result<Passed, AddFault>
-    requires differences { All (λ edge. IsDifference edge.weight) edges.now }
-    requires weight { IsLawfulWeight weight }
-    ensures within { IfOk result (λ passed. passed.count ≤ length edges.now) }
-    ensures stops { IfOk result (λ passed. BeginFrom x (drop passed.count edges.now)) }
-    ensures passed { IfOk result (λ passed. ArePassed edges.now x weight passed.count passed.weight) }
-    ensures too_large { IfErr result (λ _. AreStopped edges.now x weight) }
-    ensures fault { IfErr result (λ fault. fault ≡ AddFault.WeightTooLarge) }
+/// The number of edges to the left of column x, which are counted one by one.
+fn pass_left_of(edges: &[Edge], x: i32) -> usize
+    requires { AreEdgesFrom least_coordinate edges.now }
+    ensures within { result ≤ length edges.now }
+    ensures left { All (λ edge. edge.x <ℤ x) (take result edges.now) }
+    ensures others { BeginFrom x (drop result edges.now) }
 {
-    let mut passed = Passed { count: 0, weight };
+    let mut count = 0;
     for edge in edges {
         if x <= edge.x {
             break;
         }
-        let next = passed.weight + edge.weight;
-        if !is_lawful_weight(next) {
-            return Err(AddFault::WeightTooLarge);
-        }
-        passed = Passed {
-            count: passed.count + 1,
-            weight: next,
-        };
+        count += 1;
     }
-    Ok(passed)
+    count
 }
 
 /// Splits off the edge at column x, where no edge is further left: its weight, or 0 where there is none, and the edges

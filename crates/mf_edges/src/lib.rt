@@ -10,8 +10,10 @@ mod row_change;
 mod stretch;
 mod weight_map;
 
-pub use edge::{Edge, add_edge, give_back_room, push_unless_zero, reach_of, weight_at_column};
-pub use edge_sum::{push_edges, push_sum_of_edges, push_with_changes};
+pub use edge::{
+    Edge, add_edge, give_back_room, push_unless_zero, reach_of, total_of_edges, weight_at_column,
+};
+pub use edge_sum::{push_edges, push_sum_of_edges};
 pub use fault::AddFault;
 pub use field::{FIELD_END, FIELD_START, MAX_WEIGHT, is_lawful_weight};
 pub use row_change::{RowChange, changed_edges};

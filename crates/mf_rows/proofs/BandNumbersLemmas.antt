@@ -1,14 +1,14 @@
 -- Lists of numbers that rise, and the bands that have them.
-use Rattle.std.proofs.Common.{◌≡◌, ◌≢◌, ◌⊎◌, ℤ, pos, ◌+◌, ◌<◌, ◌+ℤ◌, ◌-ℤ◌, ◌≤ℤ◌, ◌<ℤ◌, to_z, of_z, w32, List, [], ◌∷◌, ◌++◌, length, refl, sym, subst, ap, ◌∙◌, ⊎_elim, arith}
+use Rattle.std.proofs.Common.{◌≡◌, ◌≢◌, ℤ, pos, ◌+ℤ◌, ◌-ℤ◌, ◌≤ℤ◌, ◌<ℤ◌, List, [], ◌∷◌, ◌++◌, refl, sym, subst, arith}
 use Rattle.std.specs.List.{All}
-use Rattle.std.proofs.lemmas.Int.{ints, clamps}
-use Rattle.std.proofs.lemmas.List.{length-append, map-append, append-nil}
+use Rattle.std.proofs.lemmas.Int.{ints}
+use Rattle.std.proofs.lemmas.List.{map-append}
 use Rattle.std.proofs.lemmas.List.Elements.{All-nil, All-cons, All-head, All-tail}
 use Rattle.std.specs.declared.alloc.Global.{Global}
 use Rattle.std.specs.declared.sync.Arc.{Arc}
 use Rattle.mf_rows.specs.declared.bands.TheConstants.{BAND_COUNT}
 use Rattle.mf_rows.specs.declared.band.Band.{Band}
-use Rattle.mf_rows.specs.BandNumbers.{number_of, numbers_of, RiseWithin, HaveRisingNumbers, RiseBefore, RiseFrom, IsOnlyBand, IsSplitAtBand, IsLesserFirst, number_of_rows}
+use Rattle.mf_rows.specs.BandNumbers.{number_of, numbers_of, RiseWithin, HaveRisingNumbers, RiseFrom, IsOnlyBand, IsSplitAtBand, number_of_rows}
 use Rattle.mf_rows.specs.EdgeRows.{EdgeRow}
 use Rattle.mf_edges.proofs.Falls.{Falls}
 
@@ -43,7 +43,7 @@ rise-finished n ns (r ∷ rs) rise = rise-append (pos 0) n (n +ℤ pos 1) ns (n 
 -- ---- bands whose numbers rise
 
 -- no number is less than the least
-at_least : (low high : ℤ) (bs : List (Arc Band Global)) → RiseWithin low high (numbers_of bs)
+pub at_least : (low high : ℤ) (bs : List (Arc Band Global)) → RiseWithin low high (numbers_of bs)
     → All (λ b. low ≤ℤ number_of b) bs
 at_least low high [] rise = All-nil (λ b. low ≤ℤ number_of b)
 at_least low high (b ∷ bs) rise =
@@ -140,82 +140,3 @@ split_before_other n bs b rest is rise other =
       up_to = All-nil (λ c. number_of c ≤ℤ n);
       behind = greater_behind n BAND_COUNT bs (subst (RiseFrom (n +ℤ pos 1)) (sym is) greater);
     }
-
--- ---- the bands of the lesser number are taken from two lists
-
--- some band has it
-pub fewer_bands : (n : ℤ) (bs cs first_left rest_left first_right rest_right : List (Arc Band Global)) → IsLesserFirst bs cs n
-    → IsSplitAtBand n bs first_left rest_left → IsSplitAtBand n cs first_right rest_right → length rest_left + length rest_right < length bs + length cs
-fewer_bands n [] cs fl rl fr rr lesser left right = absurd lesser
-fewer_bands n (b ∷ bs) [] fl rl fr rr lesser left right = absurd lesser
-fewer_bands n (b ∷ bs) (c ∷ cs) [] rl [] rr lesser left right =
-    let P = λ (b : Arc Band Global). n <ℤ number_of b in
-    let after_left = All-head P b bs (subst (All P) (sym left.all) left.behind) in
-    let after_right = All-head P c cs (subst (All P) (sym right.all) right.behind) in
-    absurd (omega (arith, ints, clamps, lesser, after_left, after_right))
-fewer_bands n (b ∷ bs) (c ∷ cs) (f ∷ fl) rl fr rr lesser left right =
-    omega (arith, ap length left.all, ap length right.all, length-append (f ∷ fl) rl, length-append fr rr)
-fewer_bands n (b ∷ bs) (c ∷ cs) [] rl (f ∷ fr) rr lesser left right =
-    omega (arith, ap length left.all, ap length right.all, length-append (f ∷ fr) rr)
-
--- the numbers of the sum so far are less than `next`, and those of the bands that are left are not
-pub record AreNumberedSoFar (sum bs cs : List (Arc Band Global)) : Type 0 where
-  pub next : ℤ
-  pub before : RiseBefore next sum
-  pub left : RiseFrom next bs
-  pub right : RiseFrom next cs
-
-pub nothing_numbered : (bs cs : List (Arc Band Global)) → HaveRisingNumbers bs → HaveRisingNumbers cs → AreNumberedSoFar [] bs cs
-nothing_numbered bs cs left right = record { next = pos 0; before = omega (arith, ints); left = left; right = right }
-
--- it goes on with number n
-pub record IsNextNumber (n : ℤ) (sum bs cs : List (Arc Band Global)) : Type 0 where
-  pub lesser : IsLesserFirst bs cs n
-  pub greatest : n <ℤ BAND_COUNT
-  pub before : RiseBefore n sum
-  pub left : RiseFrom n bs
-  pub right : RiseFrom n cs
-
--- the lesser number as a 32-bit number
-pub next_number : (n : ℤ) {sum bs cs : List (Arc Band Global)} → IsLesserFirst bs cs n → AreNumberedSoFar sum bs cs
-    → IsNextNumber (to_z w32 (of_z w32 n)) sum bs cs
-next_number n {bs = []} lesser so_far = absurd lesser
-next_number n {bs = b ∷ bs} {cs = []} lesser so_far = absurd lesser
-next_number n {sum = sum} {bs = b ∷ bs} {cs = c ∷ cs} lesser so_far =
-    let reached : so_far.next ≤ℤ n = omega (arith, ints, clamps, lesser, so_far.left.0, so_far.right.0) in
-    let least = rise-ends (pos 0) so_far.next (numbers_of sum) so_far.before in
-    let greatest : n <ℤ BAND_COUNT = omega (arith, ints, clamps, lesser, rise-ends (number_of b +ℤ pos 1) BAND_COUNT (numbers_of bs) so_far.left.1) in
-    let fits : n ≡ to_z w32 (of_z w32 n) = omega (arith, ints, reached, least, greatest) in
-    subst (λ m. IsNextNumber m sum (b ∷ bs) (c ∷ cs)) fits (record {
-      lesser = lesser;
-      greatest = greatest;
-      before = rise-wider (pos 0) so_far.next (pos 0) n (numbers_of sum) (omega (arith, ints)) reached so_far.before;
-      left = (omega (arith, ints, clamps, lesser), so_far.left.1);
-      right = (omega (arith, ints, clamps, lesser), so_far.right.1);
-    })
-
--- the sum of the bands of number n was appended
-pub numbered_more : {n : ℤ} {sum bs cs first_left rest_left first_right rest_right after : List (Arc Band Global)} → IsNextNumber n sum bs cs
-    → IsSplitAtBand n bs first_left rest_left → IsSplitAtBand n cs first_right rest_right → RiseBefore (n +ℤ pos 1) after
-    → AreNumberedSoFar after rest_left rest_right
-numbered_more {n = n} next left right more = record {
-  next = n +ℤ pos 1;
-  before = more;
-  left = rest_from left n next.left next.greatest;
-  right = rest_from right n next.right next.greatest;
-}
-
--- at the end of one list, the bands of the other follow
-pub all_numbered : (sum bs cs after : List (Arc Band Global)) → AreNumberedSoFar sum bs cs → (bs ≡ []) ⊎ (cs ≡ [])
-    → numbers_of after ≡ (numbers_of sum ++ numbers_of bs) ++ numbers_of cs → HaveRisingNumbers after
-all_numbered sum bs cs after so_far end all =
-    let next = so_far.next in
-    let with_rest = λ (ds : List (Arc Band Global)) (rise : RiseFrom next ds).
-    rise-append (pos 0) next BAND_COUNT (numbers_of sum) (numbers_of ds) so_far.before rise in
-    subst (RiseWithin (pos 0) BAND_COUNT) (sym all)
-    (⊎_elim (λ none. subst (RiseWithin (pos 0) BAND_COUNT)
-    (sym (ap (λ ns. (numbers_of sum ++ ns) ++ numbers_of cs) (ap numbers_of none) ∙ ap (λ ns. ns ++ numbers_of cs) (append-nil (numbers_of sum))))
-    (with_rest cs so_far.right))
-    (λ none. subst (RiseWithin (pos 0) BAND_COUNT)
-    (sym (ap (λ ns. (numbers_of sum ++ numbers_of bs) ++ ns) (ap numbers_of none) ∙ append-nil (numbers_of sum ++ numbers_of bs)))
-    (with_rest bs so_far.left)) end)

@@ -1,23 +1,16 @@
 -- The sum of two lists of bands, step by step.
-use Rattle.std.proofs.Common.{◌≡◌, ◌≢◌, ◌⊎◌, ℤ, pos, ◌+ℤ◌, ◌-ℤ◌, ◌≤ℤ◌, ◌<ℤ◌, List, [], ◌∷◌, ◌++◌, sym, subst, ap, ◌∙◌, inl, inr, ⊎_elim, arith}
+use Rattle.std.proofs.Common.{◌≡◌, ◌≢◌, ℤ, pos, ◌+ℤ◌, ◌-ℤ◌, ◌≤ℤ◌, ◌<ℤ◌, List, [], ◌∷◌, ◌++◌, subst, arith}
 use Rattle.std.specs.Int.{int_min}
-use Rattle.std.specs.declared.alloc.Global.{Global}
-use Rattle.std.specs.declared.sync.Arc.{Arc}
 use Rattle.std.proofs.lemmas.Int.{ints, clamps, by_lt_z}
-use Rattle.std.proofs.lemmas.List.{append-nil}
 use Rattle.std.proofs.lemmas.List.Elements.{All-head, All-append, All-weaker}
 use Rattle.mf_geom.specs.Coordinates.{last_in_field}
-use Rattle.mf_rows.specs.declared.band.Band.{Band}
-use Rattle.mf_rows.specs.declared.sign.Sign.{Sign}
-use Rattle.mf_rows.specs.Bands.{rows_of_bands, AreBelow}
+use Rattle.mf_rows.specs.Bands.{AreBelow}
 use Rattle.mf_rows.specs.BandSums.{lowest_of, AreUpTo, AreBehind, AreSplitAtBand, HasSum}
 use Rattle.mf_edges.specs.LawfulWeights.{IsLawfulWeight}
 use Rattle.mf_rows.specs.EdgeRows.{EdgeRow, AreRowsFrom, AreRows, weight_in_rows}
-use Rattle.mf_rows.specs.Signs.{signed}
-use Rattle.mf_rows.specs.Sums.{weight_in_all, HaveRowWeights, IsUnlawfulSomewhere}
+use Rattle.mf_rows.specs.Sums.{weight_in_all, IsUnlawfulSomewhere}
 use Rattle.mf_rows.proofs.EdgeRowsLemmas.{weight_in_rows-append, weight_in_rows-above, weight_in_rows-below, rows_from-below, rows_from-front, rows_from-back, rows_from-append}
-use Rattle.mf_rows.proofs.RowSums.{IsRowSumSoFar, rows_behind}
-use Rattle.mf_rows.proofs.SignsLemmas.{signed_none}
+use Rattle.mf_rows.proofs.RowSums.{IsRowSumSoFar}
 
 -- ---- rows that only one of two lists has
 
@@ -48,34 +41,6 @@ rows_of_first split rows = record { rows = rows_from-front last_in_field _ _ (su
 
 pub rows_of_rest : {n : ℤ} {rs first rest : List EdgeRow} → AreSplitAtBand n rs first rest → AreRows rs → AreRows rest
 rows_of_rest split rows = record { rows = rows_from-back last_in_field _ _ (subst (AreRowsFrom last_in_field) split.all rows.rows) }
-
--- ---- what is left
-
-module _ (whole_left whole_right sum rs ss : List EdgeRow) (so_far : IsRowSumSoFar whole_left whole_right sum rs ss) where
-  -- at the end of one list, the rows of the other follow
-  rows_with_rest : (rs ≡ []) ⊎ (ss ≡ []) → AreRows ((sum ++ rs) ++ ss)
-  rows_with_rest end =
-      ⊎_elim (λ none. subst AreRows (sym (ap (λ rs. (sum ++ rs) ++ ss) none ∙ ap (λ rs. rs ++ ss) (append-nil sum)))
-      (rows_behind whole_left whole_right sum rs ss so_far ss so_far.right))
-      (λ none. subst AreRows (sym (ap (λ ss. (sum ++ rs) ++ ss) none ∙ append-nil (sum ++ rs)))
-      (rows_behind whole_left whole_right sum rs ss so_far rs so_far.left)) end
-
-  pub weights_with_rest : HaveRowWeights (weight_in_all whole_left whole_right) ((sum ++ rs) ++ ss)
-  unfolding weight_in_all
-  weights_with_rest = record {
-    weights = λ x y.
-        let all = so_far.weights x y in
-        let both = weight_in_rows-append (sum ++ rs) ss x y in
-        let front = weight_in_rows-append sum rs x y in
-        omega (arith, ints);
-  }
-
-pub rows_with_bands : (s : Sign) (whole_left whole_right sum : List EdgeRow) (bs cs : List (Arc Band Global))
-    → IsRowSumSoFar whole_left whole_right sum (rows_of_bands bs) (signed s (rows_of_bands cs)) → (bs ≡ []) ⊎ (cs ≡ [])
-    → AreRows ((sum ++ rows_of_bands bs) ++ signed s (rows_of_bands cs))
-rows_with_bands s whole_left whole_right sum bs cs so_far end =
-    rows_with_rest whole_left whole_right sum (rows_of_bands bs) (signed s (rows_of_bands cs)) so_far
-    (⊎_elim (λ none. inl (ap rows_of_bands none)) (λ none. inr (signed_none s _ (ap rows_of_bands none))) end)
 
 -- ---- one step
 

@@ -1,5 +1,5 @@
 -- The edges of two rows together.
-use Rattle.std.proofs.Common.{◌≡◌, true, false, cond, ℤ, pos, ◌+ℤ◌, ◌≤ℤ◌, ◌<ℤ◌, int_le, int_lt, List, [], ◌∷◌, ◌++◌, refl, sym, ap, subst, ◌∙◌, arith}
+use Rattle.std.proofs.Common.{◌≡◌, cond, ℤ, pos, ◌+ℤ◌, ◌≤ℤ◌, ◌<ℤ◌, int_le, List, [], ◌∷◌, ◌++◌, refl, sym, ap, subst, ◌∙◌, arith}
 use Rattle.std.specs.List.{All}
 use Rattle.std.specs.Ordering.{int_eq}
 use Rattle.std.proofs.lemmas.Bool.{cond_both}
@@ -11,6 +11,7 @@ use Rattle.mf_edges.specs.declared.edge.Edge.{Edge}
 use Rattle.mf_edges.specs.Edges.{weight_in, IsEdge, AreEdgesFrom}
 use Rattle.mf_edges.specs.Merging.{BeginFrom, unless_zero}
 use Rattle.mf_edges.proofs.EdgesLemmas.{weight_in-append, edges_from-lower}
+use Rattle.mf_rows.proofs.PixelColumns.{begin_from}
 use Rattle.mf_rows.specs.BothEdges.{with_edge, edges_of_both}
 
 -- ---- one edge more
@@ -19,24 +20,18 @@ use Rattle.mf_rows.specs.BothEdges.{with_edge, edges_of_both}
 abbrev pub joined : Edge → Edge → List Edge
 joined e f = unless_zero (record { x = e.x; weight = e.weight +ℤ f.weight })
 
-lt_test : (a b : ℤ) → a <ℤ b → int_lt a b ≡ true
-lt_test a b lt = grind (arith, ints)
-
-ge_test : (a b : ℤ) → b ≤ℤ a → int_lt a b ≡ false
-ge_test a b ge = grind (arith, ints)
-
 module _ (e f : Edge) (fs : List Edge) where
   with_edge-before : e.x <ℤ f.x → with_edge e (f ∷ fs) ≡ e ∷ f ∷ fs
   unfolding with_edge
-  with_edge-before lt = rw (lt_test e.x f.x lt) refl
+  with_edge-before lt = grind (arith, ints)
 
   with_edge-behind : f.x <ℤ e.x → with_edge e (f ∷ fs) ≡ f ∷ with_edge e fs
   unfolding with_edge
-  with_edge-behind gt = rw (ge_test e.x f.x (omega (arith, ints)), lt_test f.x e.x gt) refl
+  with_edge-behind gt = grind (arith, ints)
 
   with_edge-here : e.x ≡ f.x → with_edge e (f ∷ fs) ≡ joined e f ++ fs
   unfolding with_edge
-  with_edge-here same = rw (ge_test e.x f.x (omega (arith, ints)), ge_test f.x e.x (omega (arith, ints))) refl
+  with_edge-here same = grind (arith, ints)
 
   -- an edge is before the first one, behind it or at its column
   by_place : (P : List Edge → Type 0) → (e.x <ℤ f.x → P (e ∷ f ∷ fs)) → (f.x <ℤ e.x → P (f ∷ with_edge e fs)) → (e.x ≡ f.x → P (joined e f ++ fs))
@@ -86,11 +81,7 @@ with_edge-append : (e : Edge) (fs gs : List Edge) → BeginFrom (e.x +ℤ pos 1)
 unfolding with_edge
 with_edge-append e [] [] from = refl
 with_edge-append e [] (g ∷ gs) from = with_edge-before e g gs (omega (arith, ints))
-with_edge-append e (f ∷ fs) gs from =
-    by_place e f fs (λ es. with_edge e (f ∷ fs ++ gs) ≡ es ++ gs)
-    (with_edge-before e f (fs ++ gs))
-    (λ gt. with_edge-behind e f (fs ++ gs) gt ∙ ap (λ es. f ∷ es) (with_edge-append e fs gs from))
-    (λ same. with_edge-here e f (fs ++ gs) same ∙ sym (append_assoc (joined e f) fs gs))
+with_edge-append e (f ∷ fs) gs from = grind (arith, ints, with_edge-append e fs gs from, append_assoc (joined e f) fs gs)
 
 -- ---- two rows
 
@@ -108,10 +99,6 @@ edges_from-both low (e ∷ es) fs left right =
     let start : low ≤ℤ e.x = left.1 in
     edges_from-with low e (edges_of_both es fs) left.0 start
     (edges_from-both low es fs (edges_from-lower low (e.x +ℤ pos 1) es (omega (arith, ints)) left.2) right)
-
-begin_from : (low : ℤ) (es : List Edge) → AreEdgesFrom low es → BeginFrom low es
-begin_from low [] edges = tt
-begin_from low (e ∷ es) edges = edges.1
 
 -- where all edges of the left row are behind the first of the right one, that is the first of both
 pub both-right : (f : Edge) (es fs : List Edge) → AreEdgesFrom (f.x +ℤ pos 1) es → edges_of_both es (f ∷ fs) ≡ f ∷ edges_of_both es fs

@@ -43,16 +43,15 @@ unfolding with_row
 with_row-above r [] below = refl
 with_row-above r (s ∷ ss) below =
     let lower : s.y <ℤ r.y = All-head (λ s. s.y <ℤ r.y) s ss below in
-    with_row-cases (λ rs. rs ≡ r ∷ s ∷ ss) r s ss (λ lt. refl) (λ higher. absurd (omega (arith, ints))) (λ same. absurd (omega (arith, ints)))
+    grind (arith, ints)
 
 with_row-below : (r s : EdgeRow) (ss : List EdgeRow) → r.y <ℤ s.y → with_row r (s ∷ ss) ≡ s ∷ with_row r ss
-with_row-below r s ss lt =
-    with_row-cases (λ rs. rs ≡ s ∷ with_row r ss) r s ss (λ lower. absurd (omega (arith, ints))) (λ higher. refl) (λ same. absurd (omega (arith, ints)))
+unfolding with_row
+with_row-below r s ss lt = grind (arith, ints)
 
 with_row-same : (r s : EdgeRow) (ss : List EdgeRow) → s.y ≡ r.y → with_row r (s ∷ ss) ≡ unless_blank (row_of_both r s) ++ ss
-with_row-same r s ss here =
-    with_row-cases (λ rs. rs ≡ unless_blank (row_of_both r s) ++ ss) r s ss
-    (λ lower. absurd (omega (arith, ints))) (λ higher. absurd (omega (arith, ints))) (λ same. refl)
+unfolding with_row
+with_row-same r s ss here = grind (arith, ints)
 
 sum_where : (here : Bool) (a b c : ℤ) → ((if here then a +ℤ b else pos 0) +ℤ pos 0) +ℤ c
     ≡ (if here then a else pos 0) +ℤ ((if here then b else pos 0) +ℤ c)

@@ -1,5 +1,5 @@
 -- Corners from the top down, and the edges and rows that they make.
-use Rattle.std.proofs.Common.{◌≡◌, ◌&&◌, ℕ, suc, ◌+◌, ◌*◌, ◌<◌, ℤ, pos, negsuc, ◌+ℤ◌, ◌-ℤ◌, ◌≤ℤ◌, ◌<ℤ◌, int_le, int_lt, Bool, true, false, List, [], ◌∷◌, length, get_or, drop, to_z, of_z, w32, add-one, refl, sym, ◌∙◌, arith, if◌then◌else◌}
+use Rattle.std.proofs.Common.{◌≡◌, ℕ, suc, ◌+◌, ◌*◌, ◌<◌, ℤ, pos, negsuc, ◌+ℤ◌, ◌-ℤ◌, ◌≤ℤ◌, ◌<ℤ◌, int_le, Bool, true, false, List, [], ◌∷◌, length, get_or, drop, to_z, of_z, w32, add-one, refl, sym, ◌∙◌, arith, if◌then◌else◌}
 use Rattle.std.specs.List.{All, sum_by}
 use Rattle.std.specs.List.Sorted.{IsPermutation, IsSortedBy}
 use Rattle.std.specs.Ordering.{int_cmp, is_lt}
@@ -103,28 +103,13 @@ falling_higher top high (k ∷ ks) le falling = (omega (arith, ints, falling.0),
 
 -- ---- what a corner adds above and below its height
 
-lt_test : (a b : ℤ) → a <ℤ b → int_lt a b ≡ true
-lt_test a b lt = grind (arith, ints)
-
-ge_test : (a b : ℤ) → b ≤ℤ a → int_lt a b ≡ false
-ge_test a b ge = grind (arith, ints)
-
--- where the second of two tests is known to fail
-last_fails : (b t : Bool) (w : ℤ) → t ≡ false → (if b && t then w else pos 0) ≡ pos 0
-last_fails true t w fails = rw fails
-last_fails false t w fails = refl
-
-last_passes : (b t : Bool) (w : ℤ) → t ≡ true → (if b && t then w else pos 0) ≡ (if b then w else pos 0)
-last_passes true t w passes = rw passes
-last_passes false t w passes = refl
-
 added_above : (k : Corner) (x y : ℤ) → k.y ≤ℤ y → added_by k x y ≡ pos 0
 unfolding added_by
-added_above k x y above = last_fails (int_le k.x x) (int_lt y k.y) k.weight (ge_test y k.y above)
+added_above k x y above = grind (arith, ints)
 
 added_below : (k : Corner) (x y : ℤ) → y <ℤ k.y → added_by k x y ≡ (if int_le k.x x then k.weight else pos 0)
 unfolding added_by
-added_below k x y below = last_passes (int_le k.x x) (int_lt y k.y) k.weight (lt_test y k.y below)
+added_below k x y below = grind (arith, ints)
 
 -- corners add nothing at or above the first of them
 added_falling : (top : ℤ) (ks : List Corner) (x y : ℤ) → AreFalling top ks → top ≤ℤ y → added_by_all ks x y ≡ pos 0
@@ -144,6 +129,7 @@ added_above_first top (k ∷ ks) x y falling above = added_falling k.y (k ∷ ks
 -- the corners before those that are left have been added: the rows down to the first corner that is left are made, and
 -- the edges are those of the rows below it, as long as the corners that are left add nothing
 pub record IsSwept (all left : List Corner) (es : List Edge) (rs : List EdgeRow) : Type 0 where
+  pub given : AreCorners all
   pub corners : All IsCorner left
   pub falling : AreFalling greatest_coordinate left
   pub rows : ReachDownTo (first_height_of left) rs
@@ -156,6 +142,7 @@ pub record IsSwept (all left : List Corner) (es : List Edge) (rs : List EdgeRow)
 pub swept_none : (all : List Corner) → AreCorners all → AreFalling greatest_coordinate all → IsSwept all all [] []
 unfolding weight_in weight_in_rows
 swept_none all corners falling = record {
+  given = corners;
   corners = corners.corners;
   falling = falling;
   rows = record { rows = tt; reach = All-nil (λ r. first_height_of all ≤ℤ r.y) };
@@ -175,93 +162,108 @@ swept_edges all left es rs swept = record {
   lawful = λ x. record { least = omega (arith, ints, swept.least x); greatest = omega (arith, ints, swept.greatest x) };
 }
 
+pub corner_weight_is_lawful : (w : ℤ) → IsCornerWeight w → IsLawfulWeight w
+corner_weight_is_lawful w weight = record { least = omega (arith, ints, weight.least); greatest = omega (arith, ints, weight.greatest) }
+
 part_is_small : (b : Bool) (w : ℤ) → IsCornerWeight w → IsCornerWeight (if b then w else pos 0)
 part_is_small true w lawful = lawful
 part_is_small false w lawful = record { least = omega (arith, ints); greatest = omega (arith, ints) }
 
--- the next corner becomes an edge, and the rows down to the corner after it are made
-module _ (all : List Corner) (k : Corner) (left : List Corner) (es fs : List Edge) (rs : List EdgeRow)
-    (corners : AreCorners all) (swept : IsSwept all (k ∷ left) es rs) (sorted : AreEdgesFrom least_coordinate fs)
-    (added : HaveWeights (with_edge_in es k.x k.weight) fs) where
-  corner : IsCorner k
-  corner = All-head IsCorner k left swept.corners
+-- ---- the corner at a place, whose numbers the code computes, becomes an edge, and the rows down to the corner after it are made
+
+module _ (all : List Corner) (place : ℕ) (any : Corner) (es : List Edge) (rs : List EdgeRow) (lt : place < length all)
+    (so_far : IsSwept all (drop place all) es rs) where
+  abbrev pub here : Corner
+  here = get_or all place any
+
+  abbrev pub left : List Corner
+  left = drop (place + 1) all
+
+  swept : IsSwept all (here ∷ left) es rs
+  swept = rw (drop_more all place any lt) at so_far
 
   corners_left : All IsCorner left
-  corners_left = All-tail IsCorner k left swept.corners
+  corners_left = All-tail IsCorner here left swept.corners
 
-  weight_added : (x : ℤ) → weight_in fs x ≡ weight_in es x +ℤ (if int_le k.x x then k.weight else pos 0)
-  unfolding with_edge_in
-  weight_added x = added.weights x
+  corner_here : IsCorner here
+  corner_here = All-head IsCorner here left swept.corners
 
-  below_corner : (x y : ℤ) → y <ℤ k.y → added_by_all all x y ≡ weight_in fs x +ℤ added_by_all left x y
-  unfolding added_by_all
-  below_corner x y below = omega (arith, ints, swept.below x y below, added_below k x y below, weight_added x)
+  x_is : to_z w32 (of_z w32 here.x) ≡ here.x
+  x_is = let corner = corner_here in omega (arith, ints)
 
-  small : (x : ℤ) → record {
-    least : negsuc 24575 ≤ℤ (weight_in fs x -ℤ pos (3 * length left));
-    greatest : (weight_in fs x +ℤ pos (3 * length left)) ≤ℤ pos 24576;
-  }
-  small x =
-      let part = part_is_small (int_le k.x x) k.weight corner.weight in
-      record { least = omega (arith, ints, swept.least x, weight_added x, part); greatest = omega (arith, ints, swept.greatest x, weight_added x, part) }
+  y_is : to_z w32 (of_z w32 here.y) ≡ here.y
+  y_is = let corner = corner_here in omega (arith, ints)
 
-  -- the edges of a level have a sum of 0, as nothing is added to the right of the field
-  pub level_edges : first_height_of left <ℤ k.y → AreEdges fs
-  level_edges some = record {
-    sorted = sorted;
-    lawful = λ x. record { least = omega (arith, ints, small x); greatest = omega (arith, ints, small x) };
-    closed =
-        let level = below_corner greatest_coordinate (first_height_of left) some in
-        let nothing = added_above_first k.y left greatest_coordinate (first_height_of left) swept.falling.1 (omega (arith, ints)) in
-        omega (arith, ints, corners.closed (first_height_of left), level, nothing);
-  }
+  weight_is : to_z w32 (of_z w32 here.weight) ≡ here.weight
+  weight_is = omega (arith, ints, corner_here.weight)
 
-  pub level_order : first_height_of left ≤ℤ k.y
-  level_order = next_height_falls k left corner swept.falling.1
+  pub corner_read : IsCorner (record { x = to_z w32 (of_z w32 here.x); y = here.y; weight = to_z w32 (of_z w32 here.weight) })
+  corner_read = rw (x_is, weight_is) corner_here
 
-  pub level_in_field : least_coordinate ≤ℤ first_height_of left
-  level_in_field = next_height_in_field left corners_left
+  module _ (fs : List Edge) (sorted : AreEdgesFrom least_coordinate fs)
+      (added : HaveWeights (with_edge_in es (to_z w32 (of_z w32 here.x)) (to_z w32 (of_z w32 here.weight))) fs) where
+    weight_added : (x : ℤ) → weight_in fs x ≡ weight_in es x +ℤ (if int_le here.x x then here.weight else pos 0)
+    unfolding with_edge_in
+    weight_added x = (rw (x_is, weight_is) at added).weights x
 
-  module _ (ss : List EdgeRow) (strip : HasStrip rs fs (first_height_of left) k.y ss) where
-    swept_above : (x y : ℤ) → IsInField x y → first_height_of left ≤ℤ y → weight_in_rows ss x y ≡ added_by_all all x y
-    swept_above x y inside above = by_lt_z y k.y
-        (λ below.
-        let nothing = added_above_first k.y left x y swept.falling.1 above in
-        omega (arith, ints, strip.strip x y above below, below_corner x y below, nothing))
-        (λ higher. strip.above x y higher ∙ swept.above x y inside higher)
+    below_corner : (x y : ℤ) → y <ℤ here.y → added_by_all all x y ≡ weight_in fs x +ℤ added_by_all left x y
+    unfolding added_by_all
+    below_corner x y below = omega (arith, ints, swept.below x y below, added_below here x y below, weight_added x)
 
-    pub swept_more : IsSwept all left fs ss
-    swept_more = record {
+    small : (x : ℤ) → record {
+      least : negsuc 24575 ≤ℤ (weight_in fs x -ℤ pos (3 * length left));
+      greatest : (weight_in fs x +ℤ pos (3 * length left)) ≤ℤ pos 24576;
+    }
+    small x =
+        let part = part_is_small (int_le here.x x) here.weight corner_here.weight in
+        record { least = omega (arith, ints, swept.least x, weight_added x, part); greatest = omega (arith, ints, swept.greatest x, weight_added x, part) }
+
+    nothing_above : (x y : ℤ) → first_height_of left ≤ℤ y → added_by_all left x y ≡ pos 0
+    nothing_above x y = added_above_first here.y left x y swept.falling.1
+
+    -- the edges of a level have a sum of 0, as nothing is added to the right of the field
+    edges_here : first_height_of left <ℤ here.y → AreEdges fs
+    edges_here some = record {
+      sorted = sorted;
+      lawful = λ x. record { least = omega (arith, ints, small x); greatest = omega (arith, ints, small x) };
+      closed =
+          let y = first_height_of left in
+          omega (arith, ints, swept.given.closed y, below_corner greatest_coordinate y some, nothing_above greatest_coordinate y (omega (arith, ints)));
+    }
+
+    swept_more : (ss : List EdgeRow) → HasStrip rs fs (first_height_of left) here.y ss → IsSwept all left fs ss
+    swept_more ss strip = record {
+      given = swept.given;
       corners = corners_left;
-      falling = falling_higher k.y greatest_coordinate left corner.top swept.falling.1;
+      falling = falling_higher here.y greatest_coordinate left corner_here.top swept.falling.1;
       rows = strip.rows;
-      above = swept_above;
-      below = λ x y below. below_corner x y (omega (arith, ints, below, level_order));
+      above = λ x y inside above. by_lt_z y here.y
+          (λ below. omega (arith, ints, strip.strip x y above below, below_corner x y below, nothing_above x y above))
+          (λ higher. strip.above x y higher ∙ swept.above x y inside higher);
+      below = λ x y below. below_corner x y (omega (arith, ints, below, next_height_falls here left corner_here swept.falling.1));
       sorted = sorted;
       least = λ x. (small x).least;
       greatest = λ x. (small x).greatest;
     }
 
--- ---- the corner at a place, as the code reads it
+    -- the rows between its height y and the next one, n
+    pub record IsLevel (n y : ℤ) : Type 0 where
+      pub bottom : least_coordinate ≤ℤ n
+      pub order : n ≤ℤ y
+      pub top : y ≤ℤ greatest_coordinate
+      pub edges : n <ℤ y → AreEdges fs
+      pub rows : ReachDownTo y rs
+      pub more : (ss : List EdgeRow) → HasStrip rs fs n y ss → IsSwept all left fs ss
 
-pub swept_at : (all : List Corner) (place : ℕ) (d : Corner) (es : List Edge) (rs : List EdgeRow) → place < length all
-    → IsSwept all (drop place all) es rs → IsSwept all (get_or all place d ∷ drop (place + 1) all) es rs
-swept_at all place d es rs lt swept = rw (drop_more all place d lt) at swept
-
--- its numbers pass through bits unchanged
-pub record PassesBits (k : Corner) : Type 0 where
-  pub x : to_z w32 (of_z w32 k.x) ≡ k.x
-  pub y : to_z w32 (of_z w32 k.y) ≡ k.y
-  pub weight : to_z w32 (of_z w32 k.weight) ≡ k.weight
-  pub lawful : IsLawfulWeight k.weight
-
-pub corner_read_back : (k : Corner) → IsCorner k → PassesBits k
-corner_read_back k corner = record {
-  x = omega (arith, ints);
-  y = omega (arith, ints);
-  weight = omega (arith, ints, corner.weight);
-  lawful = record { least = omega (arith, ints, corner.weight); greatest = omega (arith, ints, corner.weight) };
-}
-
-pub height_read_back : (ks : List Corner) (n : ℤ) → All IsCorner ks → n ≡ first_height_of ks → to_z w32 (of_z w32 n) ≡ first_height_of ks
-height_read_back ks n corners is = omega (arith, ints, next_height_in_field ks corners, first_below_field_top ks corners)
+    pub level : (n : ℤ) → n ≡ first_height_of left → IsLevel (to_z w32 (of_z w32 n)) (to_z w32 (of_z w32 here.y))
+    level n is =
+        let bottom = next_height_in_field left corners_left in
+        let next : to_z w32 (of_z w32 n) ≡ first_height_of left = omega (arith, ints, bottom, first_below_field_top left corners_left) in
+        rw (next, y_is) (record {
+          bottom = bottom;
+          order = next_height_falls here left corner_here swept.falling.1;
+          top = corner_here.top;
+          edges = edges_here;
+          rows = swept.rows;
+          more = swept_more;
+        })

@@ -1,5 +1,5 @@
 -- Dots in reading order, and the weight at a pixel.
-use Rattle.std.proofs.Common.{◌≡◌, ◌≢◌, ℕ, zero, suc, ◌<◌, ◌&&◌, true, ℤ, pos, ◌+ℤ◌, ◌≤ℤ◌, ◌<ℤ◌, List, [], ◌∷◌, ◌++◌, length, get_or, refl, ◌∙◌, arith}
+use Rattle.std.proofs.Common.{◌≡◌, ◌≢◌, ℕ, zero, suc, ◌<◌, ◌&&◌, ℤ, pos, ◌+ℤ◌, ◌≤ℤ◌, ◌<ℤ◌, List, [], ◌∷◌, ◌++◌, length, get_or, refl, ◌∙◌, arith}
 use Rattle.std.specs.List.{All}
 use Rattle.std.specs.Ordering.{int_eq}
 use Rattle.std.proofs.lemmas.Bool.{cond-true, cond-false, and_parts, and_from, false_from_ne_true}
@@ -15,11 +15,6 @@ pub record IsAt (d : Dot) (x y : ℤ) : Type 0 where
   pub column : d.x ≡ x
   pub row : d.y ≡ y
 
-is_at_test : (d : Dot) (x y : ℤ) → (int_eq d.x x && int_eq d.y y) ≡ true → IsAt d x y
-is_at_test d x y test =
-    let parts = and_parts (int_eq d.x x) (int_eq d.y y) test in
-    record { column = (Decides-int_eq d.x x).0 parts.0; row = (Decides-int_eq d.y y).0 parts.1 }
-
 -- the first dot's weight is that of its pixel
 pub weight_at-here : (d : Dot) (ds : List Dot) (x y : ℤ) → IsAt d x y → weight_at (d ∷ ds) x y ≡ d.weight
 unfolding weight_at
@@ -30,7 +25,9 @@ weight_at-here d ds x y here =
 pub weight_at-elsewhere : (d : Dot) (ds : List Dot) (x y : ℤ) → (IsAt d x y → ⊥) → weight_at (d ∷ ds) x y ≡ weight_at ds x y
 unfolding weight_at
 weight_at-elsewhere d ds x y elsewhere =
-    cond-false _ d.weight (weight_at ds x y) (false_from_ne_true (int_eq d.x x && int_eq d.y y) (λ test. elsewhere (is_at_test d x y test)))
+    cond-false _ d.weight (weight_at ds x y) (false_from_ne_true (int_eq d.x x && int_eq d.y y) (λ test.
+    let parts = and_parts (int_eq d.x x) (int_eq d.y y) test in
+    elsewhere (record { column = (Decides-int_eq d.x x).0 parts.0; row = (Decides-int_eq d.y y).0 parts.1 })))
 
 -- another place is another pixel
 pub not_at : (d : Dot) (x y : ℤ) → place d.x d.y ≢ place x y → IsAt d x y → ⊥
@@ -54,21 +51,18 @@ pub dots_from-lower : (low high : ℤ) (ds : List Dot) → low ≤ℤ high → A
 dots_from-lower low high [] le dots = tt
 dots_from-lower low high (d ∷ ds) le dots = let start : high ≤ℤ place d.x d.y = dots.1 in (dots.0, omega (arith, ints), dots.2)
 
--- before the first place the weight is 0
-pub weight_at-before : (low : ℤ) (ds : List Dot) (x y : ℤ) → AreDotsFrom low ds → place x y <ℤ low → weight_at ds x y ≡ pos 0
-unfolding weight_at
-weight_at-before low [] x y dots below = refl
-weight_at-before low (d ∷ ds) x y dots below =
-    let start : low ≤ℤ place d.x d.y = dots.1 in
-    weight_at-elsewhere d ds x y (not_at d x y (λ same. omega (arith, ints)))
-    ∙ weight_at-before (place d.x d.y +ℤ pos 1) ds x y dots.2 (omega (arith, ints))
-
 -- each dot is at or after the first place
 pub dots_from-after : (low : ℤ) (ds : List Dot) → AreDotsFrom low ds → All (λ d. low ≤ℤ place d.x d.y) ds
 dots_from-after low [] dots = All-nil (λ d. low ≤ℤ place d.x d.y)
 dots_from-after low (d ∷ ds) dots =
     let start : low ≤ℤ place d.x d.y = dots.1 in
     All-cons (λ d. low ≤ℤ place d.x d.y) d ds start (dots_from-after low ds (dots_from-lower low (place d.x d.y +ℤ pos 1) ds (omega (arith, ints)) dots.2))
+
+-- before the first place the weight is 0
+pub weight_at-before : (low : ℤ) (ds : List Dot) (x y : ℤ) → AreDotsFrom low ds → place x y <ℤ low → weight_at ds x y ≡ pos 0
+weight_at-before low ds x y dots below =
+    weight_at-none ds x y
+    (All-weaker (λ d. low ≤ℤ place d.x d.y) (λ d. place d.x d.y ≢ place x y) (λ d from same. omega (arith, ints)) ds (dots_from-after low ds dots))
 
 -- each dot is lawful
 pub dots_from-lawful : (low : ℤ) (ds : List Dot) → AreDotsFrom low ds → All IsDot ds
@@ -85,6 +79,10 @@ dots_from-append low middle (d ∷ ds) es le front before back =
       front.1,
       dots_from-append (place d.x d.y +ℤ pos 1) middle ds es (omega (arith, ints)) front.2 (All-tail (λ d. place d.x d.y <ℤ middle) d ds before) back,
     )
+
+pub dots_from-front : (low : ℤ) (ds es : List Dot) → AreDotsFrom low (ds ++ es) → AreDotsFrom low ds
+dots_from-front low [] es dots = tt
+dots_from-front low (d ∷ ds) es dots = (dots.0, dots.1, dots_from-front (place d.x d.y +ℤ pos 1) ds es dots.2)
 
 -- the pixel of each dot has its weight
 pub weight_at-dot : (low : ℤ) (ds : List Dot) → AreDotsFrom low ds → (k : ℕ) (d : Dot) → k < length ds

@@ -1,5 +1,5 @@
 -- Bands of the field, and the bands up to a number, which are found by binary search.
-use Rattle.std.proofs.Common.{◌≡◌, ℕ, zero, suc, ◌<◌, ◌≤◌, ℤ, pos, ◌+ℤ◌, ◌-ℤ◌, ◌≤ℤ◌, ◌<ℤ◌, List, [], ◌∷◌, ◌++◌, Bool, true, false, length, take, drop, get_or, append-nil, sym, ap, subst, to_z, of_z, w32, Option, Some, None, IfSome, IsNone, arith, ◌∙◌}
+use Rattle.std.proofs.Common.{◌≡◌, ℕ, ◌≤◌, ℤ, pos, ◌+ℤ◌, ◌-ℤ◌, ◌≤ℤ◌, ◌<ℤ◌, List, [], ◌∷◌, ◌++◌, Bool, true, false, length, take, drop, append-nil, sym, ap, subst, to_z, of_z, w32, Option, Some, None, IfSome, IsNone, arith, ◌∙◌}
 use Rattle.std.specs.List.{All, AllWithin}
 use Rattle.std.specs.List.Sorted.{IsPartitionedBy}
 use Rattle.std.proofs.lemmas.Bool.{false≢true}
@@ -31,7 +31,7 @@ pub rows_of_band : (band : Band) → All (λ r. IsOfBand band.number r.y) (rows_
 rows_of_band band = band.of_band
 
 -- what the number of each band implies of its rows holds of the rows of all bands
-All-rows_of_bands : (N P : ℤ → Type 0) → ((n y : ℤ) → N n → IsOfBand n y → P y) → (bs : List (Arc Band Global))
+pub All-rows_of_bands : (N P : ℤ → Type 0) → ((n y : ℤ) → N n → IsOfBand n y → P y) → (bs : List (Arc Band Global))
     → All (λ (b : Arc Band Global). N (arc_value b).number) bs → All (λ r. P r.y) (rows_of_bands bs)
 All-rows_of_bands N P holds [] all = All-nil (λ r. P r.y)
 All-rows_of_bands N P holds (b ∷ bs) all =
@@ -100,14 +100,6 @@ rows_split_at {n} {bs} {first} {rest} split = record {
       (λ m y up_to of_band. omega (arith, ints, up_to, of_band.bottom)) first split.up_to;
   behind = All-rows_of_bands (λ m. n <ℤ m) (λ y. y <ℤ lowest_of n) (λ m y behind of_band. omega (arith, ints, behind, of_band.top)) rest split.behind;
 }
-
--- the rows of each of these bands are lawful
-pub rows_of_each : (bs : List (Arc Band Global)) (k : ℕ) (b : Arc Band Global) → AreRows (rows_of_bands bs) → k < length bs
-    → AreRows (rows_in (arc_value (get_or bs k b)))
-rows_of_each [] k b rows inside = absurd (omega arith)
-rows_of_each (c ∷ bs) zero b rows inside = record { rows = rows_from-front last_in_field (rows_in (arc_value c)) (rows_of_bands bs) rows.rows }
-rows_of_each (c ∷ bs) (suc k) b rows inside =
-    rows_of_each bs k b (record { rows = rows_from-back last_in_field (rows_in (arc_value c)) (rows_of_bands bs) rows.rows }) (omega arith)
 
 -- the rows of band n, where there is no other
 pub rows_of_only : (n : ℤ) (bs : List (Arc Band Global)) → IsOnlyBand n bs → AreOfBand n (rows_of_bands bs)

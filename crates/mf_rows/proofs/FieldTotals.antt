@@ -1,5 +1,5 @@
 -- The total weight of a picture is the sum of its weights over the field.
-use Rattle.std.proofs.Common.{◌≡◌, ℕ, zero, suc, ℤ, pos, negsuc, ◌+ℤ◌, ◌-ℤ◌, List, ◌∷◌, refl, sym, ap, ◌∙◌, arith}
+use Rattle.std.proofs.Common.{◌≡◌, ℕ, zero, suc, ◌+◌, ℤ, pos, negsuc, ◌+ℤ◌, ◌-ℤ◌, List, [], ◌∷◌, ◌++◌, refl, ap, ◌∙◌, arith}
 use Rattle.std.specs.Ordering.{int_eq}
 use Rattle.std.proofs.lemmas.Bool.{cond_both}
 use Rattle.std.proofs.lemmas.Bool.Decides.{Decides-int_eq}
@@ -7,16 +7,15 @@ use Rattle.std.proofs.lemmas.Int.{ints}
 use Rattle.mf_geom.specs.Coordinates.{least_coordinate}
 use Rattle.mf_geom.specs.Field.{sum_over_field}
 use Rattle.mf_geom.specs.Sum.{sum_below}
+use Rattle.mf_geom.proofs.Sums.{sum_below-next}
 use Rattle.mf_rows.specs.Dots.{Dot, IsPicture, weight_at, total_of}
 use Rattle.mf_rows.specs.Weights.{row_of, rows_of, picture_of}
-use Rattle.mf_rows.proofs.Totals.{total_of-append}
 use Rattle.mf_rows.proofs.WeightsLemmas.{picture_of-from_weights}
 
--- the first term may be taken out in front
-sum_below-first : (n : ℕ) (g : ℕ → ℤ) → g 0 +ℤ sum_below n (λ i. g (suc i)) ≡ sum_below (suc n) g
-unfolding sum_below
-sum_below-first zero g = omega (arith, ints)
-sum_below-first (suc n) g = let before = sum_below-first n g in omega (arith, ints)
+total_of-append : (ds es : List Dot) → total_of (ds ++ es) ≡ total_of ds +ℤ total_of es
+unfolding total_of
+total_of-append [] es = omega (arith, ints)
+total_of-append (d ∷ ds) es = omega (arith, ints, total_of-append ds es)
 
 -- a pixel of weight 0 has no dot and adds nothing
 total_of-row : (f : ℤ → ℤ → ℤ) (y x : ℤ) (n : ℕ) → total_of (row_of f y x n) ≡ sum_below n (λ i. f (x +ℤ pos i) y)
@@ -25,12 +24,12 @@ total_of-row f y x zero = refl
 total_of-row f y x (suc n) =
     let first : Dot = record { y = y; x = x; weight = f x y } in
     let others = row_of f y (x +ℤ pos 1) n in
-    let column : (i : ℕ) → (x +ℤ pos 1) +ℤ pos i ≡ x +ℤ pos (suc i) = λ i. omega (arith, ints) in
+    let terms = λ (i : ℕ). f (x +ℤ pos i) y in
+    let column : (i : ℕ) → (x +ℤ pos 1) +ℤ pos i ≡ x +ℤ pos (i + 1) = λ i. omega (arith, ints) in
     let start : x +ℤ pos 0 ≡ x = omega (arith, ints) in
-    let from_first = sum_below-first n (λ i. f (x +ℤ pos i) y) in
-    let behind : total_of others ≡ sum_below n (λ i. f (x +ℤ pos (suc i)) y) = total_of-row f y (x +ℤ pos 1) n ∙ (λ t. sum_below n (λ i. f (column i t) y)) in
-    let whole : f x y +ℤ total_of others ≡ sum_below (suc n) (λ i. f (x +ℤ pos i) y) = (λ t. f (sym start t) y +ℤ behind t) ∙ from_first in
-    cond_both (int_eq (f x y) (pos 0)) others (first ∷ others) (λ row. total_of row ≡ sum_below (suc n) (λ i. f (x +ℤ pos i) y))
+    let behind : total_of others ≡ sum_below n (λ i. terms (i + 1)) = total_of-row f y (x +ℤ pos 1) n ∙ (λ t. sum_below n (λ i. f (column i t) y)) in
+    let whole : f x y +ℤ total_of others ≡ sum_below (suc n) terms = omega (arith, ints, ap (λ x. f x y) start, sum_below-next n terms) in
+    cond_both (int_eq (f x y) (pos 0)) others (first ∷ others) (λ row. total_of row ≡ sum_below (suc n) terms)
     (λ blank. let none = (Decides-int_eq (f x y) (pos 0)).0 blank in omega (arith, ints))
     (λ dotted. whole)
 
@@ -58,3 +57,6 @@ total_of-picture_of f =
 pub total_of-picture : (ds : List Dot) → IsPicture ds → total_of ds ≡ sum_over_field (weight_at ds)
 total_of-picture ds picture =
     ap total_of (picture_of-from_weights ds (weight_at ds) picture (λ x y inside. refl)) ∙ total_of-picture_of (weight_at ds)
+
+-- what `total_is_the_sum_over_the_field` says
+pub ruleset field_totals = (total_of-picture_of, total_of-picture)

@@ -3,8 +3,8 @@ use Rattle.std.proofs.Common.{◌≡◌, ◌≢◌, Bool, true, false, not, get_
 use Rattle.std.specs.Prelude.{int_lt, IfSome, IsNone, ◌↔◌}
 use Rattle.std.specs.List.{Any}
 use Rattle.std.specs.Ordering.{int_eq}
-use Rattle.std.proofs.lemmas.Bool.{cond_both, false≢true}
-use Rattle.std.proofs.lemmas.Bool.Decides.{Decides-int_eq}
+use Rattle.std.proofs.lemmas.Bool.{false≢true}
+use Rattle.std.proofs.lemmas.Int.{ints}
 use Rattle.mf_rows.specs.declared.bounds.Box4.{Box4}
 use Rattle.mf_rows.specs.declared.bounds.Pixels.TheVariants.{Nonzero, Black}
 use Rattle.mf_rows.specs.Bounds.{AreBounds, IsBoxRound, IsLeastBox, is_positive_at}
@@ -19,12 +19,10 @@ use Rattle.mf_rows.proofs.BoxesJoined.{any_right, box_of_some}
 -- ---- pixels of nonzero weight
 
 is_nonzero : (w : ℤ) → w ≢ pos 0 → not (int_eq w (pos 0)) ≡ true
-is_nonzero w apart =
-    cond_both (int_eq w (pos 0)) true true (λ _. not (int_eq w (pos 0)) ≡ true) (λ zero. absurd (apart ((Decides-int_eq w (pos 0)).0 zero)))
-    (λ other. ap not other)
+is_nonzero w apart = grind (arith, ints)
 
 nonzero_is : (w : ℤ) → not (int_eq w (pos 0)) ≡ true → w ≢ pos 0
-nonzero_is w found zero = false≢true (sym (ap not ((Decides-int_eq w (pos 0)).1 zero)) ∙ found)
+nonzero_is w found zero = grind (arith, ints)
 
 -- a pixel of nonzero weight is a dot
 dot_at : (P : Dot → Type 0) (ds : List Dot) (x y : ℤ) → ((d : Dot) → d.x ≡ x → d.y ≡ y → P d) → weight_at ds x y ≢ pos 0 → Any P ds
@@ -89,6 +87,8 @@ pub none_if_blank : (rs : List EdgeRow) (bounds : Option Box4) → AreRows rs �
 none_if_blank rs None rows box = (λ _. blank_of_weights _ _ (lawful_picture_of_rows rs rows) (nonzero_in_rows rs rows) box, λ _. refl)
 none_if_blank rs (Some b) rows box =
     (λ none. absurd (false≢true (sym none)), λ blank. absurd (box_of_some b (subst (λ ds. IsLeastBox ds b) blank (least_in_rows rs b rows box))))
+
+pub ruleset least_boxes = (lawful_picture_of_rows, least_if_some, none_if_blank)
 
 positive_in_rows : (rs : List EdgeRow) → AreRows rs → (x y : ℤ) → among_rows Black rs x y ≡ is_positive_at (picture_of_rows rs) x y
 unfolding among_rows is_positive_at

@@ -1,5 +1,6 @@
+mod AddendsLemmas
 mod BandNumbersLemmas
-mod BandRowSums
+mod BandSumSteps
 mod BandsLemmas
 mod BandSumsLemmas
 mod BlankPictures
@@ -21,7 +22,6 @@ mod GroupsLemmas
 mod GroupsMade
 mod GroupSums
 pub mod LeastBoxes
-mod LongestRuns
 pub mod MaximalRuns
 pub mod PassedRuns
 mod PictureGroups
@@ -30,7 +30,6 @@ mod PictureRows
 mod PixelBoxes
 mod PixelColumns
 pub mod PlacesLemmas
-mod RemainingRuns
 mod RowChangesLemmas
 mod RowListLemmas
 mod RowMoves
@@ -38,6 +37,7 @@ mod RowRuns
 mod RowStretches
 mod RowSums
 mod RowSumSteps
+mod RowTotals
 pub mod RunDots
 mod RunEdges
 pub mod RunsLemmas
@@ -47,7 +47,6 @@ pub mod StretchBounds
 mod StripCopies
 mod StripsLemmas
 mod TakenEdges
-pub mod Totals
 mod TurnChanges
 mod TurnEdges
 mod TurnedRows

@@ -1,13 +1,16 @@
--- Maximal runs are the runs of their dots.
-use Rattle.std.proofs.Common.{◌≡◌, ℕ, zero, suc, ◌≤◌, ℤ, pos, ◌+ℤ◌, List, [], ◌∷◌, ◌++◌, refl, sym, ap, ◌∙◌, subst, arith}
+-- Maximal runs: they are the runs of their dots, and the weights of their pixels and neighbours say that they are as long as can be.
+use Rattle.std.proofs.Common.{◌≡◌, ℕ, zero, suc, ◌≤◌, ℤ, pos, ◌+ℤ◌, List, [], ◌∷◌, ◌++◌, refl, sym, ap, ◌∙◌, subst, arith, ◌≢◌, ◌-ℤ◌, ◌≤ℤ◌, get_or}
 use Rattle.std.specs.List.{All, flat_map}
 use Rattle.std.proofs.lemmas.Bool.{cond-true, cond-false, false_from_ne_true}
 use Rattle.std.proofs.lemmas.Int.{ints}
-use Rattle.std.proofs.lemmas.List.Elements.{All-head, All-tail}
+use Rattle.std.proofs.lemmas.List.Elements.{All-head, All-tail, All-cons, All-nil}
 use Rattle.mf_rows.specs.declared.run.Run.{Run}
-use Rattle.mf_rows.specs.Dots.{Dot}
-use Rattle.mf_rows.specs.Runs.{stretch, dots_of, continues, run_from, with_dot, runs_of, IsFollowedBy, AreMaximal}
-use Rattle.mf_rows.proofs.RunsLemmas.{continued}
+use Rattle.mf_rows.specs.Dots.{Dot, IsPicture, place, start_of_field, weight_at}
+use Rattle.mf_rows.specs.Runs.{stretch, dots_of, continues, run_from, with_dot, runs_of, AreMaximal, IsFollowedBy, IsMaximalRun}
+use Rattle.mf_rows.proofs.RunsLemmas.{continued, dots_of-runs_of, maximal_runs_of}
+use Rattle.mf_rows.proofs.DotsLemmas.{weight_at-before}
+use Rattle.mf_rows.proofs.PassedRuns.{runs_from-runs_of}
+use Rattle.mf_rows.proofs.RunDots.{IsOnRun, AreRunsFrom, runs_from-lower, dots_from-runs, weight_at-left_of, weight_at-on_first, weight_at-off_first}
 
 -- a dot that the first run does not follow is a run of its own
 with_dot-alone : (d : Dot) (rs : List Run) → AreMaximal (run_from d 0 ∷ rs) → with_dot d rs ≡ run_from d 0 ∷ rs
@@ -16,11 +19,6 @@ with_dot-alone d [] maximal = refl
 with_dot-alone d (r ∷ rs) maximal =
     cond-false (continues d r) (run_from d r.len ∷ rs) (run_from d 0 ∷ r ∷ rs)
     (false_from_ne_true (continues d r) (λ joined. maximal.0 ((continued d r).0 joined)))
-
--- a dot at the left end of a run lengthens it
-with_dot-longer : (d : Dot) (r : Run) (rs : List Run) → IsFollowedBy (run_from d 0) r → with_dot d (r ∷ rs) ≡ run_from d r.len ∷ rs
-unfolding with_dot
-with_dot-longer d r rs joined = cond-true (continues d r) (run_from d r.len ∷ rs) (run_from d 0 ∷ r ∷ rs) ((continued d r).1 joined)
 
 -- a run without its first column ends in the same column
 maximal-shifted : (y x w : ℤ) (n : ℕ) (rs : List Run) → AreMaximal (record { y = y; x = x; len = suc (suc n); weight = w } ∷ rs)
@@ -32,22 +30,19 @@ maximal-shifted y x w n (r ∷ rs) maximal = (
 )
 
 -- the first run of dots that begin with a stretch
-runs_of-stretch : (y x w : ℤ) (n : ℕ) (ds : List Dot) → AreMaximal (record { y = y; x = x; len = suc n; weight = w } ∷ runs_of ds)
-    → runs_of (stretch y x w (suc n) ++ ds) ≡ record { y = y; x = x; len = suc n; weight = w } ∷ runs_of ds
-unfolding runs_of stretch run_from
-runs_of-stretch y x w zero ds maximal = with_dot-alone (record { y = y; x = x; weight = w }) (runs_of ds) maximal
-runs_of-stretch y x w (suc n) ds maximal =
+runs_of-stretch : (y x w : ℤ) (n : ℕ) (ds : List Dot) → 1 ≤ n → AreMaximal (record { y = y; x = x; len = n; weight = w } ∷ runs_of ds)
+    → runs_of (stretch y x w n ++ ds) ≡ record { y = y; x = x; len = n; weight = w } ∷ runs_of ds
+unfolding runs_of stretch run_from with_dot
+runs_of-stretch y x w zero ds some maximal = absurd (omega arith)
+runs_of-stretch y x w (suc zero) ds some maximal = with_dot-alone (record { y = y; x = x; weight = w }) (runs_of ds) maximal
+runs_of-stretch y x w (suc (suc n)) ds some maximal =
     let first : Dot = record { y = y; x = x; weight = w } in
     let others : Run = record { y = y; x = x +ℤ pos 1; len = suc n; weight = w } in
-    ap (with_dot first) (runs_of-stretch y (x +ℤ pos 1) w n ds (maximal-shifted y x w n (runs_of ds) maximal))
-    ∙ with_dot-longer first others (runs_of ds) (record { row = refl; column = refl; weight = refl })
+    ap (with_dot first) (runs_of-stretch y (x +ℤ pos 1) w (suc n) ds (omega arith) (maximal-shifted y x w n (runs_of ds) maximal))
+    ∙ cond-true (continues first others) (run_from first (suc n) ∷ runs_of ds) (run_from first 0 ∷ others ∷ runs_of ds)
+    ((continued first others).1 (record { row = refl; column = refl; weight = refl }))
 
-runs_of-run : (y x w : ℤ) (n : ℕ) (ds : List Dot) → 1 ≤ n → AreMaximal (record { y = y; x = x; len = n; weight = w } ∷ runs_of ds)
-    → runs_of (stretch y x w n ++ ds) ≡ record { y = y; x = x; len = n; weight = w } ∷ runs_of ds
-runs_of-run y x w zero ds some maximal = absurd (omega arith)
-runs_of-run y x w (suc n) ds some maximal = runs_of-stretch y x w n ds maximal
-
-maximal-tail : (r : Run) (rs : List Run) → AreMaximal (r ∷ rs) → AreMaximal rs
+pub maximal-tail : (r : Run) (rs : List Run) → AreMaximal (r ∷ rs) → AreMaximal rs
 maximal-tail r [] maximal = tt
 maximal-tail r (s ∷ rs) maximal = maximal.1
 
@@ -59,5 +54,85 @@ runs_of-dots_of (r ∷ rs) some maximal =
     let P = λ (r : Run). 1 ≤ r.len in
     let others = runs_of-dots_of rs (All-tail P r rs some) (maximal-tail r rs maximal) in
     let followed = subst (λ all. AreMaximal (r ∷ all)) (sym others) maximal in
-    runs_of-run r.y r.x r.weight r.len (flat_map dots_of rs) (All-head P r rs some) followed
+    runs_of-stretch r.y r.x r.weight r.len (flat_map dots_of rs) (All-head P r rs some) followed
     ∙ ap (λ all. r ∷ all) others
+
+-- ---- the weights of pixels and neighbours
+
+-- each run begins at or after the first place
+runs_from-after : (low : ℤ) (rs : List Run) → AreRunsFrom low rs → All (λ r. low ≤ℤ place r.x r.y) rs
+unfolding place
+runs_from-after low [] runs = All-nil (λ r. low ≤ℤ place r.x r.y)
+runs_from-after low (r ∷ rs) runs =
+    let others = runs_from-lower low (place (r.x +ℤ pos r.len) r.y) rs (omega (arith, ints, runs.1)) runs.2 in
+    All-cons (λ r. low ≤ℤ place r.x r.y) r rs runs.1 (runs_from-after low rs others)
+
+-- the first of maximal runs is continued by none of the others
+not_followed : (r : Run) (rs : List Run) → AreRunsFrom (place (r.x +ℤ pos r.len) r.y) rs → AreMaximal (r ∷ rs) → All (λ s. IsFollowedBy r s → ⊥) rs
+unfolding place
+not_followed r [] runs maximal = All-nil (λ s. IsFollowedBy r s → ⊥)
+not_followed r (s ∷ rs) runs maximal =
+    let others = runs_from-after (place (s.x +ℤ pos s.len) s.y) rs runs.2 in
+    All-cons (λ s. IsFollowedBy r s → ⊥) s rs maximal.0
+    (λ k t lt joined. omega (arith, ints, others k t lt, runs.0.some, runs.1, joined.row, joined.column))
+
+-- so the pixel after it has another weight
+weight-behind : (r : Run) (rs : List Run) → r.weight ≢ pos 0 → AreRunsFrom (place (r.x +ℤ pos r.len) r.y) rs → AreMaximal (r ∷ rs)
+    → weight_at (flat_map dots_of rs) (r.x +ℤ pos r.len) r.y ≢ r.weight
+unfolding place weight_at
+weight-behind r [] some runs maximal = λ same. some (sym same)
+weight-behind r (s ∷ rs) some runs maximal = λ same.
+    let x = r.x +ℤ pos r.len in
+    let low = place (s.x +ℤ pos s.len) s.y in
+    let elsewhere : IsOnRun s x r.y → ⊥ = λ on. maximal.0 (record {
+      row = sym on.row;
+      column = omega (arith, ints, on.row, on.left, runs.1);
+      weight = sym same ∙ weight_at-on_first (place x r.y) s rs x r.y runs on;
+    }) in
+    let none = weight_at-before low (flat_map dots_of rs) x r.y (dots_from-runs low rs runs.2) (omega (arith, ints, runs.0.some, runs.1)) in
+    some (sym same ∙ weight_at-off_first s rs x r.y elsewhere ∙ none)
+
+-- and it is as long as it can be
+first_longest : (low : ℤ) (r : Run) (rs : List Run) → AreRunsFrom low (r ∷ rs) → AreMaximal (r ∷ rs) → IsMaximalRun (flat_map dots_of (r ∷ rs)) r
+first_longest low r rs runs maximal = record {
+  some = runs.0.some;
+  nonzero = runs.0.nonzero;
+  inside = λ i lt. weight_at-on_first low r rs (r.x +ℤ pos i) r.y runs (record { row = refl; left = omega (arith, ints); right = omega (arith, ints, lt) });
+  left = λ same. runs.0.nonzero (sym same ∙ weight_at-left_of r.x r.y (r.x -ℤ pos 1) (r ∷ rs) (runs.0, omega (arith, ints), runs.2) (omega (arith, ints)));
+  right = λ same. weight-behind r rs runs.0.nonzero runs.2 maximal
+      (sym (weight_at-off_first r rs (r.x +ℤ pos r.len) r.y (λ on. omega (arith, ints, on.right))) ∙ same);
+}
+
+-- a later run, which does not continue it, stays as long as it can be
+kept : (low : ℤ) (r : Run) (rs : List Run) (s : Run) → AreRunsFrom low (r ∷ rs) → place (r.x +ℤ pos r.len) r.y ≤ℤ place s.x s.y
+    → (IsFollowedBy r s → ⊥) → IsMaximalRun (flat_map dots_of rs) s → IsMaximalRun (flat_map dots_of (r ∷ rs)) s
+unfolding place
+kept low r rs s runs after apart maximal =
+    let left = s.x -ℤ pos 1 in
+    let right = s.x +ℤ pos s.len in
+    let later = λ (x : ℤ) (from : s.x ≤ℤ x). weight_at-off_first r rs x s.y (λ on. omega (arith, ints, on.row, on.right)) in
+    record {
+      some = maximal.some;
+      nonzero = maximal.nonzero;
+      inside = λ i lt. later (s.x +ℤ pos i) (omega (arith, ints)) ∙ maximal.inside i lt;
+      left = λ same. maximal.left (sym (weight_at-off_first r rs left s.y (λ on. apart (record {
+        row = on.row;
+        column = omega (arith, ints, on.row, on.right);
+        weight = sym (weight_at-on_first low r rs left s.y runs on) ∙ same;
+      }))) ∙ same);
+      right = λ same. maximal.right (sym (later right (omega (arith, ints))) ∙ same);
+    }
+
+longest : (low : ℤ) (rs : List Run) → AreRunsFrom low rs → AreMaximal rs → All (IsMaximalRun (flat_map dots_of rs)) rs
+longest low [] runs maximal = All-nil (IsMaximalRun [])
+longest low (r ∷ rs) runs maximal =
+    let end = place (r.x +ℤ pos r.len) r.y in
+    let others = longest end rs runs.2 (maximal-tail r rs maximal) in
+    All-cons (IsMaximalRun (flat_map dots_of (r ∷ rs))) r rs (first_longest low r rs runs maximal)
+    (λ k s lt. kept low r rs (get_or rs k s) runs (runs_from-after end rs runs.2 k s lt) (not_followed r rs runs.2 maximal k s lt) (others k s lt))
+
+-- each run of dots has at least one pixel, and is as long as it can be
+pub longest_runs : (ds : List Dot) → IsPicture ds → All (IsMaximalRun ds) (runs_of ds)
+longest_runs ds picture =
+    subst (λ es. All (IsMaximalRun es) (runs_of ds)) (dots_of-runs_of ds)
+    (longest start_of_field (runs_of ds) (runs_from-runs_of start_of_field ds picture.dots) (maximal_runs_of ds))

@@ -1,55 +1,57 @@
 -- The dots of a picture before those of its last runs.
-use Rattle.std.proofs.Common.{◌≡◌, ◌<◌, ◌≤◌, length, true, List, [], ◌∷◌, ◌++◌, sym, ◌∙◌, subst, arith}
+use Rattle.std.proofs.Common.{◌≡◌, ℕ, suc, ℤ, pos, ◌+ℤ◌, ◌≤ℤ◌, List, [], ◌∷◌, ◌++◌, sym, ◌∙◌, arith}
 use Rattle.std.specs.List.{All, flat_map}
 use Rattle.std.proofs.lemmas.Bool.{cond_both}
 use Rattle.std.proofs.lemmas.Int.{ints}
-use Rattle.std.proofs.lemmas.List.{append-nil, append_assoc, length-append, get_or_append_left}
-use Rattle.std.proofs.lemmas.List.Elements.{All-nil, All-cons, All-head, All-tail, All-rest, All-same}
+use Rattle.std.proofs.lemmas.List.{append-nil, append_assoc}
+use Rattle.std.proofs.lemmas.List.Elements.{All-head, All-rest, All-same}
+use Rattle.mf_geom.specs.Coordinates.{greatest_coordinate}
 use Rattle.mf_rows.specs.declared.run.Run.{Run}
-use Rattle.mf_rows.specs.Dots.{Dot, IsDot, IsPicture, start_of_field}
+use Rattle.mf_rows.specs.Dots.{Dot, IsDot, IsPicture, AreDotsFrom, place, start_of_field}
 use Rattle.mf_rows.specs.Order.{IsRun}
 use Rattle.mf_rows.specs.Runs.{dots_of, continues, run_from, with_dot, runs_of}
-use Rattle.mf_rows.proofs.DotsLemmas.{dots_from-lawful}
+use Rattle.mf_rows.proofs.RunDots.{AreRunsFrom, runs_from-lower, runs_from-lawful}
 use Rattle.mf_rows.proofs.RunsLemmas.{continued, dots_of-runs_of}
 
-run_of_dot : (d : Dot) → IsDot d → IsRun (run_from d 0)
+-- a run that begins at a dot is lawful where it ends in the field
+run_from_dot : (d : Dot) (n : ℕ) → IsDot d → (d.x +ℤ pos (suc n)) ≤ℤ greatest_coordinate → IsRun (run_from d n)
 unfolding run_from
-run_of_dot d dot = record {
+run_from_dot d n dot right = record {
   some = omega arith;
   left = dot.in_field.left;
-  right = omega (arith, ints, dot.in_field.right);
+  right = right;
   bottom = dot.in_field.bottom;
   top = dot.in_field.top;
   lawful = dot.lawful;
   nonzero = dot.nonzero;
 }
 
--- a dot lengthens a run that it continues, and the run ends where it did
-lengthened_run : (d : Dot) (r : Run) → IsDot d → IsRun r → continues d r ≡ true → IsRun (run_from d r.len)
-unfolding run_from
-lengthened_run d r dot run goes_on = record {
-  some = omega arith;
-  left = dot.in_field.left;
-  right = omega (arith, ints, run.right, ((continued d r).0 goes_on).column);
-  bottom = dot.in_field.bottom;
-  top = dot.in_field.top;
-  lawful = dot.lawful;
-  nonzero = dot.nonzero;
-}
+runs_from-with_dot : (low : ℤ) (d : Dot) (rs : List Run) → IsDot d → low ≤ℤ place d.x d.y
+    → AreRunsFrom (place d.x d.y +ℤ pos 1) rs → AreRunsFrom low (with_dot d rs)
+unfolding with_dot run_from place
+runs_from-with_dot low d [] dot le runs = (run_from_dot d 0 dot (omega (arith, ints, dot.in_field.right)), le, tt)
+runs_from-with_dot low d (r ∷ rs) dot le runs =
+    cond_both (continues d r) (run_from d r.len ∷ rs) (run_from d 0 ∷ r ∷ rs) (AreRunsFrom low)
+    (λ yes.
+    let joined = (continued d r).0 yes in
+    let end = place (r.x +ℤ pos r.len) r.y in
+    let others = runs_from-lower (place (d.x +ℤ pos (suc r.len)) d.y) end rs (omega (arith, ints, joined.row, joined.column)) runs.2 in
+    (run_from_dot d r.len dot (omega (arith, ints, runs.0.right, joined.column)), le, others))
+    (λ no.
+    let others = runs_from-lower (place (d.x +ℤ pos 1) d.y) (place d.x d.y +ℤ pos 1) (r ∷ rs) (omega (arith, ints)) runs in
+    (run_from_dot d 0 dot (omega (arith, ints, dot.in_field.right)), le, others))
 
-lawful_with_dot : (d : Dot) (rs : List Run) → IsDot d → All IsRun rs → All IsRun (with_dot d rs)
-unfolding with_dot
-lawful_with_dot d [] dot runs = All-cons IsRun (run_from d 0) [] (run_of_dot d dot) runs
-lawful_with_dot d (r ∷ rs) dot runs =
-    cond_both (continues d r) (run_from d r.len ∷ rs) (run_from d 0 ∷ r ∷ rs) (All IsRun)
-    (λ yes. All-cons IsRun (run_from d r.len) rs (lengthened_run d r dot (All-head IsRun r rs runs) yes) (All-tail IsRun r rs runs))
-    (λ no. All-cons IsRun (run_from d 0) (r ∷ rs) (run_of_dot d dot) runs)
-
--- the runs of lawful dots lie in the field, with lawful weights
-pub lawful_runs_of : (ds : List Dot) → All IsDot ds → All IsRun (runs_of ds)
+-- the runs of dots in reading order are in reading order, lie in the field, and have lawful weights
+pub runs_from-runs_of : (low : ℤ) (ds : List Dot) → AreDotsFrom low ds → AreRunsFrom low (runs_of ds)
 unfolding runs_of
-lawful_runs_of [] dots = All-nil IsRun
-lawful_runs_of (d ∷ ds) dots = lawful_with_dot d (runs_of ds) (All-head IsDot d ds dots) (lawful_runs_of ds (All-tail IsDot d ds dots))
+runs_from-runs_of low [] dots = tt
+runs_from-runs_of low (d ∷ ds) dots = runs_from-with_dot low d (runs_of ds) dots.0 dots.1 (runs_from-runs_of (place d.x d.y +ℤ pos 1) ds dots.2)
+
+pub lawful_runs_of : (ds : List Dot) → IsPicture ds → All IsRun (runs_of ds)
+lawful_runs_of ds picture = runs_from-lawful start_of_field (runs_of ds) (runs_from-runs_of start_of_field ds picture.dots)
+
+pub runs_are_lawful : (ds : List Dot) (rs : List Run) → IsPicture ds → rs ≡ runs_of ds → All IsRun rs
+runs_are_lawful ds rs picture all = rw all (lawful_runs_of ds picture)
 
 -- the first dots are those before the dots of the last runs
 pub record ArePassedDots (ds : List Dot) (rs : List Run) (passed : List Dot) : Type 0 where
@@ -57,7 +59,7 @@ pub record ArePassedDots (ds : List Dot) (rs : List Run) (passed : List Dot) : T
   pub runs : All IsRun rs
 
 pub none_passed : (ds : List Dot) (rs : List Run) → IsPicture ds → rs ≡ runs_of ds → ArePassedDots ds rs []
-none_passed ds rs picture all = rw all (record { split = sym (dots_of-runs_of ds); runs = lawful_runs_of ds (dots_from-lawful start_of_field ds picture.dots) })
+none_passed ds rs picture all = rw all (record { split = sym (dots_of-runs_of ds); runs = lawful_runs_of ds picture })
 
 -- the first of the last runs is lawful, and is passed next
 pub next_is_lawful : (ds : List Dot) (rs : List Run) (r : Run) (others : List Run) (passed : List Dot) → rs ≡ r ∷ others → ArePassedDots ds rs passed → IsRun r
@@ -72,14 +74,3 @@ one_more_passed ds rs r others passed first so_far = record {
 
 pub all_passed : (ds : List Dot) (rs : List Run) (passed : List Dot) → rs ≡ [] → ArePassedDots ds rs passed → passed ≡ ds
 all_passed ds rs passed none so_far = sym (so_far.split ∙ rw none (append-nil passed))
-
--- passed dots are dots of the picture
-pub passed_are_lawful : (ds : List Dot) (rs : List Run) (passed : List Dot) → IsPicture ds → ArePassedDots ds rs passed → All IsDot passed
-passed_are_lawful ds rs passed picture so_far = λ k d lt.
-    let rest = flat_map dots_of rs in
-    let within : k < length (passed ++ rest) = rw length-append (omega (arith, lt)) in
-    subst IsDot (get_or_append_left passed rest d k lt)
-    (All-same IsDot (passed ++ rest) ds (sym so_far.split) (dots_from-lawful start_of_field ds picture.dots) k d within)
-
-pub length-passed : (ds : List Dot) (rs : List Run) (passed : List Dot) → ArePassedDots ds rs passed → length passed ≤ length ds
-length-passed ds rs passed so_far = rw (so_far.split, length-append) (omega arith)

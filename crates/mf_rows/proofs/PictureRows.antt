@@ -1,8 +1,11 @@
 -- The rows of a picture, and pictures to which others are added.
-use Rattle.std.proofs.Common.{◌≡◌, ◌≢◌, ℕ, zero, suc, ◌<◌, ℤ, pos, ◌-ℤ◌, ◌<ℤ◌, List, [], ◌∷◌, length, get_or, refl, sym, ap, ◌∙◌, subst, arith}
+use Rattle.std.proofs.Common.{◌≡◌, ◌≢◌, ℕ, zero, suc, ◌<◌, ℤ, pos, ◌-ℤ◌, ◌<ℤ◌, List, [], ◌∷◌, length, get_or, refl, sym, ap, ◌∙◌, subst, Result, arith}
 use Rattle.std.specs.List.{All, Contains}
+use Rattle.std.specs.Prelude.{IfOk}
+use Rattle.std.proofs.lemmas.Result.{IfOk-weaker}
 use Rattle.std.proofs.lemmas.Int.{ints}
 use Rattle.mf_geom.specs.Coordinates.{last_in_field}
+use Rattle.mf_geom.specs.Field.{IsInField}
 use Rattle.mf_rows.specs.declared.corner.Corner.{Corner}
 use Rattle.mf_edges.specs.declared.edge.Edge.{Edge}
 use Rattle.mf_edges.specs.declared.row_change.RowChange.TheVariants as change
@@ -21,7 +24,7 @@ use Rattle.mf_rows.specs.Signs.{negated_rows}
 use Rattle.mf_rows.specs.Sums.{HasWeights, IsUnlawfulSomewhere, weight_in_all, difference_at, sum_at, HaveFieldWeights, HaveRowWeights}
 use Rattle.mf_edges.specs.WeightMaps.{mapped_weight}
 use Rattle.mf_rows.specs.WeightMaps.{mapped_weight_at}
-use Rattle.mf_rows.proofs.EdgeRowsLemmas.{weight_in_rows-here, weight_in_rows-elsewhere, weight_in_rows-none, weight_in_rows-below, rows_from-below, weight_at-picture_of_rows}
+use Rattle.mf_rows.proofs.EdgeRowsLemmas.{weight_in_rows-here, weight_in_rows-elsewhere, weight_in_rows-none, weight_in_rows-below, rows_from-below, lawful_picture_of_rows, weight_at-picture_of_rows}
 use Rattle.mf_rows.proofs.SignsLemmas.{weight_in_rows-negated}
 
 -- ---- one row among rows
@@ -53,116 +56,99 @@ weight_at-found {rs = rs} {y = y} x rows row = weight_at-picture_of_rows rs x y 
 pub weight_at-blank : {rs : List EdgeRow} {y : ℤ} (x : ℤ) → AreRows rs → HasNoRow rs y → weight_at (picture_of_rows rs) x y ≡ pos 0
 weight_at-blank {rs = rs} {y = y} x rows row = weight_at-picture_of_rows rs x y rows ∙ row.weights x
 
--- ---- the difference of two pictures
+-- ---- two pictures together
+
+-- rows with weights that are those of an operation on pictures represent its picture
+weights_as : (f g : ℤ → ℤ → ℤ) (rs : List EdgeRow) → AreRows rs → HaveRowWeights f rs → ((x y : ℤ) → f x y ≡ g x y) → HasWeights g (picture_of_rows rs)
+weights_as f g rs rows has same = record { weights = λ x y inside. weight_at-picture_of_rows rs x y rows ∙ has.weights x y ∙ same x y }
+
+pub unlawful_as : {f g : ℤ → ℤ → ℤ} (unlawful : IsUnlawfulSomewhere f) → (IsInField unlawful.x unlawful.y → g unlawful.x unlawful.y ≡ f unlawful.x unlawful.y)
+    → IsUnlawfulSomewhere g
+unlawful_as unlawful same = record {
+  x = unlawful.x;
+  y = unlawful.y;
+  in_field = unlawful.in_field;
+  unlawful = λ lawful. unlawful.unlawful (subst IsLawfulWeight (same unlawful.in_field) lawful);
+}
+
+module _ (rs ss : List EdgeRow) (left : AreRows rs) (right : AreRows ss) where
+  difference_is : (x y : ℤ) → weight_in_all rs (negated_rows ss) x y ≡ difference_at (picture_of_rows rs) (picture_of_rows ss) x y
+  unfolding difference_at weight_in_all
+  difference_is x y = omega (arith, ints, weight_at-picture_of_rows rs x y left, weight_at-picture_of_rows ss x y right, weight_in_rows-negated ss x y)
+
+  sum_is : (x y : ℤ) → weight_in_all rs ss x y ≡ sum_at (picture_of_rows rs) (picture_of_rows ss) x y
+  unfolding sum_at weight_in_all
+  sum_is x y = omega (arith, ints, weight_at-picture_of_rows rs x y left, weight_at-picture_of_rows ss x y right)
 
 -- rows with the weights of rows and of others that are negated represent the difference of their pictures
 pub weights_with_difference : (rs ss new : List EdgeRow) → AreRows rs → AreRows ss → AreRows new
     → HaveRowWeights (weight_in_all rs (negated_rows ss)) new → HasWeights (difference_at (picture_of_rows rs) (picture_of_rows ss)) (picture_of_rows new)
-unfolding difference_at weight_in_all
-weights_with_difference rs ss new left right rows has = record {
-  weights = λ x y inside.
-      omega (
-        arith,
-        ints,
-        weight_at-picture_of_rows rs x y left,
-        weight_at-picture_of_rows ss x y right,
-        weight_at-picture_of_rows new x y rows,
-        weight_in_rows-negated ss x y,
-        has.weights x y,
-      );
-}
+weights_with_difference rs ss new left right rows has = weights_as _ _ new rows has (difference_is rs ss left right)
 
 pub unlawful_with_difference : (rs ss : List EdgeRow) → AreRows rs → AreRows ss → IsUnlawfulSomewhere (weight_in_all rs (negated_rows ss))
     → IsUnlawfulSomewhere (difference_at (picture_of_rows rs) (picture_of_rows ss))
-unfolding difference_at weight_in_all
-unlawful_with_difference rs ss left right unlawful =
-    let x = unlawful.x in
-    let y = unlawful.y in
-    let same : difference_at (picture_of_rows rs) (picture_of_rows ss) x y ≡ weight_in_all rs (negated_rows ss) x y =
-    omega (arith, ints, weight_at-picture_of_rows rs x y left, weight_at-picture_of_rows ss x y right, weight_in_rows-negated ss x y) in
-    record { x = x; y = y; in_field = unlawful.in_field; unlawful = λ lawful. unlawful.unlawful (subst IsLawfulWeight same lawful) }
-
--- ---- the sum of two pictures
+unlawful_with_difference rs ss left right unlawful = unlawful_as unlawful (λ inside. sym (difference_is rs ss left right _ _))
 
 -- rows with the weights of two lists of rows together represent the sum of their pictures
 pub weights_with_sum : (rs ss sum : List EdgeRow) → AreRows rs → AreRows ss → AreRows sum
     → HaveRowWeights (weight_in_all rs ss) sum → HasWeights (sum_at (picture_of_rows rs) (picture_of_rows ss)) (picture_of_rows sum)
-unfolding sum_at weight_in_all
-weights_with_sum rs ss sum left right rows has = record {
-  weights = λ x y inside.
-      omega (
-        arith,
-        ints,
-        weight_at-picture_of_rows rs x y left,
-        weight_at-picture_of_rows ss x y right,
-        weight_at-picture_of_rows sum x y rows,
-        has.weights x y,
-      );
-}
+weights_with_sum rs ss sum left right rows has = weights_as _ _ sum rows has (sum_is rs ss left right)
 
 pub unlawful_with_sum : (rs ss : List EdgeRow) → AreRows rs → AreRows ss → IsUnlawfulSomewhere (weight_in_all rs ss)
     → IsUnlawfulSomewhere (sum_at (picture_of_rows rs) (picture_of_rows ss))
-unfolding sum_at weight_in_all
-unlawful_with_sum rs ss left right unlawful =
-    let x = unlawful.x in
-    let y = unlawful.y in
-    let same : sum_at (picture_of_rows rs) (picture_of_rows ss) x y ≡ weight_in_all rs ss x y =
-    omega (arith, ints, weight_at-picture_of_rows rs x y left, weight_at-picture_of_rows ss x y right) in
-    record { x = x; y = y; in_field = unlawful.in_field; unlawful = λ lawful. unlawful.unlawful (subst IsLawfulWeight same lawful) }
+unlawful_with_sum rs ss left right unlawful = unlawful_as unlawful (λ inside. sym (sum_is rs ss left right _ _))
+
+pub ruleset sums = (lawful_picture_of_rows, weights_with_sum, unlawful_with_sum)
+
+pub ruleset differences = (lawful_picture_of_rows, weights_with_difference, unlawful_with_difference)
 
 -- ---- corners are added
 
+corners_are : (ds : List Dot) (ks : List Corner) {rs : List EdgeRow} (x y : ℤ) → AreRows rs → HaveFieldWeights (added_by_all ks) rs → IsInField x y
+    → with_corners_at ds ks x y ≡ sum_at ds (picture_of_rows rs) x y
+unfolding sum_at with_corners_at
+corners_are ds ks {rs = rs} x y rows added inside = omega (arith, ints, added.weights x y inside, weight_at-picture_of_rows rs x y rows)
+
 pub weights_with_corners : (ds : List Dot) (ks : List Corner) {rs : List EdgeRow} {es : List Dot} → AreRows rs
     → HaveFieldWeights (added_by_all ks) rs → HasWeights (sum_at ds (picture_of_rows rs)) es → HasWeights (with_corners_at ds ks) es
-unfolding sum_at with_corners_at
-weights_with_corners ds ks {rs = rs} rows added has =
-    record { weights = λ x y inside. omega (arith, ints, added.weights x y inside, has.weights x y inside, weight_at-picture_of_rows rs x y rows) }
+weights_with_corners ds ks rows added has =
+    record { weights = λ x y inside. has.weights x y inside ∙ sym (corners_are ds ks x y rows added inside) }
 
 pub unlawful_with_corners : (ds : List Dot) (ks : List Corner) {rs : List EdgeRow} → AreRows rs
     → HaveFieldWeights (added_by_all ks) rs → IsUnlawfulSomewhere (sum_at ds (picture_of_rows rs)) → IsUnlawfulSomewhere (with_corners_at ds ks)
-unfolding sum_at with_corners_at
-unlawful_with_corners ds ks {rs = rs} rows added unlawful =
-    let x = unlawful.x in
-    let y = unlawful.y in
-    let same : with_corners_at ds ks x y ≡ sum_at ds (picture_of_rows rs) x y =
-    omega (arith, ints, added.weights x y unlawful.in_field, weight_at-picture_of_rows rs x y rows) in
-    record { x = x; y = y; in_field = unlawful.in_field; unlawful = λ lawful. unlawful.unlawful (subst IsLawfulWeight same lawful) }
+unlawful_with_corners ds ks rows added unlawful = unlawful_as unlawful (corners_are ds ks _ _ rows added)
 
 -- ---- rows are changed, or move
 
-pub weights_mapped : (m : WeightMap) (rs mapped : List EdgeRow) → AreRows rs → AreRows mapped
-    → HaveRowWeights (image_in_rows (change.Weights m) rs) mapped → HasWeights (mapped_weight_at m (picture_of_rows rs)) (picture_of_rows mapped)
+-- an operation on rows is one on the pictures that they represent
+pub record IsImage (image : List EdgeRow → ℤ → ℤ → ℤ) (at : List Dot → ℤ → ℤ → ℤ) : Type 0 where
+  pub same : (rs : List EdgeRow) (x y : ℤ) → AreRows rs → image rs x y ≡ at (picture_of_rows rs) x y
+
+pub mapped_is : (m : WeightMap) → IsImage (image_in_rows (change.Weights m)) (mapped_weight_at m)
 unfolding mapped_weight_at image_in_rows
-weights_mapped m rs mapped rows lawful has = record {
-  weights = λ x y inside. weight_at-picture_of_rows mapped x y lawful ∙ has.weights x y ∙ ap (mapped_weight m) (sym (weight_at-picture_of_rows rs x y rows));
-}
+mapped_is m = record { same = λ rs x y rows. ap (mapped_weight m) (sym (weight_at-picture_of_rows rs x y rows)) }
 
-pub weights_of_columns_mirrored : (rs mirrored : List EdgeRow) → AreRows rs → AreRows mirrored
-    → HaveRowWeights (image_in_rows change.Mirror rs) mirrored → HasWeights (column_mirror_at (picture_of_rows rs)) (picture_of_rows mirrored)
+pub columns_mirrored : IsImage (image_in_rows change.Mirror) column_mirror_at
 unfolding column_mirror_at image_in_rows
-weights_of_columns_mirrored rs mirrored rows lawful has = record {
-  weights = λ x y inside. weight_at-picture_of_rows mirrored x y lawful ∙ has.weights x y ∙ sym (weight_at-picture_of_rows rs (opposite x) y rows);
-}
+columns_mirrored = record { same = λ rs x y rows. sym (weight_at-picture_of_rows rs (opposite x) y rows) }
 
-pub weights_of_columns_stretched : (s : Stretch) (rs changed : List EdgeRow) → AreRows rs → AreRows changed
-    → HaveRowWeights (image_in_rows (change.Columns s) rs) changed → HasWeights (column_stretch_at s (picture_of_rows rs)) (picture_of_rows changed)
+pub columns_stretched : (s : Stretch) → IsImage (image_in_rows (change.Columns s)) (column_stretch_at s)
 unfolding column_stretch_at image_in_rows
-weights_of_columns_stretched s rs changed rows lawful has = record {
-  weights = λ x y inside. weight_at-picture_of_rows changed x y lawful ∙ has.weights x y ∙ sym (weight_at-picture_of_rows rs (source_of s x) y rows);
-}
+columns_stretched s = record { same = λ rs x y rows. sym (weight_at-picture_of_rows rs (source_of s x) y rows) }
 
-pub weights_of_rows_mirrored : (rs mirrored : List EdgeRow) → AreRows rs → AreRows mirrored
-    → HaveRowWeights (mirror_in_rows rs) mirrored → HasWeights (row_mirror_at (picture_of_rows rs)) (picture_of_rows mirrored)
+pub rows_mirrored : IsImage mirror_in_rows row_mirror_at
 unfolding row_mirror_at mirror_in_rows
-weights_of_rows_mirrored rs mirrored rows lawful has = record {
-  weights = λ x y inside. weight_at-picture_of_rows mirrored x y lawful ∙ has.weights x y ∙ sym (weight_at-picture_of_rows rs x (opposite y) rows);
-}
+rows_mirrored = record { same = λ rs x y rows. sym (weight_at-picture_of_rows rs x (opposite y) rows) }
 
--- ---- pictures are turned
-
-pub weights_turned : (rs turned : List EdgeRow) → AreRows rs → AreRows turned
-    → HaveRowWeights (quarter_turn_in_rows rs) turned → HasWeights (quarter_turn_at (picture_of_rows rs)) (picture_of_rows turned)
+pub quarter_turn : IsImage quarter_turn_in_rows quarter_turn_at
 unfolding quarter_turn_at quarter_turn_in_rows
-weights_turned rs turned rows lawful has = record {
-  weights = λ x y inside. weight_at-picture_of_rows turned x y lawful ∙ has.weights x y ∙ sym (weight_at-picture_of_rows rs y (opposite x) rows);
-}
+quarter_turn = record { same = λ rs x y rows. sym (weight_at-picture_of_rows rs y (opposite x) rows) }
+
+-- a picture that is made of such rows
+pub image_made : {image : List EdgeRow → ℤ → ℤ → ℤ} {at : List Dot → ℤ → ℤ → ℤ} {rs ss new : List EdgeRow} {ds : List Dot} {E : Type 0}
+    → (r : Result (List Dot) E) → IsImage image at → AreRows rs → rs ≡ ss → picture_of_rows ss ≡ ds → AreRows new → HaveRowWeights (image rs) new
+    → IfOk r (λ made. made ≡ picture_of_rows new) → IfOk r (HasWeights (at ds))
+image_made {image = image} {at = at} {rs = rs} {new = new} {ds = ds} r is rows all picture lawful has =
+    let same : picture_of_rows rs ≡ ds = ap picture_of_rows all ∙ picture in
+    IfOk-weaker r (λ p. p ≡ picture_of_rows new) (HasWeights (at ds))
+    (λ p made. rw (made, ← same) (weights_as (image rs) (at (picture_of_rows rs)) new lawful has (λ x y. is.same rs x y rows)))

@@ -13,6 +13,7 @@ use Rattle.mf_rows.specs.Bounds.{AreBounds, IsBoxRound, is_among, with_columns}
 use Rattle.mf_rows.specs.EdgeRows.{EdgeRow, AreRows, AreRowsFrom, weight_in_rows}
 use Rattle.mf_rows.specs.PixelsOfRows.{AreColumns, HasNone, among_rows}
 use Rattle.mf_rows.proofs.EdgeRowsLemmas.{weight_in_rows-append, weight_in_rows-here, weight_in_rows-elsewhere, weight_in_rows-above, rows_from-apart, rows_from-back}
+use Rattle.mf_rows.proofs.LeastBoxes.{same_bounds}
 use Rattle.mf_rows.proofs.PixelColumns.{zero_is_none}
 use Rattle.mf_rows.proofs.RowSums.{by_same}
 use Rattle.mf_rows.proofs.BoxesJoined.{either_min, either_max}
@@ -27,20 +28,6 @@ record IsLowered (f g : ℤ → ℤ → Bool) (y : ℤ) : Type 0 where
 module _ (f g : ℤ → ℤ → Bool) (y : ℤ) (lowered : IsLowered f g y) where
   kept : (u v : ℤ) → f u v ≡ true → g u v ≡ true
   kept u v found = let higher = lowered.above u v found in lowered.others u v (λ same. omega (arith, ints)) ∙ found
-
-  bounds_same : (bounds : Option Box4) → ((u : ℤ) → g u y ≡ false) → AreBounds f bounds → AreBounds g bounds
-  bounds_same None none before = λ u v. by_same v y
-      (λ same. ap (g u) same ∙ none u)
-      (λ apart. lowered.others u v apart ∙ before u v)
-  bounds_same (Some b) none before = record {
-    within = λ u v found. by_same v y
-        (λ same. absurd (false≢true (sym (ap (g u) same ∙ none u) ∙ found)))
-        (λ apart. before.within u v (sym (lowered.others u v apart) ∙ found));
-    left = (before.left.0, kept _ _ before.left.1);
-    right = (before.right.0, kept _ _ before.right.1);
-    bottom = (before.bottom.0, kept _ _ before.bottom.1);
-    top = (before.top.0, kept _ _ before.top.1);
-  }
 
   -- the pixels of row y lie in columns, and there is one in the first and in the last
   module _ (c : Columns) (inside : (u : ℤ) → g u y ≡ true → (c.first ≤ℤ u) × (u ≤ℤ c.last)) (first : g c.first y ≡ true) (last : g c.last y ≡ true) where
@@ -117,6 +104,10 @@ module _ (p : Pixels) (all rest : List EdgeRow) (bounds : Option Box4) (r : Edge
       (λ q below. let lower : r.y <ℤ q.y = All-head (λ s. s.y <ℤ q.y) r others below in omega (arith, ints))
       so_far.passed (rows_from-apart last_in_field so_far.passed (r ∷ others) joined)
 
+  none_yet : (x y : ℤ) → y ≤ℤ r.y → among_rows p so_far.passed x y ≡ false
+  unfolding among_rows
+  none_yet x y le = ap (is_among p) (weight_in_rows-above so_far.passed x y (higher y le)) ∙ zero_is_none p
+
   in_row : (x : ℤ) → among_rows p (so_far.passed ++ r ∷ []) x r.y ≡ is_among p (weight_in r.edges x)
   unfolding among_rows
   in_row x =
@@ -136,10 +127,7 @@ module _ (p : Pixels) (all rest : List EdgeRow) (bounds : Option Box4) (r : Edge
         let none = weight_in_rows-above [] x y (All-nil (λ q. y <ℤ q.y)) in
         let same : weight_in_rows (so_far.passed ++ r ∷ []) x y ≡ weight_in_rows so_far.passed x y = omega (arith, ints) in
         ap (is_among p) same;
-    above = λ x y found. by_lt_z r.y y (λ lt. lt)
-        (λ le.
-        let none = weight_in_rows-above so_far.passed x y (higher y le) in
-        absurd (false≢true (sym (ap (is_among p) none ∙ zero_is_none p) ∙ found)));
+    above = λ x y found. by_lt_z r.y y (λ lt. lt) (λ le. absurd (false≢true (sym (none_yet x y le) ∙ found)));
   }
 
   split : all ≡ (so_far.passed ++ r ∷ []) ++ others
@@ -149,7 +137,8 @@ module _ (p : Pixels) (all rest : List EdgeRow) (bounds : Option Box4) (r : Edge
   bounds_kept none = record {
     passed = so_far.passed ++ r ∷ [];
     split = split;
-    box = bounds_same _ _ r.y is_lowered bounds (λ x. in_row x ∙ none.none x) so_far.box;
+    box = same_bounds _ _ bounds (λ x y. by_same y r.y (λ here. rw here (none_yet x r.y (omega (arith, ints)) ∙ sym (in_row x ∙ none.none x)))
+        (λ apart. sym (is_lowered.others x y apart))) so_far.box;
   }
 
   pub bounds_grown : (c : Columns) → AreColumns p r.edges c → AreBoundsBefore p all others (Some (with_columns bounds r.y c))

@@ -1,14 +1,14 @@
 -- The first and the last column with a pixel of some kind in a row, edge by edge from the left and from the right.
-use Rattle.std.proofs.Common.{◌≡◌, true, false, ℤ, pos, ◌+ℤ◌, ◌-ℤ◌, ◌≤ℤ◌, ◌<ℤ◌, List, [], ◌∷◌, ◌++◌, FitsSigned, to_z, of_z, w32, refl, sym, ap, subst, ◌∙◌, arith}
+use Rattle.std.proofs.Common.{◌≡◌, true, false, ℤ, pos, ◌+ℤ◌, ◌-ℤ◌, ◌≤ℤ◌, ◌<ℤ◌, List, [], ◌∷◌, ◌++◌, FitsSigned, to_z, of_z, w32, refl, sym, ap, subst, ◌∙◌, append_assoc, append-nil, arith}
 use Rattle.std.specs.List.{All}
 use Rattle.std.proofs.lemmas.Int.{ints, by_lt_z}
-use Rattle.std.proofs.lemmas.List.Elements.{All-nil, All-cons, All-head, All-tail, All-weaker}
+use Rattle.std.proofs.lemmas.List.Elements.{All-nil, All-cons, All-head, All-push, All-tail, All-weaker}
 use Rattle.mf_geom.specs.Coordinates.{least_coordinate, greatest_coordinate}
 use Rattle.mf_edges.specs.declared.edge.Edge.{Edge}
 use Rattle.mf_edges.specs.Edges.{weight_in, AreEdgesFrom, AreEdges, IsEdge}
 use Rattle.mf_edges.specs.LawfulWeights.{IsLawfulWeight}
-use Rattle.mf_edges.proofs.EdgesLemmas.{weight_in-append, weight_in-left, weight_in-right, weight_in-before, weight_in-behind}
-use Rattle.mf_edges.proofs.ReachesLemmas.{IsNextWeight}
+use Rattle.mf_edges.specs.Merging.{BeginFrom}
+use Rattle.mf_edges.proofs.EdgesLemmas.{weight_in-append, weight_in-left, weight_in-before, weight_in-behind}
 use Rattle.mf_rows.specs.declared.bounds.Pixels.{Pixels}
 use Rattle.mf_rows.specs.declared.bounds.Pixels.TheVariants.{Nonzero, Black}
 use Rattle.mf_rows.specs.Bounds.{is_among}
@@ -19,236 +19,206 @@ pub zero_is_none : (p : Pixels) → is_among p (pos 0) ≡ false
 zero_is_none Nonzero = refl
 zero_is_none Black = refl
 
--- ---- from the left
+-- ---- an edge of a row, and the weights on both sides of it
 
--- to the left of the rest of a row there is none of these pixels, and w is the weight there
-pub record IsNoneBefore (p : Pixels) (es rest : List Edge) (w : ℤ) : Type 0 where
-  pub low : ℤ
-  pub sorted : AreEdgesFrom low rest
-  pub before : (x : ℤ) → x <ℤ low → is_among p (weight_in es x) ≡ false
-  pub behind : (x : ℤ) → low ≤ℤ (x +ℤ pos 1) → weight_in es x ≡ w +ℤ weight_in rest x
-  pub now : is_among p w ≡ false
+-- the edges before it, and those behind it
+pub record IsEdgeAmong (low : ℤ) (before : List Edge) (e : Edge) (behind : List Edge) : Type 0 where
+  pub edge : IsEdge e
+  pub from : low ≤ℤ e.x
+  pub sorted : AreEdgesFrom low before
+  pub ended : All (λ f. f.x <ℤ e.x) before
+  pub others : AreEdgesFrom (e.x +ℤ pos 1) behind
 
-pub none_at_first : (p : Pixels) (es : List Edge) → AreEdges es → IsNoneBefore p es es (pos 0)
-none_at_first p es edges = record {
-  low = least_coordinate;
-  sorted = edges.sorted;
-  before = λ x left. ap (is_among p) (weight_in-before least_coordinate es x edges.sorted left) ∙ zero_is_none p;
-  behind = λ x right. omega (arith, ints);
-  now = zero_is_none p;
-}
+pub edge_among : (low : ℤ) (before : List Edge) (e : Edge) (behind : List Edge) → AreEdgesFrom low (before ++ e ∷ behind) → IsEdgeAmong low before e behind
+edge_among low [] e behind edges =
+    record { edge = edges.0; from = edges.1; sorted = tt; ended = All-nil (λ f. f.x <ℤ e.x); others = edges.2 }
+edge_among low (f ∷ fs) e behind edges =
+    let among = edge_among (f.x +ℤ pos 1) fs e behind edges.2 in
+    let lt : f.x <ℤ e.x = omega (arith, ints, among.from) in
+    record {
+      edge = among.edge;
+      from = omega (arith, ints, edges.1, lt);
+      sorted = (edges.0, edges.1, among.sorted);
+      ended = All-cons (λ g. g.x <ℤ e.x) f fs lt among.ended;
+      others = among.others;
+    }
 
-pub none_read : (p : Pixels) (es rest others : List Edge) (e : Edge) (w : ℤ) → rest ≡ e ∷ others → IsNoneBefore p es rest w → IsNoneBefore p es (e ∷ others) w
-none_read p es rest others e w next so_far = subst (λ rest. IsNoneBefore p es rest w) next so_far
-
-module _ (p : Pixels) (es rest : List Edge) (e : Edge) (w : ℤ) (so_far : IsNoneBefore p es (e ∷ rest) w) where
-  -- the weight at the column of the next edge
-  here : weight_in es e.x ≡ w +ℤ e.weight
-  here =
-      let start = so_far.sorted.1 in
-      let all = so_far.behind e.x (omega (arith, ints)) in
-      let first = weight_in-left e rest e.x (omega (arith, ints)) in
-      let none = weight_in-before (e.x +ℤ pos 1) rest e.x so_far.sorted.2 (omega (arith, ints)) in
-      omega (arith, ints)
-
-  -- and the weight before it
-  old : weight_in es (so_far.low -ℤ pos 1) ≡ w
-  old =
-      let all = so_far.behind (so_far.low -ℤ pos 1) (omega (arith, ints)) in
-      let none = weight_in-before so_far.low (e ∷ rest) (so_far.low -ℤ pos 1) so_far.sorted (omega (arith, ints)) in
-      omega (arith, ints)
-
-  pub next_weight : AreEdges es → IsNextWeight w e.weight
-  next_weight edges =
-      let new : IsLawfulWeight (w +ℤ e.weight) = subst IsLawfulWeight here (edges.lawful e.x) in
-      let before : IsLawfulWeight w = subst IsLawfulWeight old (edges.lawful (so_far.low -ℤ pos 1)) in
-      record { least = before.least; greatest = before.greatest; next_least = new.least; next_greatest = new.greatest }
-
-  pub edge_is : to_z w32 (of_z w32 e.x) ≡ e.x
-  edge_is = let edge = so_far.sorted.0 in omega (arith, ints, edge.left, edge.right)
-
-  none_up_to : (x : ℤ) → x <ℤ e.x → is_among p (weight_in es x) ≡ false
-  none_up_to x left =
-      by_lt_z x so_far.low (so_far.before x)
-      (λ right.
-      let all = so_far.behind x (omega (arith, ints)) in
-      let first = weight_in-right e rest x left in
-      let none = weight_in-before (e.x +ℤ pos 1) rest x so_far.sorted.2 (omega (arith, ints)) in
-      let same : weight_in es x ≡ w = omega (arith, ints) in
-      ap (is_among p) same ∙ so_far.now)
-
-  pub first_found : is_among p (w +ℤ e.weight) ≡ true → IsFirstColumn p es e.x
-  first_found found = record { here = ap (is_among p) here ∙ found; before = none_up_to }
-
-  pub none_more : is_among p (w +ℤ e.weight) ≡ false → IsNoneBefore p es rest (w +ℤ e.weight)
-  none_more missing = record {
-    low = e.x +ℤ pos 1;
-    sorted = so_far.sorted.2;
-    before = λ x left. by_lt_z x e.x (none_up_to x)
-        (λ right. let same : x ≡ e.x = omega (arith, ints) in ap (λ u. is_among p (weight_in es u)) same ∙ ap (is_among p) here ∙ missing);
-    behind = λ x right.
-        let start = so_far.sorted.1 in
-        let all = so_far.behind x (omega (arith, ints)) in
-        let added = weight_in-left e rest x (omega (arith, ints)) in
-        omega (arith, ints);
-    now = missing;
-  }
-
-pub none_at_last : (p : Pixels) (es : List Edge) (w : ℤ) → IsNoneBefore p es [] w → HasNone p es
-unfolding weight_in
-none_at_last p es w so_far = record {
-  none = λ x. by_lt_z x so_far.low (so_far.before x)
-      (λ right.
-      let all = so_far.behind x (omega (arith, ints)) in
-      let same : weight_in es x ≡ w = omega (arith, ints) in
-      ap (is_among p) same ∙ so_far.now);
-}
-
--- ---- from the right
-
--- edges at or to the left of a column all count there
+-- edges at or to the left of a column all count there, and none to the right of it
 weight_in-same : (es : List Edge) (x u : ℤ) → x ≤ℤ u → All (λ e. e.x ≤ℤ x) es → weight_in es u ≡ weight_in es x
 unfolding weight_in
 weight_in-same [] x u le left = refl
 weight_in-same (e ∷ es) x u le left =
     let first : e.x ≤ℤ x = All-head (λ e. e.x ≤ℤ x) e es left in
-    weight_in-left e es u (omega (arith, ints))
-    ∙ ap (λ w. e.weight +ℤ w) (weight_in-same es x u le (All-tail (λ e. e.x ≤ℤ x) e es left))
-    ∙ sym (weight_in-left e es x first)
+    let others = weight_in-same es x u le (All-tail (λ e. e.x ≤ℤ x) e es left) in
+    omega (arith, ints, weight_in-left e es u (omega (arith, ints)), weight_in-left e es x first)
 
--- the edges before the last one
-pub sorted_before : (low : ℤ) (es : List Edge) (e : Edge) → AreEdgesFrom low (es ++ e ∷ []) → AreEdgesFrom low es × All (λ f. f.x <ℤ e.x) es × IsEdge e
-sorted_before low [] e edges = (tt, All-nil (λ f. f.x <ℤ e.x), edges.0)
-sorted_before low (f ∷ es) e edges =
-    let others = sorted_before (f.x +ℤ pos 1) es e edges.2 in
-    let start = start_before (f.x +ℤ pos 1) es e edges.2 in
-    ((edges.0, edges.1, others.0), All-cons (λ g. g.x <ℤ e.x) f es (omega (arith, ints)) others.1, others.2)
-  where
-    start_before : (low : ℤ) (es : List Edge) (e : Edge) → AreEdgesFrom low (es ++ e ∷ []) → (low -ℤ pos 1) <ℤ e.x
-    start_before low [] e edges = let start = edges.1 in omega (arith, ints)
-    start_before low (f ∷ es) e edges = let start = edges.1 in let more = start_before (f.x +ℤ pos 1) es e edges.2 in omega (arith, ints)
+weight_in-none : (low : ℤ) (es : List Edge) (x : ℤ) → AreEdgesFrom low es → BeginFrom (x +ℤ pos 1) es → weight_in es x ≡ pos 0
+unfolding weight_in
+weight_in-none low [] x edges from = refl
+weight_in-none low (e ∷ es) x edges from = weight_in-before (x +ℤ pos 1) (e ∷ es) x (edges.0, from, edges.2) (omega (arith, ints))
+
+weight_in-push : (es : List Edge) (e : Edge) (x : ℤ) → e.x ≤ℤ x → weight_in (es ++ e ∷ []) x ≡ weight_in es x +ℤ e.weight
+unfolding weight_in
+weight_in-push es e x le = omega (arith, ints, weight_in-append es (e ∷ []) x, weight_in-left e [] x le)
+
+pub begin_from : (low : ℤ) (es : List Edge) → AreEdgesFrom low es → BeginFrom low es
+begin_from low [] edges = tt
+begin_from low (e ∷ es) edges = edges.1
+
+-- a row is cut before an edge, and w is its weight there
+pub record IsCut (es before : List Edge) (e : Edge) (behind : List Edge) (w : ℤ) : Type 0 where
+  split : es ≡ before ++ e ∷ behind
+  edges : AreEdges es
+  weight : weight_in before greatest_coordinate ≡ w
+
+module _ {es before : List Edge} {e : Edge} {behind : List Edge} {w : ℤ} (cut : IsCut es before e behind w) where
+  among : IsEdgeAmong least_coordinate before e behind
+  among = edge_among least_coordinate before e behind (subst (AreEdgesFrom least_coordinate) cut.split cut.edges.sorted)
+
+  parts : (x : ℤ) → weight_in es x ≡ weight_in before x +ℤ weight_in (e ∷ behind) x
+  parts x = ap (λ fs. weight_in fs x) cut.split ∙ weight_in-append before (e ∷ behind) x
+
+  up_to : (x : ℤ) → e.x ≤ℤ (x +ℤ pos 1) → All (λ f. f.x ≤ℤ x) before
+  up_to x le = All-weaker (λ f. f.x <ℤ e.x) (λ f. f.x ≤ℤ x) (λ f lt. omega (arith, ints)) before among.ended
+
+  weight_before : (x : ℤ) → All (λ f. f.x ≤ℤ x) before → x <ℤ e.x → weight_in es x ≡ w
+  weight_before x left lt =
+      let same = weight_in-same before x greatest_coordinate (omega (arith, ints, among.edge.right)) left in
+      let none = weight_in-none e.x (e ∷ behind) x (among.edge, omega (arith, ints), among.others) (omega (arith, ints)) in
+      omega (arith, ints, parts x, cut.weight)
+
+  weight_behind : (x : ℤ) → e.x ≤ℤ x → BeginFrom (x +ℤ pos 1) behind → weight_in es x ≡ w +ℤ e.weight
+  weight_behind x le from =
+      let left = up_to e.x (omega (arith, ints)) in
+      let same = weight_in-same before e.x greatest_coordinate among.edge.right left in
+      let none = weight_in-none (e.x +ℤ pos 1) behind x among.others from in
+      omega (arith, ints, parts x, weight_in-same before e.x x le left, weight_in-left e behind x le, cut.weight)
+
+  weight_left : weight_in es (e.x -ℤ pos 1) ≡ w
+  weight_left = weight_before (e.x -ℤ pos 1) (up_to (e.x -ℤ pos 1) (omega (arith, ints))) (omega (arith, ints))
+
+  weight_here : weight_in es e.x ≡ w +ℤ e.weight
+  weight_here = weight_behind e.x (omega (arith, ints)) (begin_from (e.x +ℤ pos 1) behind among.others)
+
+  lawful : IsLawfulWeight w × IsLawfulWeight (w +ℤ e.weight)
+  lawful = (subst IsLawfulWeight weight_left (cut.edges.lawful (e.x -ℤ pos 1)), subst IsLawfulWeight weight_here (cut.edges.lawful e.x))
+
+  column_is : to_z w32 (of_z w32 e.x) ≡ e.x
+  column_is = omega (arith, ints, among.edge.left, among.edge.right)
+
+  change_is : to_z w32 (of_z w32 e.weight) ≡ e.weight
+  change_is = omega (arith, ints, lawful.0.least, lawful.0.greatest, lawful.1.least, lawful.1.greatest)
+
+-- what the code knows of the pixels at and from an edge, whose weight it computed
+pub record IsStep (p : Pixels) (w : ℤ) (Found More : Type 0) : Type 0 where
+  pub found : is_among p w ≡ true → Found
+  pub more : is_among p w ≡ false → More
+
+-- ---- from the left
+
+-- to the left of the rest of a row there is none of these pixels, and w is the weight there
+pub record IsNoneBefore (p : Pixels) (es rest : List Edge) (w : ℤ) : Type 0 where
+  pub passed : List Edge
+  pub split : es ≡ passed ++ rest
+  pub weight : weight_in passed greatest_coordinate ≡ w
+  pub none : (x : ℤ) → BeginFrom (x +ℤ pos 1) rest → is_among p (weight_in es x) ≡ false
+
+pub none_at_first : (p : Pixels) (es : List Edge) → AreEdges es → IsNoneBefore p es es (pos 0)
+unfolding weight_in
+none_at_first p es edges = record {
+  passed = [];
+  split = refl;
+  weight = refl;
+  none = λ x from. ap (is_among p) (weight_in-none least_coordinate es x edges.sorted from) ∙ zero_is_none p;
+}
+
+module _ (p : Pixels) (es rest others : List Edge) (e : Edge) (w : ℤ) (next : rest ≡ e ∷ others) (edges : AreEdges es)
+    (so_far : IsNoneBefore p es rest w) where
+  first_cut : IsCut es so_far.passed e others w
+  first_cut = record {
+    split = so_far.split ∙ ap (λ fs. so_far.passed ++ fs) next;
+    edges = edges;
+    weight = so_far.weight;
+  }
+
+  pub weight_fits : FitsSigned w32 (w +ℤ to_z w32 (of_z w32 e.weight))
+  weight_fits = let new = (lawful first_cut).1 in rw (change_is first_cut) (omega (arith, ints, new.least, new.greatest))
+
+  pub first_step : IsStep p (to_z w32 (of_z w32 (w +ℤ to_z w32 (of_z w32 e.weight))))
+      (IsFirstColumn p es (to_z w32 (of_z w32 e.x))) (IsNoneBefore p es others (to_z w32 (of_z w32 (w +ℤ to_z w32 (of_z w32 e.weight)))))
+  first_step =
+      let new = (lawful first_cut).1 in
+      let sum : to_z w32 (of_z w32 (w +ℤ e.weight)) ≡ w +ℤ e.weight = omega (arith, ints, new.least, new.greatest) in
+      let none : (x : ℤ) → x <ℤ e.x → is_among p (weight_in es x) ≡ false = λ x lt. so_far.none x (rw next (omega (arith, ints, lt))) in
+      rw (column_is first_cut, change_is first_cut, sum) (record {
+        found = λ found. record { here = ap (is_among p) (weight_here first_cut) ∙ found; before = none };
+        more = λ missing. record {
+          passed = so_far.passed ++ e ∷ [];
+          split = first_cut.split ∙ sym (append_assoc so_far.passed (e ∷ []) others);
+          weight = omega (arith, ints, weight_in-push so_far.passed e greatest_coordinate (among first_cut).edge.right, so_far.weight);
+          none = λ x from. by_lt_z x e.x (none x) (λ le. ap (is_among p) (weight_behind first_cut x le from) ∙ missing);
+        };
+      })
+
+pub none_at_last : (p : Pixels) (es : List Edge) (w : ℤ) → IsNoneBefore p es [] w → HasNone p es
+none_at_last p es w so_far = record { none = λ x. so_far.none x tt }
+
+-- ---- from the right
 
 -- to the right of the rest of a row there is none of these pixels, and w is the weight at its right end
 pub record IsNoneBehind (p : Pixels) (es rest : List Edge) (w : ℤ) : Type 0 where
-  pub high : ℤ
-  pub sorted : AreEdgesFrom least_coordinate rest
-  pub left : All (λ e. e.x <ℤ high) rest
-  pub behind : (x : ℤ) → high ≤ℤ x → is_among p (weight_in es x) ≡ false
-  pub before : (x : ℤ) → x <ℤ high → weight_in es x ≡ weight_in rest x
-  pub here : weight_in rest (high -ℤ pos 1) ≡ w
-  pub now : is_among p w ≡ false
-
-up_to_field : (low : ℤ) (es : List Edge) → AreEdgesFrom low es → All (λ e. e.x <ℤ (greatest_coordinate +ℤ pos 1)) es
-up_to_field low [] edges = All-nil (λ e. e.x <ℤ (greatest_coordinate +ℤ pos 1))
-up_to_field low (e ∷ es) edges =
-    let right = edges.0.right in
-    All-cons (λ e. e.x <ℤ (greatest_coordinate +ℤ pos 1)) e es (omega (arith, ints)) (up_to_field (e.x +ℤ pos 1) es edges.2)
+  pub passed : List Edge
+  pub split : es ≡ rest ++ passed
+  pub weight : weight_in rest greatest_coordinate ≡ w
+  pub none : (x : ℤ) → All (λ e. e.x ≤ℤ x) rest → is_among p (weight_in es x) ≡ false
 
 pub none_at_right : (p : Pixels) (es : List Edge) → AreEdges es → IsNoneBehind p es es (pos 0)
-none_at_right p es edges = record {
-  high = greatest_coordinate +ℤ pos 1;
-  sorted = edges.sorted;
-  left = up_to_field least_coordinate es edges.sorted;
-  behind = λ x right.
-      ap (is_among p) (weight_in-behind least_coordinate es x edges.sorted (omega (arith, ints)) ∙ edges.closed) ∙ zero_is_none p;
-  before = λ x left. refl;
-  here = edges.closed;
-  now = zero_is_none p;
-}
+none_at_right p es edges =
+    let same : (x : ℤ) → All (λ e. e.x ≤ℤ x) es → weight_in es x ≡ weight_in es greatest_coordinate = λ x left.
+    by_lt_z x greatest_coordinate (λ lt. sym (weight_in-same es x greatest_coordinate (omega (arith, ints, lt)) left))
+    (weight_in-behind least_coordinate es x edges.sorted) in
+    record {
+      passed = [];
+      split = sym (append-nil es);
+      weight = edges.closed;
+      none = λ x left. ap (is_among p) (same x left ∙ edges.closed) ∙ zero_is_none p;
+    }
 
 module _ (p : Pixels) (es rest before : List Edge) (e : Edge) (w : ℤ) (last : rest ≡ before ++ e ∷ []) (edges : AreEdges es)
     (so_far : IsNoneBehind p es rest w) where
-  parts : AreEdgesFrom least_coordinate before × All (λ f. f.x <ℤ e.x) before × IsEdge e
-  parts = sorted_before least_coordinate before e (subst (AreEdgesFrom least_coordinate) last so_far.sorted)
+  last_cut : IsCut es before e so_far.passed (w -ℤ e.weight)
+  last_cut =
+      let split = so_far.split ∙ ap (λ fs. fs ++ so_far.passed) last ∙ append_assoc before (e ∷ []) so_far.passed in
+      let among = edge_among least_coordinate before e so_far.passed (subst (AreEdgesFrom least_coordinate) split edges.sorted) in
+      let sum = weight_in-push before e greatest_coordinate among.edge.right in
+      let whole = ap (λ fs. weight_in fs greatest_coordinate) last in
+      record { split = split; edges = edges; weight = omega (arith, ints, so_far.weight) }
 
-  pub last_edge : IsEdge e
-  last_edge = parts.2
+  pub difference_fits : FitsSigned w32 (w -ℤ to_z w32 (of_z w32 e.weight))
+  difference_fits = let new = (lawful last_cut).0 in rw (change_is last_cut) (omega (arith, ints, new.least, new.greatest))
 
-  e_left : e.x <ℤ so_far.high
-  e_left = last_is_left before e (subst (All (λ f. f.x <ℤ so_far.high)) last so_far.left)
-    where
-      last_is_left : (fs : List Edge) (e : Edge) → All (λ f. f.x <ℤ so_far.high) (fs ++ e ∷ []) → e.x <ℤ so_far.high
-      last_is_left [] e left = All-head (λ f. f.x <ℤ so_far.high) e [] left
-      last_is_left (f ∷ fs) e left = last_is_left fs e (All-tail (λ f. f.x <ℤ so_far.high) f (fs ++ e ∷ []) left)
+  pub left_fits : FitsSigned w32 (to_z w32 (of_z w32 e.x) -ℤ pos 1)
+  left_fits = let edge = (among last_cut).edge in omega (arith, ints, edge.left, edge.right)
 
-  up_to : (x : ℤ) → (e.x -ℤ pos 1) ≤ℤ x → All (λ f. f.x ≤ℤ x) before
-  up_to x le = All-weaker (λ f. f.x <ℤ e.x) (λ f. f.x ≤ℤ x) (λ f lt. omega (arith, ints)) before parts.1
-
-  -- from the last edge on the weight is w
-  with_last : (x : ℤ) → e.x ≤ℤ x → weight_in rest x ≡ weight_in before (e.x -ℤ pos 1) +ℤ e.weight
-  with_last x le =
-      let joined : weight_in rest x ≡ weight_in before x +ℤ weight_in (e ∷ []) x = ap (λ fs. weight_in fs x) last ∙ weight_in-append before (e ∷ []) x in
-      let same = weight_in-same before (e.x -ℤ pos 1) x (omega (arith, ints)) (up_to (e.x -ℤ pos 1) (omega (arith, ints))) in
-      let here = weight_in-left e [] x le in
-      let none = weight_in-before (x +ℤ pos 1) [] x tt (omega (arith, ints)) in
-      omega (arith, ints)
-
-  pub left_of_last : weight_in before (e.x -ℤ pos 1) ≡ w -ℤ e.weight
-  left_of_last =
-      let high = with_last (so_far.high -ℤ pos 1) (omega (arith, ints, e_left)) in
-      let here = so_far.here in
-      omega (arith, ints)
-
-  before_last : (x : ℤ) → x <ℤ e.x → weight_in es x ≡ weight_in before x
-  before_last x lt =
-      let joined : weight_in rest x ≡ weight_in before x +ℤ weight_in (e ∷ []) x = ap (λ fs. weight_in fs x) last ∙ weight_in-append before (e ∷ []) x in
-      let added = weight_in-right e [] x lt in
-      let none = weight_in-before e.x [] x tt lt in
-      let left = e_left in
-      let same = so_far.before x (omega (arith, ints)) in
-      omega (arith, ints)
-
-  new_weight : weight_in es (e.x -ℤ pos 1) ≡ w -ℤ e.weight
-  new_weight = before_last (e.x -ℤ pos 1) (omega (arith, ints)) ∙ left_of_last
-
-  -- both weights are lawful
-  pub last_weight : IsLawfulWeight w × IsLawfulWeight (w -ℤ e.weight)
-  last_weight =
-      let left = e_left in
-      let old : weight_in es (so_far.high -ℤ pos 1) ≡ w = so_far.before (so_far.high -ℤ pos 1) (omega (arith, ints)) ∙ so_far.here in
-      (subst IsLawfulWeight old (edges.lawful (so_far.high -ℤ pos 1)), subst IsLawfulWeight new_weight (edges.lawful (e.x -ℤ pos 1)))
-
-  -- so they and the column to the left of the edge fit
-  pub weight_is : to_z w32 (of_z w32 e.weight) ≡ e.weight
-  weight_is = let weights = last_weight in omega (arith, ints, weights.0.least, weights.0.greatest, weights.1.least, weights.1.greatest)
-
-  pub difference_fits : FitsSigned w32 (w -ℤ e.weight)
-  difference_fits = let weights = last_weight in omega (arith, ints, weights.1.least, weights.1.greatest)
-
-  pub difference_is : to_z w32 (of_z w32 (w -ℤ e.weight)) ≡ w -ℤ e.weight
-  difference_is = let weights = last_weight in omega (arith, ints, weights.1.least, weights.1.greatest)
-
-  pub left_is : to_z w32 (of_z w32 (to_z w32 (of_z w32 e.x) -ℤ pos 1)) ≡ e.x -ℤ pos 1
-  left_is = let edge = parts.2 in omega (arith, ints, edge.left, edge.right)
-
-  none_from : (x : ℤ) → e.x ≤ℤ x → is_among p (weight_in es x) ≡ false
-  none_from x le =
-      by_lt_z x so_far.high
-      (λ lt.
-      let here = with_last x le in
-      let sum = left_of_last in
-      let same : weight_in es x ≡ w = so_far.before x lt ∙ omega (arith, ints, here, sum) in
-      ap (is_among p) same ∙ so_far.now)
-      (so_far.behind x)
-
-  pub last_found : is_among p (w -ℤ e.weight) ≡ true → IsLastColumn p es (e.x -ℤ pos 1)
-  last_found found = record { here = ap (is_among p) new_weight ∙ found; behind = λ x lt. none_from x (omega (arith, ints)) }
-
-  pub none_left : is_among p (w -ℤ e.weight) ≡ false → IsNoneBehind p es before (w -ℤ e.weight)
-  none_left missing = record {
-    high = e.x;
-    sorted = parts.0;
-    left = parts.1;
-    behind = none_from;
-    before = before_last;
-    here = left_of_last;
-    now = missing;
-  }
+  pub last_step : IsStep p (to_z w32 (of_z w32 (w -ℤ to_z w32 (of_z w32 e.weight))))
+      (IsLastColumn p es (to_z w32 (of_z w32 (to_z w32 (of_z w32 e.x) -ℤ pos 1))))
+      (IsNoneBehind p es before (to_z w32 (of_z w32 (w -ℤ to_z w32 (of_z w32 e.weight)))))
+  last_step =
+      let edge = (among last_cut).edge in
+      let new = (lawful last_cut).0 in
+      let less : to_z w32 (of_z w32 (w -ℤ e.weight)) ≡ w -ℤ e.weight = omega (arith, ints, new.least, new.greatest) in
+      let left : to_z w32 (of_z w32 (e.x -ℤ pos 1)) ≡ e.x -ℤ pos 1 = omega (arith, ints, edge.left, edge.right) in
+      let none : (x : ℤ) → e.x ≤ℤ x → is_among p (weight_in es x) ≡ false = λ x le.
+      so_far.none x (rw last (All-push (λ f. f.x ≤ℤ x) before e (up_to last_cut x (omega (arith, ints, le))) le)) in
+      rw (column_is last_cut, left, change_is last_cut, less) (record {
+        found = λ found. record { here = ap (is_among p) (weight_left last_cut) ∙ found; behind = λ x lt. none x (omega (arith, ints, lt)) };
+        more = λ missing. record {
+          passed = e ∷ so_far.passed;
+          split = last_cut.split;
+          weight = last_cut.weight;
+          none = λ x left. by_lt_z x e.x (λ lt. ap (is_among p) (weight_before last_cut x left lt) ∙ missing) (none x);
+        };
+      })
 
 pub none_at_all : (p : Pixels) (es rest : List Edge) (w : ℤ) → rest ≡ [] → IsNoneBehind p es rest w → HasNone p es
-unfolding weight_in
-none_at_all p es rest w none so_far = record {
-  none = λ x. by_lt_z x so_far.high
-      (λ left. ap (is_among p) (so_far.before x left ∙ ap (λ fs. weight_in fs x) none) ∙ zero_is_none p)
-      (so_far.behind x);
-}
+none_at_all p es rest w none so_far = record { none = λ x. so_far.none x (rw none (All-nil (λ e. e.x ≤ℤ x))) }

@@ -1,13 +1,14 @@
--- Rows that are changed each by itself, one row after another.
-use Rattle.std.proofs.Common.{◌≡◌, ℕ, ◌+◌, ◌<◌, ℤ, pos, ◌+ℤ◌, ◌-ℤ◌, ◌<ℤ◌, Bool, true, false, not, List, [], ◌∷◌, ◌++◌, length, drop, get_or, refl, sym, ap, subst, ◌∙◌, arith}
+-- Rows that are made from rows one after another, as when each is changed by itself.
+use Rattle.std.proofs.Common.{◌≡◌, ◌≢◌, ℕ, ◌+◌, ◌<◌, ℤ, pos, ◌+ℤ◌, ◌-ℤ◌, ◌≤ℤ◌, ◌<ℤ◌, false, not, List, [], ◌∷◌, ◌++◌, length, drop, get_or, refl, sym, ap, ◌∙◌, arith}
 use Rattle.std.specs.Cmp.Lexicographic.{pointwise}
+use Rattle.std.specs.Int.RustNames.{unsigned_abs}
 use Rattle.std.specs.List.{All}
-use Rattle.std.proofs.lemmas.Bool.{false≢true}
-use Rattle.std.proofs.lemmas.Int.{ints}
-use Rattle.std.proofs.lemmas.List.{drop_more}
-use Rattle.std.proofs.lemmas.List.Elements.{All-nil, All-tail, All-append, All-weaker, All-head}
+use Rattle.std.proofs.lemmas.Bool.{not-false}
+use Rattle.std.proofs.lemmas.Int.{ints, by_lt_z}
+use Rattle.std.proofs.lemmas.List.{append-nil, drop_more}
+use Rattle.std.proofs.lemmas.List.Elements.{All-nil, All-tail}
 use Rattle.std.proofs.lemmas.Slice.Eq.{slice_eq-Decides}
-use Rattle.mf_geom.specs.Coordinates.{last_in_field}
+use Rattle.mf_geom.specs.Coordinates.{least_coordinate, greatest_coordinate, last_in_field}
 use Rattle.mf_edges.specs.contracts.edge.EdgePartialEq.TheImpl as edge_eq
 use Rattle.mf_edges.specs.declared.edge.Edge.{Edge}
 use Rattle.mf_rows.specs.declared.row.Row.{Row}
@@ -15,24 +16,102 @@ use Rattle.mf_edges.specs.declared.row_change.RowChange.{RowChange}
 use Rattle.mf_edges.specs.declared.row_change.RowChange.TheVariants as change
 use Rattle.mf_rows.specs.Bands.{edge_row, edge_rows, AreBelow}
 use Rattle.mf_rows.specs.BlankRows.{unless_blank}
-use Rattle.mf_edges.specs.Edges.{weight_in}
+use Rattle.mf_edges.specs.Edges.{weight_in, AreEdges}
 use Rattle.mf_rows.specs.EdgeRows.{EdgeRow, AreRowsFrom, AreRows, weight_in_rows}
 use Rattle.mf_edges.specs.RowChanges.{row_image, IsRowChange, EdgesAllowChange, image_in, AreChanged}
-use Rattle.mf_rows.specs.RowChanges.{RowsAllowChange, image_in_rows}
+use Rattle.mf_rows.specs.RowChanges.{image_in_rows}
+use Rattle.mf_rows.specs.RowMoves.{strip}
+use Rattle.mf_rows.specs.Strips.{ReachDownTo, HasStrip}
 use Rattle.mf_rows.specs.Sums.{HaveRowWeights}
-use Rattle.mf_rows.proofs.BlankRowsLemmas.{weight_in_rows-unless_blank, rows_from-unless_blank, All-unless_blank}
-use Rattle.mf_rows.proofs.EdgeRowsLemmas.{weight_in_rows-append, weight_in_rows-here, weight_in_rows-elsewhere, weight_in_rows-below, rows_from-higher, rows_from-below, rows_from-append}
-use Rattle.mf_rows.proofs.RowSums.{by_same}
+use Rattle.mf_rows.proofs.EdgeRowsLemmas.{weight_in_rows-here, weight_in_rows-elsewhere, weight_in_rows-below, rows_from-below}
 use Rattle.mf_rows.proofs.RowListLemmas.{edge_decides}
+use Rattle.mf_rows.proofs.StripsLemmas.{below_reach, no_strip, strip_below}
+
+-- ---- rows that are made from the top down
+
+-- the first of the rows that are left
+pub next_rows : (rows : List Row) (k : ℕ) (row : Row) → k < length rows → row ≡ get_or rows k row
+    → edge_rows (drop k rows) ≡ edge_row row ∷ edge_rows (drop (k + 1) rows)
+next_rows rows k row inside read =
+    ap edge_rows (drop_more rows k row inside) ∙ ap (λ r. edge_row r ∷ edge_rows (drop (k + 1) rows)) (sym read)
+
+-- a row goes below rows that are higher
+pub strip_of_row : (old : List EdgeRow) (y : ℤ) (es : List Edge) → least_coordinate ≤ℤ y → y ≤ℤ last_in_field → es ≢ [] → AreEdges es
+    → ReachDownTo (y +ℤ pos 1) old → HasStrip old es y (y +ℤ pos 1) (old ++ record { y = y; edges = es } ∷ [])
+unfolding strip
+strip_of_row old y es bottom top some edges reach =
+    let one : unsigned_abs ((y +ℤ pos 1) -ℤ y) ≡ 1 = omega (arith, ints) in
+    let here : y +ℤ pos 0 ≡ y = omega (arith, ints) in
+    let below = strip_below old es y (y +ℤ pos 1) reach bottom (omega (arith, ints)) (omega (arith, ints)) some edges in
+    rw here at (rw one at below)
+
+pub strip_unless_blank : (old : List EdgeRow) (y : ℤ) (es : List Edge) → least_coordinate ≤ℤ y → y ≤ℤ last_in_field → AreEdges es
+    → ReachDownTo (y +ℤ pos 1) old → HasStrip old es y (y +ℤ pos 1) (old ++ unless_blank (record { y = y; edges = es }))
+strip_unless_blank old y [] bottom top edges reach =
+    rw (append-nil old) (no_strip old [] y (y +ℤ pos 1) reach (omega (arith, ints)) (λ _. refl))
+strip_unless_blank old y (e ∷ es) bottom top edges reach = strip_of_row old y (e ∷ es) bottom top (λ none. absurd cc) edges reach
+
+-- a strip adds its weights, so that with what is left before and after it the weights stay the same
+pub strip_weights : (old new : List EdgeRow) (es : List Edge) (bottom top x y before after : ℤ) → HasStrip old es bottom top new → ReachDownTo top old
+    → bottom ≤ℤ top → (bottom ≤ℤ y → y <ℤ top → weight_in es x +ℤ after ≡ before) → ((bottom ≤ℤ y → y <ℤ top → ⊥) → after ≡ before)
+    → weight_in_rows new x y +ℤ after ≡ weight_in_rows old x y +ℤ before
+strip_weights old new es bottom top x y before after strip reach order inside outside =
+    by_lt_z y bottom
+    (λ below.
+    let none = below_reach top old x y reach (omega (arith, ints)) in
+    omega (arith, ints, below_reach bottom new x y strip.rows below, outside (λ from _. omega (arith, ints))))
+    (λ from. by_lt_z y top
+    (λ under. omega (arith, ints, strip.strip x y from under, below_reach top old x y reach under, inside from under))
+    (λ above. omega (arith, ints, strip.above x y above, outside (λ _ under. omega (arith, ints)))))
+
+-- rows are made one after another, so that together they have the weights f: row y becomes rows from `down y` up
+pub record IsMadeSoFar (P : EdgeRow → Type 0) (f : List EdgeRow → ℤ → ℤ → ℤ) (down : ℤ → ℤ) (whole left made : List EdgeRow) : Type 0 where
+  pub low : ℤ
+  pub to_come : AreRowsFrom (low -ℤ pos 1) left
+  pub allowed : All P left
+  pub rows : ReachDownTo (down low) made
+  pub weights : (x y : ℤ) → weight_in_rows made x y +ℤ f left x y ≡ f whole x y
+
+module _ {P : EdgeRow → Type 0} {f : List EdgeRow → ℤ → ℤ → ℤ} {down : ℤ → ℤ} (whole : List EdgeRow) where
+  pub made_none : AreRows whole → All P whole → IsMadeSoFar P f down whole whole []
+  unfolding weight_in_rows
+  made_none rows allowed = record {
+    low = greatest_coordinate;
+    to_come = rows.rows;
+    allowed = allowed;
+    rows = record { rows = tt; reach = All-nil (λ r. down greatest_coordinate ≤ℤ r.y) };
+    weights = λ x y. omega (arith, ints);
+  }
+
+  module _ (rest made : List EdgeRow) (r : EdgeRow) (up : (a b : ℤ) → a ≤ℤ b → down a ≤ℤ down b) (so_far : IsMadeSoFar P f down whole (r ∷ rest) made) where
+    pub made_reach : ReachDownTo (down (r.y +ℤ pos 1)) made
+    made_reach =
+        let le : r.y ≤ℤ (so_far.low -ℤ pos 1) = so_far.to_come.1 in
+        let end = up (r.y +ℤ pos 1) so_far.low (omega (arith, ints)) in
+        record { rows = so_far.rows.rows; reach = λ k d inside. let from = so_far.rows.reach k d inside in omega (arith, ints) }
+
+    pub made_more : (after : List EdgeRow) (es : List Edge) → HasStrip made es (down r.y) (down (r.y +ℤ pos 1)) after
+        → ((x y : ℤ) → down r.y ≤ℤ y → y <ℤ down (r.y +ℤ pos 1) → weight_in es x +ℤ f rest x y ≡ f (r ∷ rest) x y)
+        → ((x y : ℤ) → (down r.y ≤ℤ y → y <ℤ down (r.y +ℤ pos 1) → ⊥) → f rest x y ≡ f (r ∷ rest) x y) → IsMadeSoFar P f down whole rest after
+    made_more after es strip inside outside =
+        let order = up r.y (r.y +ℤ pos 1) (omega (arith, ints)) in
+        record {
+          low = r.y;
+          to_come = so_far.to_come.2;
+          allowed = All-tail P r rest so_far.allowed;
+          rows = strip.rows;
+          weights = λ x y. strip_weights made after es (down r.y) (down (r.y +ℤ pos 1)) x y (f (r ∷ rest) x y) (f rest x y) strip made_reach order
+              (inside x y) (outside x y)
+              ∙ so_far.weights x y;
+        }
+
+  pub made_all : (made : List EdgeRow) → ((x y : ℤ) → f [] x y ≡ pos 0) → IsMadeSoFar P f down whole [] made → HaveRowWeights (f whole) made
+  made_all made none so_far = record { weights = λ x y. omega (arith, ints, so_far.weights x y, none x y) }
 
 -- ---- edges that are compared
 
-true_from_not : (b : Bool) → false ≡ not b → b ≡ true
-true_from_not true e = refl
-true_from_not false e = absurd (false≢true e)
-
 pub same_edges : (es fs : List Edge) → false ≡ not (pointwise (edge_eq.eq-value).it es fs) → es ≡ fs
-same_edges es fs no_other = (slice_eq-Decides edge_decides es fs _ refl).0 (true_from_not _ no_other)
+same_edges es fs no_other = (slice_eq-Decides edge_decides es fs _ refl).0 (not-false _ (sym no_other))
 
 -- ---- one row
 
@@ -54,83 +133,40 @@ changed-none c lawful = record {
 }
 
 -- a row and those below it have their weights at different heights, so each is changed by itself
-image_in_rows-cons : (c : RowChange) (r : EdgeRow) (rest : List EdgeRow) (image : List Edge) (x v : ℤ) → IsRowChange c
-    → AreBelow r.y rest → AreChanged c r.edges image
-    → weight_in_rows (unless_blank (record { y = r.y; edges = image })) x v +ℤ image_in_rows c rest x v ≡ image_in_rows c (r ∷ rest) x v
-unfolding image_in_rows image_in weight_in_rows
-image_in_rows-cons c r rest image x v lawful below changed =
-    let row : EdgeRow = record { y = r.y; edges = image } in
-    let kept = weight_in_rows-unless_blank r.y image x v in
-    by_same r.y v
-    (λ here.
-    let none : (z : ℤ) → weight_in_rows rest z v ≡ pos 0 = λ z. weight_in_rows-below rest z v (subst (λ y. AreBelow y rest) here below) in
-    let none_changed = same_image c _ _ x none ∙ image_of_blank c x lawful in
-    let whole : (z : ℤ) → weight_in_rows (r ∷ rest) z v ≡ weight_in r.edges z = λ z. omega (arith, ints, weight_in_rows-here r rest z v here, none z) in
-    let whole_changed = same_image c _ _ x whole in
-    let own = weight_in_rows-here row [] x v here in
-    let has = changed.weights.weights x in
-    omega (arith, ints))
-    (λ apart.
-    let none = weight_in_rows-elsewhere row [] x v apart in
-    let others = same_image c _ _ x (λ z. weight_in_rows-elsewhere r rest z v apart) in
-    omega (arith, ints))
+module _ (c : RowChange) (r : EdgeRow) (rest : List EdgeRow) (x v : ℤ) where
+  image_in_rows-here : (image : List Edge) → IsRowChange c → AreBelow r.y rest → AreChanged c r.edges image → r.y ≡ v
+      → weight_in image x +ℤ image_in_rows c rest x v ≡ image_in_rows c (r ∷ rest) x v
+  unfolding image_in_rows image_in
+  image_in_rows-here image lawful below changed here =
+      let none : (z : ℤ) → weight_in_rows rest z v ≡ pos 0 = λ z. weight_in_rows-below rest z v (rw here at below) in
+      let none_changed = same_image c _ _ x none ∙ image_of_blank c x lawful in
+      let whole : (z : ℤ) → weight_in_rows (r ∷ rest) z v ≡ weight_in r.edges z = λ z. omega (arith, ints, weight_in_rows-here r rest z v here, none z) in
+      let whole_changed = same_image c _ _ x whole in
+      omega (arith, ints, changed.weights.weights x)
+
+  image_in_rows-elsewhere : r.y ≢ v → image_in_rows c rest x v ≡ image_in_rows c (r ∷ rest) x v
+  unfolding image_in_rows
+  image_in_rows-elsewhere apart = sym (same_image c _ _ x (λ z. weight_in_rows-elsewhere r rest z v apart))
 
 -- ---- the rows so far
 
--- the new rows have the weights of all rows after the change except for those that are left, and are above these
-pub record IsChangeSoFar (c : RowChange) (whole left changed : List EdgeRow) : Type 0 where
-  pub to_come : AreRowsFrom last_in_field left
-  pub allowed : RowsAllowChange c left
-  pub rows : AreRowsFrom last_in_field changed
-  pub apart : All (λ r. AreBelow r.y left) changed
-  pub weights : (x y : ℤ) → weight_in_rows changed x y +ℤ image_in_rows c left x y ≡ image_in_rows c whole x y
-
-pub change_none : (c : RowChange) (whole : List EdgeRow) → AreRows whole → RowsAllowChange c whole → IsChangeSoFar c whole whole []
-unfolding weight_in_rows
-change_none c whole rows allowed = record {
-  to_come = rows.rows;
-  allowed = allowed;
-  rows = tt;
-  apart = All-nil (λ r. AreBelow r.y whole);
-  weights = λ x y. omega (arith, ints);
-}
-
--- the first of the rows that are left
-pub change_next : {c : RowChange} {whole changed : List EdgeRow} (rows : List Row) (k : ℕ) (row : Row) → k < length rows
-    → row ≡ get_or rows k row → IsChangeSoFar c whole (edge_rows (drop k rows)) changed
-    → IsChangeSoFar c whole (edge_row row ∷ edge_rows (drop (k + 1) rows)) changed
-change_next {c = c} {whole = whole} {changed = changed} rows k row inside read so_far =
-    subst (λ left. IsChangeSoFar c whole left changed)
-    (ap edge_rows (drop_more rows k row inside) ∙ ap (λ r. edge_row r ∷ edge_rows (drop (k + 1) rows)) (sym read)) so_far
-
-pub allowed_next : {c : RowChange} {whole rest changed : List EdgeRow} {r : EdgeRow} → IsChangeSoFar c whole (r ∷ rest) changed → EdgesAllowChange c r.edges
-allowed_next {c = c} {rest = rest} {r = r} so_far = All-head (λ r. EdgesAllowChange c r.edges) r rest so_far.allowed
+-- the new rows have the weights of all rows after the change except for those that are left
+abbrev pub IsChangeSoFar : RowChange → List EdgeRow → List EdgeRow → List EdgeRow → Type 0
+IsChangeSoFar c = IsMadeSoFar (λ r. EdgesAllowChange c r.edges) (image_in_rows c) (λ y. y)
 
 pub change_more : (c : RowChange) (whole rest changed : List EdgeRow) (r : EdgeRow) (image : List Edge) → IsRowChange c
     → IsChangeSoFar c whole (r ∷ rest) changed → AreChanged c r.edges image
     → IsChangeSoFar c whole rest (changed ++ unless_blank (record { y = r.y; edges = image }))
 change_more c whole rest changed r image lawful so_far has =
-    let row : EdgeRow = record { y = r.y; edges = image } in
     let first = so_far.to_come.0 in
     let below = rows_from-below (r.y -ℤ pos 1) r.y rest so_far.to_come.2 (omega (arith, ints)) in
-    record {
-      to_come = rows_from-higher last_in_field (r.y -ℤ pos 1) rest (omega (arith, ints, first.top)) so_far.to_come.2;
-      allowed = All-tail (λ r. EdgesAllowChange c r.edges) r rest so_far.allowed;
-      rows = rows_from-append last_in_field changed (unless_blank row) so_far.rows
-          (rows_from-higher last_in_field r.y (unless_blank row) first.top (rows_from-unless_blank r.y image first.bottom first.top has.edges))
-          (All-weaker (λ s. AreBelow s.y (r ∷ rest)) (λ s. AreBelow s.y (unless_blank row))
-          (λ s lower. All-unless_blank (λ t. t.y <ℤ s.y) r.y image (All-head (λ t. t.y <ℤ s.y) r rest lower)) changed so_far.apart);
-      apart = All-append (λ s. AreBelow s.y rest) changed (unless_blank row)
-          (All-weaker (λ s. AreBelow s.y (r ∷ rest)) (λ s. AreBelow s.y rest) (λ s lower. All-tail (λ t. t.y <ℤ s.y) r rest lower) changed so_far.apart)
-          (All-unless_blank (λ s. AreBelow s.y rest) r.y image below);
-      weights = λ x y.
-          let old = so_far.weights x y in
-          let parts = weight_in_rows-append changed (unless_blank row) x y in
-          let next = image_in_rows-cons c r rest image x y lawful below has in
-          omega (arith, ints);
-    }
+    let same : (a b : ℤ) → a ≤ℤ b → a ≤ℤ b = λ a b le. le in
+    made_more whole rest changed r same so_far _ image
+    (strip_unless_blank changed r.y image first.bottom first.top has.edges (made_reach whole rest changed r same so_far))
+    (λ x v from under. image_in_rows-here c r rest x v image lawful below has (omega (arith, ints)))
+    (λ x v outside. image_in_rows-elsewhere c r rest x v (λ here. outside (omega (arith, ints)) (omega (arith, ints))))
 
 pub change_all : (c : RowChange) (whole changed : List EdgeRow) → IsRowChange c → IsChangeSoFar c whole [] changed
     → HaveRowWeights (image_in_rows c whole) changed
 unfolding weight_in_rows image_in_rows
-change_all c whole changed lawful so_far = record { weights = λ x y. let all = so_far.weights x y in omega (arith, ints, image_of_blank c x lawful) }
+change_all c whole changed lawful = made_all whole changed (λ x y. image_of_blank c x lawful)

@@ -1,5 +1,6 @@
 -- Lists of rows: heads stay true where edges are appended, and a new head appends a row.
-use Rattle.std.proofs.Common.{◌≡◌, ◌≢◌, ℕ, zero, suc, get_or, ◌-◌, ◌≤◌, List, [], ◌∷◌, ◌++◌, length, take, drop, Option, refl, sym, ap, subst, ◌∙◌, length-append, length-drop, append-nil, arith}
+use Rattle.std.proofs.Common.{◌≡◌, ◌≢◌, ℕ, zero, suc, get_or, ◌-◌, ◌≤◌, List, [], ◌∷◌, ◌++◌, length, take, drop, refl, sym, ap, subst, ◌∙◌, length-append, length-drop, append-nil, pos, arith}
+use Rattle.std.proofs.lemmas.Int.{ints}
 use Rattle.std.proofs.Math.Seq.{drop-append_seam}
 use Rattle.std.specs.Arc.{arc_value}
 use Rattle.std.specs.Bool.{Decides}
@@ -11,13 +12,19 @@ use Rattle.mf_edges.specs.contracts.edge.EdgePartialEq.TheImpl as edge_eq
 use Rattle.std.proofs.lemmas.List.{take-append-le, drop-append-le, map_push, nil_from_length, take_all}
 use Rattle.std.proofs.lemmas.List.Elements.{All-head, All-tail, All-weaker, All-push}
 use Rattle.mf_edges.specs.declared.edge.Edge.{Edge}
-use Rattle.mf_edges.specs.Reaches.{HasReach}
-use Rattle.mf_edges.specs.Sums.{HasMoreEdges}
+use Rattle.mf_edges.specs.Edges.{weight_in}
+use Rattle.mf_edges.specs.Reaches.{StaysInReach}
+use Rattle.mf_edges.specs.Sums.{HasEdgeSum, HasMoreEdges}
 use Rattle.mf_rows.specs.declared.row_list.Head.{Head}
 use Rattle.mf_rows.specs.EdgeRows.{EdgeRow}
 use Rattle.mf_rows.specs.declared.row_list.Place.{Place}
 use Rattle.mf_rows.specs.declared.row_list.Place.TheVariants as place
-use Rattle.mf_rows.specs.RowLists.{edges_between, edges_at, row_at, rows_at, IsThere, IsPlaceOf, IsHead, AreHeads, HasReachedSum, last_edges}
+use Rattle.mf_rows.specs.RowLists.{edges_between, edges_at, row_at, rows_at, IsThere, IsPlaceOf, IsHead, AreHeads, last_edges}
+
+-- where there are no edges, all weights are 0
+pub none_in_reach : StaysInReach (pos 0) []
+unfolding weight_in
+none_in_reach = record { most = omega (arith, ints); least = λ x. omega (arith, ints); greatest = λ x. omega (arith, ints) }
 
 -- ---- edges are appended
 
@@ -42,7 +49,7 @@ module _ (es ds : List Edge) (kept : HasMoreEdges es ds) where
 
   head_kept : (h : Head) → IsHead es h → IsHead ds h
   head_kept h head =
-      record { there = there_kept h.place head.there; reached = subst (HasReach h.reach) (sym (place_kept h.place head.there)) head.reached }
+      record { there = there_kept h.place head.there; reached = subst (StaysInReach h.reach) (sym (place_kept h.place head.there)) head.reached }
 
   pub heads_kept : (hs : List Head) → AreHeads es hs → AreHeads ds hs
   heads_kept hs heads = All-weaker (IsHead es) (IsHead ds) head_kept hs heads
@@ -59,10 +66,10 @@ module _ (es ds : List Edge) (kept : HasMoreEdges es ds) where
   -- ---- a head is appended, whose edges are at their place then
 
   module _ (hs : List Head) (heads : AreHeads es hs) (h : Head) (row : List Edge) (placed : IsPlaceOf ds h.place row) where
-    pub heads_push : HasReach h.reach row → AreHeads ds (hs ++ h ∷ [])
+    pub heads_push : StaysInReach h.reach row → AreHeads ds (hs ++ h ∷ [])
     heads_push reached =
         All-push (IsHead ds) hs h (heads_kept hs heads)
-        (record { there = placed.there; reached = subst (HasReach h.reach) (sym placed.edges) reached })
+        (record { there = placed.there; reached = subst (StaysInReach h.reach) (sym placed.edges) reached })
 
     pub rows_push : rows_at ds (hs ++ h ∷ []) ≡ rows_at es hs ++ record { y = h.y; edges = row } ∷ []
     rows_push =
@@ -109,8 +116,8 @@ row_of_push es hs h row placed =
     map_push (row_at es) hs h ∙ ap (λ (fs : List Edge). rows_at es hs ++ record { y = h.y; edges = fs } ∷ []) placed.edges
 
 -- the edges of the sum of two rows that were appended
-abbrev pub more_of_sum : (es ls rs ds : List Edge) (reach : Option ℕ) → HasReachedSum es ls rs ds reach → HasMoreEdges es ds
-more_of_sum es ls rs ds reach pushed = record { more = pushed.sum.more; all = pushed.sum.all }
+abbrev pub more_of_sum : (es ls rs ds : List Edge) → HasEdgeSum es ls rs ds → HasMoreEdges es ds
+more_of_sum es ls rs ds pushed = record { more = pushed.more; all = pushed.all }
 
 -- ---- edges that are compared
 
@@ -136,7 +143,7 @@ last_edges-back (r ∷ q ∷ rs) (s ∷ ss) some = last_edges-back (q ∷ rs) (s
 -- the last head tells the place of the last row's edges, and their reach
 pub record IsLastHead (es : List Edge) (hs : List Head) (h : Head) : Type 0 where
   pub place : IsPlaceOf es h.place (last_edges (rows_at es hs))
-  pub reached : HasReach h.reach (last_edges (rows_at es hs))
+  pub reached : StaysInReach h.reach (last_edges (rows_at es hs))
 
 pub is_last : (es : List Edge) (hs : List Head) (n : ℕ) (h : Head) → length hs ≡ suc n → h ≡ get_or hs n h → AreHeads es hs → IsLastHead es hs h
 is_last es [] n h long last heads = absurd (omega arith)

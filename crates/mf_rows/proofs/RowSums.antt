@@ -8,12 +8,15 @@ use Rattle.mf_geom.specs.Coordinates.{least_coordinate, last_in_field}
 use Rattle.mf_edges.specs.declared.edge.Edge.{Edge}
 use Rattle.mf_rows.specs.Bands.{AreAbove, AreBelow}
 use Rattle.mf_edges.specs.LawfulWeights.{IsLawfulWeight}
-use Rattle.mf_edges.specs.Edges.{weight_in, AreEdges}
+use Rattle.mf_edges.specs.Edges.{weight_in}
 use Rattle.mf_rows.specs.EdgeRows.{EdgeRow, IsEdgeRow, AreRowsFrom, AreRows, weight_in_rows}
 use Rattle.mf_rows.specs.Merging.{IsRowAt, IsSplitAtHeight, HasRowSum, IsUnlawfulInRow}
-use Rattle.mf_edges.specs.Sums.{IsUnlawfulColumn, weight_in_both, HaveWeights}
+use Rattle.mf_edges.specs.Reaches.{StaysInReach}
+use Rattle.mf_edges.specs.Sums.{IsEdgeSum, IsUnlawfulColumn, weight_in_both, HaveWeights}
 use Rattle.mf_rows.specs.Sums.{weight_in_all}
 use Rattle.mf_edges.proofs.EdgesLemmas.{weight_in-outside}
+use Rattle.mf_edges.proofs.EdgeSums.{changes_of_edges}
+use Rattle.mf_edges.proofs.ReachesLemmas.{row_in_reach}
 use Rattle.mf_rows.proofs.EdgeRowsLemmas.{weight_in_rows-append, weight_in_rows-here, weight_in_rows-above, weight_in_rows-below, rows_from-higher, rows_from-below, rows_from-front, rows_from-back, rows_from-append, by_field}
 
 -- ---- what a sum has in one row
@@ -93,14 +96,15 @@ module _ (y : ℤ) (l r : EdgeRow) (left : IsRowAt y (l ∷ [])) (right : IsRowA
     };
   }
 
-  pub sum_of_both-some : (before : List EdgeRow) (es : List Edge) → es ≢ [] → AreEdges es
-      → HaveWeights (weight_in_both l.edges r.edges) es → HasRowSum before y (l ∷ []) (r ∷ []) (before ++ record { y = y; edges = es } ∷ [])
-  sum_of_both-some before es some edges weights =
+  pub sum_of_both-some : (before : List EdgeRow) (es : List Edge) (reach : ℤ) → es ≢ [] → IsEdgeSum l.edges r.edges es
+      → StaysInReach reach es → HasRowSum before y (l ∷ []) (r ∷ []) (before ++ record { y = y; edges = es } ∷ [])
+  sum_of_both-some before es reach some sum reached =
+      let weights = sum.weights in
       let row : IsEdgeRow (record { y = y; edges = es }) = record {
         bottom = omega (arith, ints, row_is y l left, left.rows.0.bottom);
         top = omega (arith, ints, row_is y l left, left.rows.0.top);
         some = some;
-        edges = edges;
+        edges = row_in_reach l.edges r.edges es sum reach left.rows.0.edges (changes_of_edges r.edges right.rows.0.edges) reached;
       } in
       let here = row_of_edges y (record { y = y; edges = es }) row refl in
       record {

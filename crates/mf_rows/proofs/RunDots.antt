@@ -1,15 +1,17 @@
--- The dots of a run, and dots followed by a run.
-use Rattle.std.proofs.Common.{◌≡◌, ◌≢◌, ℕ, zero, suc, ◌&&◌, if◌then◌else◌, ℤ, pos, ◌+ℤ◌, ◌≤ℤ◌, ◌<ℤ◌, List, [], ◌∷◌, ◌++◌, refl, ap, ◌∙◌, subst, arith}
+-- The dots of a run, dots followed by a run, and the dots of runs in reading order.
+use Rattle.std.proofs.Common.{◌≡◌, ◌≢◌, ℕ, zero, suc, ◌&&◌, if◌then◌else◌, ℤ, pos, ◌+ℤ◌, ◌≤ℤ◌, ◌<ℤ◌, List, [], ◌∷◌, ◌++◌, refl, sym, ap, append-nil, ◌∙◌, subst, arith}
+use Rattle.std.specs.List.{All, flat_map}
 use Rattle.std.specs.Ordering.{int_eq}
 use Rattle.std.proofs.lemmas.Int.{ints, by_lt_z}
 use Rattle.std.proofs.lemmas.List.Elements.{All-nil, All-cons, All-head, All-tail, All-weaker}
+use Rattle.mf_geom.specs.Coordinates.{last_in_field}
 use Rattle.mf_rows.specs.declared.run.Run.{Run}
 use Rattle.mf_edges.specs.LawfulWeights.{IsLawfulWeight}
 use Rattle.mf_rows.specs.Dots.{Dot, IsPicture, AreDotsFrom, place, start_of_field, weight_at}
-use Rattle.mf_rows.specs.Order.{Fits}
+use Rattle.mf_rows.specs.Order.{IsRun, Fits}
 use Rattle.mf_rows.specs.Places.{AreBefore}
-use Rattle.mf_rows.specs.Runs.{stretch, dots_of}
-use Rattle.mf_rows.proofs.DotsLemmas.{weight_at-here, weight_at-elsewhere, not_at, dots_from-append}
+use Rattle.mf_rows.specs.Runs.{stretch, dots_of, AreMaximal}
+use Rattle.mf_rows.proofs.DotsLemmas.{weight_at-here, weight_at-elsewhere, weight_at-before, not_at, dots_from-lower, dots_from-append}
 use Rattle.mf_rows.proofs.PlacesLemmas.{AreFieldColumns, first_column, next_columns, place-next, start_of_field-le}
 
 pub stretch-from : (y x w : ℤ) (n : ℕ) → AreFieldColumns x y n → IsLawfulWeight w → w ≢ pos 0 → AreDotsFrom (place x y) (stretch y x w n)
@@ -48,13 +50,15 @@ weight_at-stretch y x w (suc n) u left right =
     ∙ weight_at-stretch y (x +ℤ pos 1) w n u (omega (arith, ints)) (omega (arith, ints)))
     (λ here. weight_at-here first others u y (record { column = omega (arith, ints); row = refl }))
 
-weight_at-off_stretch : (y x w : ℤ) (n : ℕ) (u v : ℤ) → (y ≡ v → x ≤ℤ u → u <ℤ (x +ℤ pos n) → ⊥) → weight_at (stretch y x w n) u v ≡ pos 0
-unfolding stretch weight_at
-weight_at-off_stretch y x w zero u v off = refl
-weight_at-off_stretch y x w (suc n) u v off =
-    weight_at-elsewhere (record { y = y; x = x; weight = w }) (stretch y (x +ℤ pos 1) w n) u v
+-- a stretch without a pixel does not affect it
+weight_at-skip : (y x w : ℤ) (n : ℕ) (ds : List Dot) (u v : ℤ) → (y ≡ v → x ≤ℤ u → u <ℤ (x +ℤ pos n) → ⊥)
+    → weight_at (stretch y x w n ++ ds) u v ≡ weight_at ds u v
+unfolding stretch
+weight_at-skip y x w zero ds u v off = refl
+weight_at-skip y x w (suc n) ds u v off =
+    weight_at-elsewhere (record { y = y; x = x; weight = w }) (stretch y (x +ℤ pos 1) w n ++ ds) u v
     (λ here. off here.row (omega (arith, ints, here.column)) (omega (arith, ints, here.column)))
-    ∙ weight_at-off_stretch y (x +ℤ pos 1) w n u v (λ row left right. off row (omega (arith, ints)) (omega (arith, ints)))
+    ∙ weight_at-skip y (x +ℤ pos 1) w n ds u v (λ row left right. off row (omega (arith, ints)) (omega (arith, ints)))
 
 -- dots that all come before a pixel do not affect it
 pub weight_at-append_after : (ds es : List Dot) (x y : ℤ) → AreBefore (place x y) ds → weight_at (ds ++ es) x y ≡ weight_at es x y
@@ -85,10 +89,10 @@ weight_at-on_run ds r x y fits on =
 
 -- and every other pixel keeps its weight
 pub weight_at-off_run : (ds : List Dot) (r : Run) (x y : ℤ) → (IsOnRun r x y → ⊥) → weight_at (ds ++ dots_of r) x y ≡ weight_at ds x y
-unfolding dots_of
+unfolding dots_of weight_at
 weight_at-off_run ds r x y off =
-    weight_at-append_none ds (stretch r.y r.x r.weight r.len) x y
-    (weight_at-off_stretch r.y r.x r.weight r.len x y (λ row left right. off (record { row = row; left = left; right = right })))
+    let skipped = weight_at-skip r.y r.x r.weight r.len [] x y (λ row left right. off (record { row = row; left = left; right = right })) in
+    weight_at-append_none ds (stretch r.y r.x r.weight r.len) x y (rw append-nil at skipped)
 
 pub before_stretch-end : (y x w : ℤ) (n : ℕ) (p : ℤ) → place (x +ℤ pos n) y ≤ℤ p → AreBefore p (stretch y x w n)
 unfolding stretch place
@@ -96,3 +100,65 @@ before_stretch-end y x w zero p end = All-nil (λ d. place d.x d.y <ℤ p)
 before_stretch-end y x w (suc n) p end =
     All-cons (λ d. place d.x d.y <ℤ p) (record { y = y; x = x; weight = w }) (stretch y (x +ℤ pos 1) w n)
     (omega (arith, ints)) (before_stretch-end y (x +ℤ pos 1) w n p (omega (arith, ints)))
+
+-- ---- runs in reading order
+
+-- runs of the field, none of which begins before the one before it ends, the first of them from a place on
+abbrev pub AreRunsFrom : ℤ → List Run → Type 0
+AreRunsFrom low [] = Unit {0}
+AreRunsFrom low (r ∷ rs) = IsRun r × (low ≤ℤ place r.x r.y) × AreRunsFrom (place (r.x +ℤ pos r.len) r.y) rs
+
+pub runs_from-lower : (low high : ℤ) (rs : List Run) → low ≤ℤ high → AreRunsFrom high rs → AreRunsFrom low rs
+runs_from-lower low high [] le runs = tt
+runs_from-lower low high (r ∷ rs) le runs = let start : high ≤ℤ place r.x r.y = runs.1 in (runs.0, omega (arith, ints), runs.2)
+
+pub runs_from-lawful : (low : ℤ) (rs : List Run) → AreRunsFrom low rs → All IsRun rs
+runs_from-lawful low [] runs = All-nil IsRun
+runs_from-lawful low (r ∷ rs) runs = All-cons IsRun r rs runs.0 (runs_from-lawful (place (r.x +ℤ pos r.len) r.y) rs runs.2)
+
+-- their dots are in reading order, too
+pub dots_from-runs : (low : ℤ) (rs : List Run) → AreRunsFrom low rs → AreDotsFrom low (flat_map dots_of rs)
+unfolding dots_of
+dots_from-runs low [] runs = tt
+dots_from-runs low (r ∷ rs) runs =
+    let run = runs.0 in
+    let end = place (r.x +ℤ pos r.len) r.y in
+    let start : low ≤ℤ place r.x r.y = runs.1 in
+    let further : place r.x r.y ≤ℤ end = place-le r.x (r.x +ℤ pos r.len) r.y (omega (arith, ints)) in
+    let own = stretch-from r.y r.x r.weight r.len (record { left = run.left; right = run.right; bottom = run.bottom; top = run.top }) run.lawful run.nonzero in
+    dots_from-append low end (stretch r.y r.x r.weight r.len) (flat_map dots_of rs) (omega (arith, ints))
+    (dots_from-lower low (place r.x r.y) (stretch r.y r.x r.weight r.len) start own)
+    (before_stretch-end r.y r.x r.weight r.len end (omega (arith, ints)))
+    (dots_from-runs end rs runs.2)
+
+-- to the left of the first run of its row a pixel has weight 0
+pub weight_at-left_of : (x y u : ℤ) (rs : List Run) → AreRunsFrom (place x y) rs → u <ℤ x → weight_at (flat_map dots_of rs) u y ≡ pos 0
+unfolding place
+weight_at-left_of x y u rs runs lt = weight_at-before (place x y) (flat_map dots_of rs) u y (dots_from-runs (place x y) rs runs) (omega (arith, ints))
+
+-- the pixels of the first run have its weight, and it does not affect any other
+pub weight_at-on_first : (low : ℤ) (r : Run) (rs : List Run) (x y : ℤ) → AreRunsFrom low (r ∷ rs) → IsOnRun r x y
+    → weight_at (flat_map dots_of (r ∷ rs)) x y ≡ r.weight
+unfolding dots_of
+weight_at-on_first low r rs x y runs on =
+    subst (λ v. weight_at (flat_map dots_of (r ∷ rs)) x v ≡ r.weight) on.row
+    (weight_at-append_none (stretch r.y r.x r.weight r.len) (flat_map dots_of rs) x r.y (weight_at-left_of (r.x +ℤ pos r.len) r.y x rs runs.2 on.right)
+    ∙ weight_at-stretch r.y r.x r.weight r.len x on.left on.right)
+
+pub weight_at-off_first : (r : Run) (rs : List Run) (x y : ℤ) → (IsOnRun r x y → ⊥)
+    → weight_at (flat_map dots_of (r ∷ rs)) x y ≡ weight_at (flat_map dots_of rs) x y
+unfolding dots_of
+weight_at-off_first r rs x y off =
+    weight_at-skip r.y r.x r.weight r.len (flat_map dots_of rs) x y (λ row left right. off (record { row = row; left = left; right = right }))
+
+-- a run is maximal where the pixel after it, if in the field, has another weight
+pub maximal-cons : (low : ℤ) (r : Run) (rs : List Run) → AreRunsFrom low rs → AreMaximal rs
+    → ((r.x +ℤ pos r.len) ≤ℤ last_in_field → weight_at (flat_map dots_of rs) (r.x +ℤ pos r.len) r.y ≢ r.weight) → AreMaximal (r ∷ rs)
+maximal-cons low r [] runs maximal apart = tt
+maximal-cons low r (s ∷ rs) runs maximal apart = (
+  λ joined.
+      let on : IsOnRun s (r.x +ℤ pos r.len) r.y =
+      record { row = sym joined.row; left = omega (arith, ints, joined.column); right = omega (arith, ints, joined.column, runs.0.some) } in
+      apart (omega (arith, ints, joined.column, runs.0.some, runs.0.right)) (weight_at-on_first low s rs (r.x +ℤ pos r.len) r.y runs on ∙ sym joined.weight),
+  maximal,
+)

@@ -1,7 +1,7 @@
 -- The two edges of a run, after the edges of its row.
-use Rattle.std.proofs.Common.{◌≡◌, ◌≢◌, ℕ, zero, suc, ◌-◌, ◌<◌, ℤ, pos, ◌+ℤ◌, ◌-ℤ◌, ◌≤ℤ◌, ◌<ℤ◌, List, [], ◌∷◌, length, get_or, refl, sym, ◌∙◌, subst, arith}
+use Rattle.std.proofs.Common.{◌≡◌, ◌≢◌, ℕ, zero, suc, ◌-◌, ◌≤◌, ◌<◌, ℤ, pos, ◌+ℤ◌, ◌-ℤ◌, ◌≤ℤ◌, ◌<ℤ◌, List, [], ◌∷◌, length, get_or, refl, sym, ap, ◌∙◌, subst, arith}
 use Rattle.std.proofs.lemmas.Int.{ints, by_lt_z}
-use Rattle.std.proofs.lemmas.List.Elements.{All-nil, All-cons, All-head, All-tail}
+use Rattle.std.proofs.lemmas.List.Elements.{All-head, All-tail}
 use Rattle.mf_geom.specs.Coordinates.{least_coordinate, greatest_coordinate}
 use Rattle.mf_edges.specs.declared.edge.Edge.{Edge}
 use Rattle.mf_rows.specs.declared.run.Run.{Run}
@@ -12,49 +12,35 @@ use Rattle.mf_rows.specs.EdgeRows.{EdgeRow}
 use Rattle.mf_rows.specs.Order.{IsRun}
 use Rattle.mf_edges.specs.Sums.{HaveWeights, with_edge_in}
 use Rattle.mf_edges.proofs.EdgeSums.{with_edge_in-before, with_edge_in-behind}
-use Rattle.mf_edges.proofs.EdgesLemmas.{weight_in-left, weight_in-right, weight_in-before, weight_in-behind}
+use Rattle.mf_edges.proofs.EdgesAt.{edges_from-at, step_at_edge}
+use Rattle.mf_edges.proofs.EdgesLemmas.{weight_in-left, weight_in-before, weight_in-behind}
 
 -- ---- the ends of edges
 
-EndAt-from_last : (low : ℤ) (es : List Edge) (k : ℕ) (e : Edge) (x : ℤ) → AreEdgesFrom low es → suc k ≡ length es → (get_or es k e).x ≤ℤ x → EndAt x es
-EndAt-from_last low [] k d x edges last le = absurd (omega arith)
-EndAt-from_last low (e ∷ []) zero d x edges last le = All-cons (λ e. e.x ≤ℤ x) e [] le (All-nil (λ e. e.x ≤ℤ x))
-EndAt-from_last low (e ∷ f ∷ es) zero d x edges last le = absurd (omega arith)
-EndAt-from_last low (e ∷ []) (suc k) d x edges last le = absurd (omega arith)
-EndAt-from_last low (e ∷ f ∷ es) (suc k) d x edges last le =
-    let others = EndAt-from_last (e.x +ℤ pos 1) (f ∷ es) k d x edges.2 (omega arith) le in
-    let after : (e.x +ℤ pos 1) ≤ℤ f.x = edges.2.1 in
-    let first : f.x ≤ℤ x = All-head (λ e. e.x ≤ℤ x) f es others in
-    All-cons (λ e. e.x ≤ℤ x) e (f ∷ es) (omega (arith, ints)) others
+-- edges are sorted from left to right
+ordered : (low : ℤ) (es : List Edge) (j k : ℕ) (d e : Edge) → AreEdgesFrom low es → j ≤ k → k < length es → (get_or es j d).x ≤ℤ (get_or es k e).x
+ordered low [] j k d e edges le lt = absurd (omega (arith, lt))
+ordered low (f ∷ es) zero k d e edges le lt = (edges_from-at f.x (f ∷ es) k e (edges.0, omega (arith, ints), edges.2) lt).1
+ordered low (f ∷ es) (suc j) zero d e edges le lt = absurd (omega arith)
+ordered low (f ∷ es) (suc j) (suc k) d e edges le lt = ordered (f.x +ℤ pos 1) es j k d e edges.2 (omega arith) (omega arith)
 
--- the last of sorted edges says where the edges end
+-- so the last of them says where they end
 pub last_decides_end : (es : List Edge) (last : Edge) (x : ℤ) → AreEdges es → 0 < length es
     → last ≡ get_or es (length es - 1) last → (last.x ≤ℤ x → EndAt x es) × (EndAt x es → last.x ≤ℤ x)
-last_decides_end es last x edges some is_last = (
-  λ le. EndAt-from_last least_coordinate es (length es - 1) last x edges.sorted (omega arith) (subst (λ e. e.x ≤ℤ x) is_last le),
-  λ end. subst (λ e. e.x ≤ℤ x) (sym is_last) (end (length es - 1) last (omega arith)),
-)
+last_decides_end es last x edges some is_last =
+    let here = ap (λ (e : Edge). e.x) is_last in (
+      λ le k d lt. omega (arith, ints, ordered least_coordinate es k (length es - 1) d last edges.sorted (omega arith) (omega arith)),
+      λ end. omega (arith, ints, end (length es - 1) last (omega arith)),
+    )
 
 -- the weights change at each edge, so they are constant only after all edges
 pub EndAt-from_constant : (low : ℤ) (es : List Edge) (x w : ℤ) → AreEdgesFrom low es → ((u : ℤ) → x ≤ℤ u → weight_in es u ≡ w) → EndAt x es
-EndAt-from_constant low [] x w edges constant = All-nil (λ e. e.x ≤ℤ x)
-EndAt-from_constant low (e ∷ es) x w edges constant =
+EndAt-from_constant low es x w edges constant = λ k d lt.
+    let e = get_or es k d in
     by_lt_z x e.x
-    (λ before.
-    let weight : weight_in (e ∷ es) e.x ≡ e.weight +ℤ weight_in es e.x = weight_in-left e es e.x (omega (arith, ints)) in
-    let left : weight_in (e ∷ es) (e.x -ℤ pos 1) ≡ weight_in es (e.x -ℤ pos 1) = weight_in-right e es (e.x -ℤ pos 1) (omega (arith, ints)) in
-    let none : weight_in es e.x ≡ pos 0 = weight_in-before (e.x +ℤ pos 1) es e.x edges.2 (omega (arith, ints)) in
-    let none_left : weight_in es (e.x -ℤ pos 1) ≡ pos 0 = weight_in-before (e.x +ℤ pos 1) es (e.x -ℤ pos 1) edges.2 (omega (arith, ints)) in
-    let here = constant e.x (omega (arith, ints)) in
-    let there = constant (e.x -ℤ pos 1) (omega (arith, ints)) in
-    absurd (edges.0.nonzero (omega (arith, ints))))
-    (λ behind.
-    let others = EndAt-from_constant (e.x +ℤ pos 1) es x (w -ℤ e.weight) edges.2
-    (λ u le.
-    let here : weight_in (e ∷ es) u ≡ e.weight +ℤ weight_in es u = weight_in-left e es u (omega (arith, ints)) in
-    let same = constant u le in
-    omega (arith, ints)) in
-    All-cons (λ e. e.x ≤ℤ x) e es behind others)
+    (λ before. absurd ((edges_from-at low es k d edges lt).0.nonzero
+    (omega (arith, ints, step_at_edge low es k d edges lt, constant e.x (omega (arith, ints)), constant (e.x -ℤ pos 1) (omega (arith, ints))))))
+    (λ behind. behind)
 
 -- a row may have no edges yet
 pub no_edges : AreEdges []
@@ -83,10 +69,9 @@ weight_in-end es x u edges end le =
 pub some_weight : (es : List Edge) → es ≢ [] → AreEdgesFrom least_coordinate es → ((x : ℤ) → least_coordinate ≤ℤ x → weight_in es x ≡ pos 0) → ⊥
 some_weight [] some edges none = some refl
 some_weight (e ∷ es) some edges none =
-    let weight : weight_in (e ∷ es) e.x ≡ e.weight +ℤ weight_in es e.x = weight_in-left e es e.x (omega (arith, ints)) in
-    let others : weight_in es e.x ≡ pos 0 = weight_in-before (e.x +ℤ pos 1) es e.x edges.2 (omega (arith, ints)) in
-    let here = none e.x edges.0.left in
-    edges.0.nonzero (omega (arith, ints))
+    let weight = weight_in-left e es e.x (omega (arith, ints)) in
+    let others = weight_in-before (e.x +ℤ pos 1) es e.x edges.2 (omega (arith, ints)) in
+    edges.0.nonzero (omega (arith, ints, none e.x edges.0.left))
 
 -- ---- the edges of a run
 
@@ -112,49 +97,36 @@ run_begun es mid r edges end lawful sorted first = record {
       (λ from. subst IsLawfulWeight (sym (weight-from_run es mid r c edges end first from)) lawful);
 }
 
--- the weights of edges after a run is added to them
-record HaveRun (es : List Edge) (r : Run) (new : List Edge) : Type 0 where
-  pub inside : (c : ℤ) → r.x ≤ℤ c → c <ℤ (r.x +ℤ pos r.len) → weight_in new c ≡ r.weight
-  pub outside : (c : ℤ) → (r.x ≤ℤ c → c <ℤ (r.x +ℤ pos r.len) → ⊥) → weight_in new c ≡ weight_in es c
-
--- the second edge of the run takes the run's weight away again
-run_ended : (es mid new : List Edge) (r : Run) → AreEdges es → EndAt r.x es
-    → HaveWeights (with_edge_in es r.x r.weight) mid → HaveWeights (with_edge_in mid (r.x +ℤ pos r.len) (pos 0 -ℤ r.weight)) new → HaveRun es r new
-run_ended es mid new r edges end first second =
-    let end_of_run = r.x +ℤ pos r.len in
-    record {
-      inside = λ c from to. second.weights c ∙ with_edge_in-before mid end_of_run (pos 0 -ℤ r.weight) c to ∙ weight-from_run es mid r c edges end first from;
-      outside = λ c outside. by_columns r c
-          (λ before. second.weights c ∙ with_edge_in-before mid end_of_run (pos 0 -ℤ r.weight) c (omega (arith, ints))
-          ∙ first.weights c ∙ with_edge_in-before es r.x r.weight c before)
-          (λ from to. absurd (outside from to))
-          (λ behind.
-          let sum = with_edge_in-behind mid end_of_run (pos 0 -ℤ r.weight) c behind in
-          let weight = weight-from_run es mid r c edges end first (omega (arith, ints)) in
-          let none = weight_in-end es r.x c edges end (omega (arith, ints)) in
-          omega (arith, ints, second.weights c));
-    }
-
--- which leaves lawful edges
-lawful_run : (es new : List Edge) (r : Run) → AreEdges es → IsRun r → AreEdgesFrom least_coordinate new → HaveRun es r new → AreEdges new
-lawful_run es new r edges run sorted have =
-    let outside = λ (c : ℤ) (out : r.x ≤ℤ c → c <ℤ (r.x +ℤ pos r.len) → ⊥). subst IsLawfulWeight (sym (have.outside c out)) (edges.lawful c) in
-    record {
-      sorted = sorted;
-      lawful = λ c. by_columns r c
-          (λ before. outside c (λ from to. omega (arith, ints)))
-          (λ from to. subst IsLawfulWeight (sym (have.inside c from to)) run.lawful)
-          (λ behind. outside c (λ from to. omega (arith, ints)));
-      closed = have.outside greatest_coordinate (λ from to. omega (arith, ints, run.right)) ∙ edges.closed;
-    }
-
--- so two edges add the run
+-- the second edge of the run takes the run's weight away again, so the two edges add the run
 pub run_added : (old new : EdgeRow) (mid : List Edge) (r : Run) → IsRun r → AreEdges old.edges → EndAt r.x old.edges
     → new.y ≡ r.y → AreEdgesFrom least_coordinate new.edges → HaveWeights (with_edge_in old.edges r.x r.weight) mid
     → HaveWeights (with_edge_in mid (r.x +ℤ pos r.len) (pos 0 -ℤ r.weight)) new.edges → HasRun old r new
 run_added old new mid r run edges end row sorted first second =
-    let have = run_ended old.edges mid new.edges r edges end first second in
-    record { row = row; edges = lawful_run old.edges new.edges r edges run sorted have; inside = have.inside; outside = have.outside }
+    let es = old.edges in
+    let stop = r.x +ℤ pos r.len in
+    let inside : (c : ℤ) → r.x ≤ℤ c → c <ℤ stop → weight_in new.edges c ≡ r.weight =
+    λ c from to. second.weights c ∙ with_edge_in-before mid stop (pos 0 -ℤ r.weight) c to ∙ weight-from_run es mid r c edges end first from in
+    let before : (c : ℤ) → c <ℤ r.x → weight_in new.edges c ≡ weight_in es c = λ c left.
+    second.weights c ∙ with_edge_in-before mid stop (pos 0 -ℤ r.weight) c (omega (arith, ints))
+    ∙ first.weights c ∙ with_edge_in-before es r.x r.weight c left in
+    let behind : (c : ℤ) → stop ≤ℤ c → weight_in new.edges c ≡ weight_in es c = λ c right.
+    let sum = with_edge_in-behind mid stop (pos 0 -ℤ r.weight) c right in
+    let weight = weight-from_run es mid r c edges end first (omega (arith, ints)) in
+    let none = weight_in-end es r.x c edges end (omega (arith, ints)) in
+    omega (arith, ints, second.weights c) in
+    record {
+      row = row;
+      edges = record {
+        sorted = sorted;
+        lawful = λ c. by_columns r c
+            (λ left. rw (before c left) (edges.lawful c))
+            (λ from to. rw (inside c from to) run.lawful)
+            (λ right. rw (behind c right) (edges.lawful c));
+        closed = behind greatest_coordinate run.right ∙ edges.closed;
+      };
+      inside = inside;
+      outside = λ c out. by_columns r c (before c) (λ from to. absurd (out from to)) (behind c);
+    }
 
 -- a row with a run has an edge
 pub some_edge : (old new : EdgeRow) (r : Run) → IsRun r → HasRun old r new → new.edges ≢ []

@@ -1,5 +1,5 @@
 -- The runs of dots.
-use Rattle.std.proofs.Common.{◌≡◌, ℕ, suc, Bool, true, false, if◌then◌else◌, ℤ, pos, ◌+ℤ◌, List, [], ◌∷◌, ◌++◌, drop, refl, sym, ap, ◌∙◌, arith}
+use Rattle.std.proofs.Common.{◌≡◌, ℕ, suc, Bool, true, false, if◌then◌else◌, pos, ◌+ℤ◌, List, [], ◌∷◌, ◌++◌, drop, refl, sym, ap, ◌∙◌, arith}
 use Rattle.std.specs.Bool.{Decides}
 use Rattle.std.specs.List.{flat_map}
 use Rattle.std.proofs.lemmas.Bool.{false≢true, cond_both}
@@ -17,13 +17,10 @@ continued d r =
     (λ followed. (followed.row, (followed.column, followed.weight)))
     (Decides-and _ _ (Decides-int_eq d.y r.y) (Decides-and _ _ (Decides-int_eq (d.x +ℤ pos 1) r.x) (Decides-int_eq d.weight r.weight)))
 
-same_stretch : (y x w v u m : ℤ) (n : ℕ) → y ≡ v → x ≡ u → w ≡ m → stretch y x w n ≡ stretch v u m n
-same_stretch y x w v u m n row column weight = cc
-
 -- a run with one more dot at its left end has that dot and its own dots
 lengthened : (d : Dot) (r : Run) → IsFollowedBy (run_from d 0) r → dots_of (run_from d r.len) ≡ d ∷ dots_of r
 unfolding run_from dots_of stretch
-lengthened d r followed = ap (λ others. d ∷ others) (same_stretch _ _ _ _ _ _ r.len followed.row followed.column followed.weight)
+lengthened d r followed = ap (λ others. d ∷ others) (rw (← followed.row, ← followed.column, ← followed.weight) refl)
 
 dots_of-with_dot : (d : Dot) (rs : List Run) → flat_map dots_of (with_dot d rs) ≡ d ∷ flat_map dots_of rs
 unfolding with_dot run_from dots_of stretch
@@ -85,3 +82,6 @@ runs_of-first d [] = refl
 runs_of-first d (e ∷ es) =
     ap (with_dot d) (runs_of-first e es)
     ∙ first_split (continues d (run_from e 0)) d e es (run_from e (more_after e es)) (more_after e es) (sym (runs_of-first e es))
+
+-- what `runs_are_maximal` says
+pub ruleset maximal_runs = (dots_of-runs_of, maximal_runs_of)

@@ -1,5 +1,5 @@
 -- Rows that are added or subtracted: the negated ones are as lawful as the others, and at the same heights.
-use Rattle.std.proofs.Common.{◌≡◌, ◌≢◌, ℕ, ℤ, pos, neg_ℤ, ◌+ℤ◌, ◌-ℤ◌, ◌≤ℤ◌, ◌<ℤ◌, ◌+◌, List, [], ◌∷◌, ◌++◌, length, Option, None, Some, refl, subst, ap, ◌∙◌, arith}
+use Rattle.std.proofs.Common.{◌≡◌, ◌≢◌, ℕ, ℤ, pos, neg_ℤ, ◌+ℤ◌, ◌-ℤ◌, ◌≤ℤ◌, ◌<ℤ◌, ◌+◌, List, [], ◌∷◌, ◌++◌, length, refl, subst, ap, ◌∙◌, arith}
 use Rattle.std.specs.List.{All}
 use Rattle.std.proofs.lemmas.Int.{ints, by_lt_z}
 use Rattle.std.proofs.lemmas.List.{map-append}
@@ -8,7 +8,6 @@ use Rattle.mf_geom.specs.Coordinates.{least_coordinate, greatest_coordinate, las
 use Rattle.mf_edges.specs.declared.edge.Edge.{Edge}
 use Rattle.mf_edges.specs.Edges.{weight_in, AreEdgesFrom, AreEdges}
 use Rattle.mf_edges.specs.LawfulWeights.{IsLawfulWeight, greatest_weight}
-use Rattle.mf_edges.specs.Reaches.{HasReach}
 use Rattle.mf_edges.proofs.EdgesLemmas.{weight_in-left, weight_in-right, weight_in-before}
 use Rattle.mf_rows.specs.declared.sign.Sign.{Sign}
 use Rattle.mf_rows.specs.declared.sign.Sign.TheVariants.{Plus, Minus}
@@ -41,7 +40,7 @@ edges_from-negated low (e ∷ es) edges =
       edges_from-negated (e.x +ℤ pos 1) es edges.2,
     )
 
-edges-negated : (es : List Edge) → AreEdges es → AreEdges (negated_edges es)
+pub edges-negated : (es : List Edge) → AreEdges es → AreEdges (negated_edges es)
 edges-negated es edges = record {
   sorted = edges_from-negated least_coordinate es edges.sorted;
   lawful = λ x.
@@ -53,15 +52,6 @@ edges-negated es edges = record {
 some-negated : (es : List Edge) → es ≢ [] → negated_edges es ≢ []
 some-negated [] some = λ none. some none
 some-negated (e ∷ es) some = λ none. absurd (omega (arith, ap length none))
-
--- what is known of the reach of a row is true of the negated one
-pub reach-negated : (reach : Option ℕ) (es : List Edge) → HasReach reach es → HasReach reach (negated_edges es)
-reach-negated None es known = tt
-reach-negated (Some reach) es known = record {
-  most = known.most;
-  least = λ x. omega (arith, ints, known.greatest x, weight_in-negated es x);
-  greatest = λ x. omega (arith, ints, known.least x, weight_in-negated es x);
-}
 
 -- an edge changes one lawful weight to another, so it can be negated
 pub record IsChange (e : Edge) : Type 0 where

@@ -1,8 +1,11 @@
 -- What a stretch that stays in the field requires of the rows and edges of a picture, and the picture that it makes.
-use Rattle.std.proofs.Common.{◌≡◌, ◌≢◌, ℤ, pos, ◌+ℤ◌, ◌-ℤ◌, ◌*ℤ◌, ◌≤ℤ◌, of_z, w32, List, [], ◌∷◌, refl, sym, ap, subst, ◌∙◌, arith}
+use Rattle.std.proofs.Common.{◌≡◌, ◌≢◌, ◌&&◌, ℤ, pos, ◌+ℤ◌, ◌-ℤ◌, ◌≤ℤ◌, of_z, w32, List, [], ◌∷◌, get_or, refl, sym, ap, ◌∙◌, arith}
 use Rattle.std.specs.List.{All}
+use Rattle.std.specs.Ordering.{int_eq}
+use Rattle.std.proofs.lemmas.Bool.{and_parts, cond_both}
+use Rattle.std.proofs.lemmas.Bool.Decides.{Decides-int_eq}
 use Rattle.std.proofs.lemmas.Int.{ints}
-use Rattle.std.proofs.lemmas.List.Elements.{All-nil, All-cons, All-head, All-tail, All-weaker}
+use Rattle.std.proofs.lemmas.List.Elements.{All-nil, All-cons, All-head, All-tail}
 use Rattle.mf_geom.specs.Coordinates.{least_coordinate, last_in_field, IsCoordinate}
 use Rattle.mf_edges.specs.declared.edge.Edge.{Edge}
 use Rattle.mf_edges.specs.declared.row_change.RowChange.TheVariants as change
@@ -14,8 +17,9 @@ use Rattle.mf_edges.specs.Axes.{IsStretch, PlaceStaysInside, source_of, target_o
 use Rattle.mf_rows.specs.Moves.{column_stretch_at, stretch_at}
 use Rattle.mf_rows.specs.RowChanges.{RowsAllowChange, AllowStretch, stretch_in_rows}
 use Rattle.mf_rows.specs.Sums.{HasWeights, HaveRowWeights}
-use Rattle.mf_rows.proofs.DotsLemmas.{IsAt, weight_at-elsewhere, weight_at-outside}
-use Rattle.mf_edges.proofs.EdgesLemmas.{weight_in-left, weight_in-right, weight_in-before}
+use Rattle.mf_rows.proofs.DotsLemmas.{weight_at-outside}
+use Rattle.mf_edges.proofs.EdgesAt.{edges_from-at, step_at_edge}
+use Rattle.mf_edges.proofs.EdgesLemmas.{weight_in-left, weight_in-before}
 use Rattle.mf_edges.proofs.Sources.{source_of-is}
 use Rattle.mf_rows.proofs.EdgeRowsLemmas.{weight_in_rows-here, weight_in_rows-elsewhere, weight_in_rows-below, weight_in_rows-outside, rows_from-below, by_field, weight_at-picture_of_rows}
 use Rattle.mf_rows.proofs.RowSums.{by_same}
@@ -27,40 +31,25 @@ pub holds_at_weight : (P : ℤ → ℤ → Type 0) (ds : List Dot) (x y : ℤ) �
 unfolding weight_at
 holds_at_weight P [] x y all nonzero = absurd (nonzero refl)
 holds_at_weight P (d ∷ ds) x y all nonzero =
-    let others =
-    λ (elsewhere : IsAt d x y → ⊥). holds_at_weight P ds x y (All-tail (λ d. P d.x d.y) d ds all)
-    (λ zero. nonzero (weight_at-elsewhere d ds x y elsewhere ∙ zero)) in
-    by_same d.x x
-    (λ column. by_same d.y y
-    (λ row. subst (λ a. P a y) column (subst (λ b. P d.x b) row (All-head (λ d. P d.x d.y) d ds all)))
-    (λ apart. others (λ here. apart here.row)))
-    (λ apart. others (λ here. apart here.column))
+    cond_both (int_eq d.x x && int_eq d.y y) d.weight (weight_at ds x y) (λ w. w ≢ pos 0 → P x y)
+    (λ test _.
+    let here = and_parts (int_eq d.x x) (int_eq d.y y) test in
+    rw (← (Decides-int_eq d.x x).0 here.0, ← (Decides-int_eq d.y y).0 here.1) (All-head (λ d. P d.x d.y) d ds all))
+    (λ _. holds_at_weight P ds x y (All-tail (λ d. P d.x d.y) d ds all)) nonzero
 
--- ---- rows
+-- ---- rows and edges
 
--- a row gives these rows its weights, where none of them is higher than `top`
-record IsOneOf (top : ℤ) (rs : List EdgeRow) (r : EdgeRow) : Type 0 where
-  row : IsEdgeRow r
-  reach : r.y ≤ℤ top
-  weights : (x : ℤ) → weight_in_rows rs x r.y ≡ weight_in r.edges x
-
-each_row : (top : ℤ) (rs : List EdgeRow) → AreRowsFrom top rs → All (IsOneOf top rs) rs
-each_row top [] rows = All-nil (IsOneOf top [])
-each_row top (r ∷ rs) rows =
+-- what holds of each row whose weights are those of these rows at its height
+each_row : {P : EdgeRow → Type 0} (top : ℤ) (rs : List EdgeRow) → AreRowsFrom top rs
+    → ((r : EdgeRow) → IsEdgeRow r → r.y ≤ℤ top → ((x : ℤ) → weight_in_rows rs x r.y ≡ weight_in r.edges x) → P r) → All P rs
+each_row {P = P} top [] rows holds = All-nil P
+each_row {P = P} top (r ∷ rs) rows holds =
     let start : r.y ≤ℤ top = rows.1 in
     let below = rows_from-below (r.y -ℤ pos 1) r.y rs rows.2 (omega (arith, ints)) in
-    All-cons (IsOneOf top (r ∷ rs)) r rs
-    (record {
-      row = rows.0;
-      reach = start;
-      weights = λ x. omega (arith, ints, weight_in_rows-here r rs x r.y refl, weight_in_rows-below rs x r.y below);
-    })
-    (All-weaker (IsOneOf (r.y -ℤ pos 1) rs) (IsOneOf top (r ∷ rs))
-    (λ s own. record {
-      row = own.row;
-      reach = omega (arith, ints);
-      weights = λ x. weight_in_rows-elsewhere r rs x s.y (λ same. omega (arith, ints)) ∙ own.weights x;
-    }) rs (each_row (r.y -ℤ pos 1) rs rows.2))
+    All-cons P r rs
+    (holds r rows.0 start (λ x. omega (arith, ints, weight_in_rows-here r rs x r.y refl, weight_in_rows-below rs x r.y below)))
+    (each_row (r.y -ℤ pos 1) rs rows.2 (λ s row reach own. holds s row (omega (arith, ints))
+    (λ x. weight_in_rows-elsewhere r rs x s.y (λ same. omega (arith, ints)) ∙ own x)))
 
 -- a row that is not blank has a weight at its first edge
 first_weight : {P : Type 0} (low : ℤ) (es : List Edge) → es ≢ [] → AreEdgesFrom low es → ((x : ℤ) → weight_in es x ≢ pos 0 → P) → P
@@ -70,74 +59,28 @@ first_weight low (e ∷ es) some edges use_at =
     let here = weight_in-left e es e.x (omega (arith, ints)) in
     use_at e.x (λ zero. edges.0.nonzero (omega (arith, ints)))
 
--- so a stretch keeps rows in the field where it keeps the pixels of nonzero weight there
-pub rows_stay : (s : Stretch) (rs : List EdgeRow) → AreRows rs → ((x y : ℤ) → weight_in_rows rs x y ≢ pos 0 → PlaceStaysInside s y) → AllowStretch s rs
-rows_stay s rs rows inside =
-    All-weaker (IsOneOf last_in_field rs) (λ r. PlaceStaysInside s r.y)
-    (λ r own. first_weight least_coordinate r.edges own.row.some own.row.edges.sorted
-    (λ x nonzero. inside x r.y (λ zero. nonzero (sym (own.weights x) ∙ zero))))
-    rs (each_row last_in_field rs rows.rows)
-
--- ---- edges
-
--- at an edge the weight changes
-record IsJump (low : ℤ) (es : List Edge) (e : Edge) : Type 0 where
-  reach : low ≤ℤ e.x
-  nonzero : e.weight ≢ pos 0
-  jump : weight_in es e.x ≡ weight_in es (e.x -ℤ pos 1) +ℤ e.weight
-
-jumps : (low : ℤ) (es : List Edge) → AreEdgesFrom low es → All (IsJump low es) es
-jumps low [] edges = All-nil (IsJump low [])
-jumps low (e ∷ es) edges =
-    let start : low ≤ℤ e.x = edges.1 in
-    All-cons (IsJump low (e ∷ es)) e es
-    (record {
-      reach = start;
-      nonzero = edges.0.nonzero;
-      jump =
-          let here = weight_in-before (e.x +ℤ pos 1) es e.x edges.2 (omega (arith, ints)) in
-          let before = weight_in-before (e.x +ℤ pos 1) es (e.x -ℤ pos 1) edges.2 (omega (arith, ints)) in
-          let with_e = weight_in-left e es e.x (omega (arith, ints)) in
-          let without = weight_in-right e es (e.x -ℤ pos 1) (omega (arith, ints)) in
-          omega (arith, ints);
-    })
-    (All-weaker (IsJump (e.x +ℤ pos 1) es) (IsJump low (e ∷ es))
-    (λ f is. record {
-      reach = omega (arith, ints);
-      nonzero = is.nonzero;
-      jump =
-          let here = weight_in-left e es f.x (omega (arith, ints)) in
-          let before = weight_in-left e es (f.x -ℤ pos 1) (omega (arith, ints)) in
-          omega (arith, ints);
-    }) es (jumps (e.x +ℤ pos 1) es edges.2))
-
--- so the pixel at the edge or the one to its left is not 0, and the edge goes to an end of that pixel's stretched part
-edges_stay : (s : Stretch) (low : ℤ) (es : List Edge) → AreEdgesFrom low es
+-- the pixel at an edge or the one to its left is not 0, and the edge goes to an end of that pixel's stretched part
+edges_stay : (s : Stretch) (es : List Edge) → AreEdgesFrom least_coordinate es
     → ((x : ℤ) → weight_in es x ≢ pos 0 → PlaceStaysInside s x) → All (λ e. IsCoordinate (target_of s e.x)) es
-edges_stay s low es edges inside =
-    All-weaker (IsJump low es) (λ e. IsCoordinate (target_of s e.x))
-    (λ e is. by_same (weight_in es e.x) (pos 0)
+edges_stay s es edges inside = λ k d lt.
+    let e = get_or es k d in
+    let edge = (edges_from-at least_coordinate es k d edges lt).0 in
+    let step = step_at_edge least_coordinate es k d edges lt in
+    by_same (weight_in es e.x) (pos 0)
     (λ zero.
-    let left = inside (e.x -ℤ pos 1) (λ none. is.nonzero (omega (arith, ints))) in
+    let left = inside (e.x -ℤ pos 1) (λ none. edge.nonzero (omega (arith, ints))) in
     let same : (e.x -ℤ pos 1) +ℤ pos 1 ≡ e.x = omega (arith, ints) in
-    subst (λ x. IsCoordinate (target_of s x)) same left.end)
-    (λ nonzero. (inside e.x nonzero).start))
-    es (jumps low es edges)
-
-pub columns_stay : (s : Stretch) (rs : List EdgeRow) → AreRows rs → ((x y : ℤ) → weight_in_rows rs x y ≢ pos 0 → PlaceStaysInside s x)
-    → RowsAllowChange (change.Columns s) rs
-columns_stay s rs rows inside =
-    All-weaker (IsOneOf last_in_field rs) (λ r. All (λ e. IsCoordinate (target_of s e.x)) r.edges)
-    (λ r own. edges_stay s least_coordinate r.edges own.row.edges.sorted (λ x nonzero. inside x r.y (λ zero. nonzero (sym (own.weights x) ∙ zero))))
-    rs (each_row last_in_field rs rows.rows)
+    rw same at left.end)
+    (λ nonzero. (inside e.x nonzero).start)
 
 -- ---- the picture
 
 pub columns_allowed : (columns : Stretch) (rs : List EdgeRow) → AreRows rs → All (λ d. PlaceStaysInside columns d.x) (picture_of_rows rs)
     → RowsAllowChange (change.Columns columns) rs
 columns_allowed columns rs lawful inside =
-    columns_stay columns rs lawful (λ x y nonzero. holds_at_weight (λ a b. PlaceStaysInside columns a) (picture_of_rows rs) x y inside
-    (λ zero. nonzero (sym (weight_at-picture_of_rows rs x y lawful) ∙ zero)))
+    each_row last_in_field rs lawful.rows (λ r row _ own. edges_stay columns r.edges row.edges.sorted
+    (λ x nonzero. holds_at_weight (λ a b. PlaceStaysInside columns a) (picture_of_rows rs) x r.y inside
+    (λ zero. nonzero (sym (own x) ∙ sym (weight_at-picture_of_rows rs x r.y lawful) ∙ zero))))
 
 -- a picture of which the columns were stretched, as rows
 module _ (columns rows : Stretch) (ds : List Dot) (wide : List EdgeRow) (lawful : AreRows wide) where
@@ -145,11 +88,11 @@ module _ (columns rows : Stretch) (ds : List Dot) (wide : List EdgeRow) (lawful 
   pub rows_allowed : All (λ d. PlaceStaysInside rows d.y) ds → HasWeights (column_stretch_at columns ds) (picture_of_rows wide) → AllowStretch rows wide
   unfolding column_stretch_at
   rows_allowed inside has =
-      rows_stay rows wide lawful
-      (λ x y nonzero. by_field x y
-      (λ within. holds_at_weight (λ a b. PlaceStaysInside rows b) ds (source_of columns x) y inside
-      (λ zero. nonzero (sym (weight_at-picture_of_rows wide x y lawful) ∙ has.weights x y within ∙ zero)))
-      (λ outside. absurd (nonzero (weight_in_rows-outside last_in_field wide x y lawful.rows outside))))
+      each_row last_in_field wide lawful.rows (λ r row _ own. first_weight least_coordinate r.edges row.some row.edges.sorted
+      (λ x nonzero. by_field x r.y
+      (λ within. holds_at_weight (λ a b. PlaceStaysInside rows b) ds (source_of columns x) r.y inside
+      (λ zero. nonzero (sym (own x) ∙ sym (weight_at-picture_of_rows wide x r.y lawful) ∙ has.weights x r.y within ∙ zero)))
+      (λ outside. absurd (nonzero (sym (own x) ∙ weight_in_rows-outside last_in_field wide x r.y lawful.rows outside)))))
 
   pub weights_stretched : (stretched : List EdgeRow) → IsPicture ds → AreRows stretched
       → HasWeights (column_stretch_at columns ds) (picture_of_rows wide)
@@ -169,14 +112,9 @@ module _ (columns rows : Stretch) (ds : List Dot) (wide : List EdgeRow) (lawful 
 
 -- ---- columns that stay in place
 
-once : (p f o : ℤ) → f ≡ pos 1 → (p *ℤ f) +ℤ o ≡ p +ℤ o
-once p f o one = rw one (omega (arith, ints))
-
 source_of-same : (s : Stretch) (q : ℤ) → IsStretch s → s.factor ≡ pos 1 → s.offset ≡ pos 0 → source_of s q ≡ q
 source_of-same s q stretch one none =
-    let start : target_of s q ≡ q +ℤ s.offset = once q s.factor s.offset one in
-    let behind : target_of s (q +ℤ pos 1) ≡ q +ℤ pos 1 +ℤ s.offset = once (q +ℤ pos 1) s.factor s.offset one in
-    source_of-is s q q stretch (omega (arith, ints)) (omega (arith, ints))
+    source_of-is s q q stretch (rw (one, none) (omega (arith, ints))) (rw (one, none) (omega (arith, ints)))
 
 -- a pixel that stays in the field bounds the offset, so that no number of 32 bits stands for another one
 pub columns_same : (s : Stretch) (ds : List Dot) → IsPicture ds → All (λ d. PlaceStaysInside s d.x) ds → IsStretch s
@@ -186,7 +124,7 @@ columns_same s [] picture inside stretch one none = record { weights = λ x y wi
 columns_same s (d ∷ ds) picture inside stretch one none =
     let factor : s.factor ≡ pos 1 = omega (arith, ints, stretch.least, stretch.greatest) in
     let start = (All-head (λ d. PlaceStaysInside s d.x) d ds inside).start in
-    let moved : target_of s d.x ≡ d.x +ℤ s.offset = once d.x s.factor s.offset factor in
+    let moved : target_of s d.x ≡ d.x +ℤ s.offset = rw factor (omega (arith, ints)) in
     let pixel = picture.dots.0.in_field in
     let offset : s.offset ≡ pos 0 = omega (arith, ints, start.least, start.greatest, pixel.left, pixel.right) in
     record { weights = λ x y within. ap (λ z. weight_at (d ∷ ds) z y) (sym (source_of-same s x stretch factor offset)) }

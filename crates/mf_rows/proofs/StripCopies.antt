@@ -1,19 +1,16 @@
 -- Strips of rows with the same edges, pushed from the top down.
-use Rattle.std.proofs.Common.{◌≡◌, ◌≢◌, ℕ, zero, suc, ℤ, pos, ◌+ℤ◌, ◌-ℤ◌, ◌≤ℤ◌, ◌<ℤ◌, List, [], ◌∷◌, ◌++◌, Option, refl, sym, subst, ◌∙◌, append_assoc, append-nil, to_z, of_z, w32, arith}
+use Rattle.std.proofs.Common.{◌≡◌, suc, ℤ, pos, ◌+ℤ◌, ◌-ℤ◌, ◌≤ℤ◌, List, [], ◌∷◌, ◌++◌, refl, sym, subst, ◌∙◌, append_assoc, append-nil, to_z, of_z, w32, arith}
 use Rattle.std.specs.Int.RustNames.{unsigned_abs}
 use Rattle.std.proofs.lemmas.Int.{ints}
 use Rattle.mf_geom.specs.Coordinates.{least_coordinate, greatest_coordinate}
 use Rattle.mf_edges.specs.declared.edge.Edge.{Edge}
-use Rattle.mf_edges.specs.Edges.{AreEdges}
 use Rattle.mf_rows.specs.EdgeRows.{EdgeRow}
-use Rattle.mf_edges.specs.Reaches.{HasReach}
+use Rattle.mf_edges.specs.Reaches.{StaysInReach}
 use Rattle.mf_rows.specs.declared.row_list.Head.{Head}
 use Rattle.mf_rows.specs.declared.row_list.Place.{Place}
 use Rattle.mf_rows.specs.RowLists.{rows_at, IsPlaceOf, AreHeads}
 use Rattle.mf_rows.specs.RowMoves.{strip}
-use Rattle.mf_rows.specs.Strips.{ReachDownTo, HasStrip}
 use Rattle.mf_rows.proofs.RowListLemmas.{heads_push, nothing_more, row_of_push}
-use Rattle.mf_rows.proofs.StripsLemmas.{no_strip, pushed_row}
 
 -- the old rows are followed by the first `down` rows of a strip
 pub record AreCopiesSoFar (old : List EdgeRow) (es : List Edge) (bottom top down : ℤ) (new : List EdgeRow) : Type 0 where
@@ -71,14 +68,14 @@ next_place bottom top down low high least greatest = record {
 
 -- the heads of a strip: the reach and the place that all have, and the heights between which they lie
 pub record StripHeads : Type 0 where
-  pub reach : Option ℕ
+  pub reach : ℤ
   pub place : Place
   pub bottom : ℤ
   pub top : ℤ
 
 -- the old heads are followed by the first `down` heads of a strip
 pub record AreHeadsSoFar (old : List Head) (s : StripHeads) (down : ℤ) (new : List Head) : Type 0 where
-  pub heads : (es row : List Edge) → AreHeads es old → IsPlaceOf es s.place row → HasReach s.reach row → AreHeads es new
+  pub heads : (es row : List Edge) → AreHeads es old → IsPlaceOf es s.place row → StaysInReach s.reach row → AreHeads es new
   pub rows : (es row : List Edge) → IsPlaceOf es s.place row → AreCopiesSoFar (rows_at es old) row s.bottom s.top down (rows_at es new)
 
 pub heads_none : (old : List Head) (s : StripHeads) → AreHeadsSoFar old s (pos 0) old
@@ -106,29 +103,3 @@ pub heads_all : (old : List Head) (s : StripHeads) (down : ℤ) (new : List Head
     → (es row : List Edge) → IsPlaceOf es s.place row → rows_at es new ≡ rows_at es old ++ strip s.bottom row (unsigned_abs (s.top -ℤ s.bottom))
 heads_all old s down new end so_far es row placed =
     copies_all (rows_at es old) row s.bottom s.top down (rows_at es new) end (so_far.rows es row placed)
-
--- ---- strips below other rows
-
--- a strip with edges goes below the rows that are there
-pushed_strip : (old rows : List EdgeRow) (es : List Edge) (n : ℕ) (bottom high top : ℤ)
-    → HasStrip old es high top rows → high ≡ bottom +ℤ pos n → least_coordinate ≤ℤ bottom → high ≤ℤ top
-    → top ≤ℤ greatest_coordinate → es ≢ [] → AreEdges es → HasStrip old es bottom top (rows ++ strip bottom es n)
-unfolding strip
-pushed_strip old rows es zero bottom high top have next low under in_reach some edges =
-    let same : high ≡ bottom = omega (arith, ints) in
-    rw (append-nil rows, ← same) have
-pushed_strip old rows es (suc n) bottom high top have next low under in_reach some edges =
-    let row : EdgeRow = record { y = bottom +ℤ pos n; edges = es } in
-    let pushed =
-    pushed_row old rows es (bottom +ℤ pos n) high top have (omega (arith, ints)) (omega (arith, ints))
-    (omega (arith, ints)) in_reach some edges (rows ++ row ∷ []) row refl refl in
-    rw (← append_assoc rows (row ∷ []) (strip bottom es n))
-    (pushed_strip old (rows ++ row ∷ []) es n bottom (bottom +ℤ pos n) top pushed refl low (omega (arith, ints)) in_reach some edges)
-
--- a strip with edges goes below rows that reach down to its top
-pub strip_below : (old : List EdgeRow) (es : List Edge) (bottom top : ℤ) → ReachDownTo top old → least_coordinate ≤ℤ bottom → bottom <ℤ top
-    → top ≤ℤ greatest_coordinate → es ≢ [] → AreEdges es → HasStrip old es bottom top (old ++ strip bottom es (unsigned_abs (top -ℤ bottom)))
-strip_below old es bottom top rows low below in_reach some edges =
-    let size : top ≡ bottom +ℤ pos (unsigned_abs (top -ℤ bottom)) = omega (arith, ints) in
-    let here = no_strip old es top top rows (omega (arith, ints)) (λ lt. absurd (omega (arith, ints, lt))) in
-    pushed_strip old old es _ bottom top top here size low (omega (arith, ints)) in_reach some edges

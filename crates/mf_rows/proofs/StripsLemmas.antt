@@ -1,14 +1,18 @@
 -- Rows that are put below others, a strip with the same edges at a time.
-use Rattle.std.proofs.Common.{◌≡◌, ◌≢◌, ℤ, pos, ◌+ℤ◌, ◌≤ℤ◌, ◌<ℤ◌, List, [], ◌∷◌, ◌++◌, ◌⊎◌, inl, inr, refl, sym, ◌∙◌, arith}
-use Rattle.std.proofs.lemmas.Int.{ints, by_lt_z}
-use Rattle.std.proofs.lemmas.List.Elements.{All-cons, All-nil, All-push, All-weaker}
+use Rattle.std.proofs.Common.{◌≡◌, ◌≢◌, ℕ, zero, suc, ℤ, pos, ◌+ℤ◌, ◌-ℤ◌, ◌≤ℤ◌, ◌<ℤ◌, List, [], ◌∷◌, ◌++◌, refl, ◌∙◌, arith}
+use Rattle.std.specs.List.{All}
+use Rattle.std.specs.Int.RustNames.{unsigned_abs}
+use Rattle.std.proofs.lemmas.Int.{ints}
+use Rattle.std.proofs.lemmas.List.Elements.{All-append, All-cons, All-nil, All-weaker}
 use Rattle.mf_geom.specs.Coordinates.{least_coordinate, greatest_coordinate, last_in_field}
 use Rattle.mf_edges.specs.declared.edge.Edge.{Edge}
 use Rattle.mf_rows.specs.Bands.{AreBelow}
 use Rattle.mf_edges.specs.Edges.{weight_in, AreEdges}
-use Rattle.mf_rows.specs.EdgeRows.{EdgeRow, IsEdgeRow, weight_in_rows}
+use Rattle.mf_rows.specs.EdgeRows.{EdgeRow, AreRowsFrom, weight_in_rows}
+use Rattle.mf_rows.specs.RowMoves.{strip}
 use Rattle.mf_rows.specs.Strips.{ReachDownTo, HasStrip}
-use Rattle.mf_rows.proofs.EdgeRowsLemmas.{weight_in_rows-append, weight_in_rows-here, weight_in_rows-elsewhere, weight_in_rows-above, rows_from-append}
+use Rattle.mf_rows.proofs.EdgeRowsLemmas.{weight_in_rows-append, weight_in_rows-here, weight_in_rows-elsewhere, weight_in_rows-none, weight_in_rows-above, rows_from-append}
+use Rattle.mf_rows.proofs.RowSums.{by_same}
 
 -- rows have no weight below the height down to which they reach
 pub below_reach : (bottom : ℤ) (rs : List EdgeRow) (x y : ℤ) → ReachDownTo bottom rs → y <ℤ bottom → weight_in_rows rs x y ≡ pos 0
@@ -31,49 +35,69 @@ no_strip rs es bottom top down le none = record {
   above = λ x y ge. refl;
 }
 
--- a strip grows by a row at its bottom
-module _ (old rs : List EdgeRow) (es : List Edge) (bottom high top : ℤ) (have : HasStrip old es high top rs)
-    (next : high ≡ bottom +ℤ pos 1) (low : least_coordinate ≤ℤ bottom) (under : bottom <ℤ top)
-    (in_reach : top ≤ℤ greatest_coordinate) (some : es ≢ []) (edges : AreEdges es) where
-  abbrev pub bottom_row : EdgeRow
-  bottom_row = record { y = bottom; edges = es }
+-- ---- the weights of a strip
 
-  reaches_bottom : ReachDownTo bottom (rs ++ bottom_row ∷ [])
-  reaches_bottom =
-      let under_field : bottom ≤ℤ last_in_field = omega (arith, ints) in
-      let is_row : IsEdgeRow bottom_row = record { bottom = low; top = under_field; some = some; edges = edges } in
-      let is_below =
-      λ (r : EdgeRow) (above : high ≤ℤ r.y). All-cons (λ s. s.y <ℤ r.y) bottom_row [] (omega (arith, ints, above, next)) (All-nil (λ s. s.y <ℤ r.y)) in
-      record {
-        rows = rows_from-append last_in_field rs (bottom_row ∷ []) have.rows.rows (is_row, under_field, tt)
-            (All-weaker (λ r. high ≤ℤ r.y) (λ r. AreBelow r.y (bottom_row ∷ [])) is_below rs have.rows.reach);
-        reach = All-push (λ r. bottom ≤ℤ r.y) rs bottom_row (reach_lower bottom high rs (omega (arith, ints, next)) have.rows).reach (omega (arith, ints));
-      }
+-- the rows of a strip are in its range of heights
+strip_heights : (bottom : ℤ) (es : List Edge) (n : ℕ) → All (λ t. (bottom ≤ℤ t.y) × (t.y <ℤ (bottom +ℤ pos n))) (strip bottom es n)
+unfolding strip
+strip_heights bottom es zero = All-nil (λ t. (bottom ≤ℤ t.y) × (t.y <ℤ (bottom +ℤ pos zero)))
+strip_heights bottom es (suc n) =
+    All-cons (λ t. (bottom ≤ℤ t.y) × (t.y <ℤ (bottom +ℤ pos (suc n)))) (record { y = bottom +ℤ pos n; edges = es })
+    (strip bottom es n) (omega (arith, ints), omega (arith, ints))
+    (All-weaker (λ t. (bottom ≤ℤ t.y) × (t.y <ℤ (bottom +ℤ pos n)))
+    (λ t. (bottom ≤ℤ t.y) × (t.y <ℤ (bottom +ℤ pos (suc n)))) (λ t within. (within.0, omega (arith, ints))) (strip bottom es n) (strip_heights bottom es n))
 
-  -- the new row has the strip's weights, and adds none elsewhere
-  weight_at_bottom : (x : ℤ) → weight_in_rows (rs ++ bottom_row ∷ []) x bottom ≡ weight_in es x
-  unfolding weight_in_rows
-  weight_at_bottom x =
-      let above = below_reach high rs x bottom have.rows (omega (arith, ints, next)) in
-      omega (arith, ints, weight_in_rows-append rs (bottom_row ∷ []) x bottom, weight_in_rows-here bottom_row [] x bottom refl, above)
+strip_weight-outside : (bottom : ℤ) (es : List Edge) (n : ℕ) (x v : ℤ) → (bottom ≤ℤ v → v <ℤ (bottom +ℤ pos n) → ⊥)
+    → weight_in_rows (strip bottom es n) x v ≡ pos 0
+strip_weight-outside bottom es n x v outside =
+    weight_in_rows-none (strip bottom es n) x v (All-weaker (λ t. (bottom ≤ℤ t.y) × (t.y <ℤ (bottom +ℤ pos n))) (λ t. t.y ≢ v)
+    (λ t within same. outside (omega (arith, ints)) (omega (arith, ints))) (strip bottom es n) (strip_heights bottom es n))
 
-  weight_elsewhere : (x y : ℤ) → y ≢ bottom → weight_in_rows (rs ++ bottom_row ∷ []) x y ≡ weight_in_rows rs x y
-  unfolding weight_in_rows
-  weight_elsewhere x y other =
-      let apart = weight_in_rows-elsewhere bottom_row [] x y (λ same. other (sym same)) in
-      omega (arith, ints, weight_in_rows-append rs (bottom_row ∷ []) x y, apart)
+strip_weight-inside : (bottom : ℤ) (es : List Edge) (n : ℕ) (x v : ℤ) → bottom ≤ℤ v → v <ℤ (bottom +ℤ pos n)
+    → weight_in_rows (strip bottom es n) x v ≡ weight_in es x
+unfolding strip
+strip_weight-inside bottom es zero x v above below = absurd (omega (arith, ints))
+strip_weight-inside bottom es (suc n) x v above below =
+    let row : EdgeRow = record { y = bottom +ℤ pos n; edges = es } in
+    by_same (bottom +ℤ pos n) v
+    (λ here. let others = strip_weight-outside bottom es n x v
+    (λ least lower. omega (arith, ints)) in omega (arith, ints, others, weight_in_rows-here row (strip bottom es n) x v here))
+    (λ apart. weight_in_rows-elsewhere row (strip bottom es n) x v apart ∙ strip_weight-inside bottom es n x v above (omega (arith, ints)))
 
-  weight_in_strip : (x y : ℤ) → bottom ≤ℤ y → y <ℤ top → (bottom <ℤ y) ⊎ (y ≡ bottom) → weight_in_rows (rs ++ bottom_row ∷ []) x y ≡ weight_in es x
-  weight_in_strip x y ge lt (inl higher) =
-      weight_elsewhere x y (λ same. absurd (omega (arith, ints, same, higher))) ∙ have.strip x y (omega (arith, ints, next, higher)) lt
-  weight_in_strip x y ge lt (inr here) = rw here (weight_at_bottom x)
+strip_rows : (top bottom : ℤ) (es : List Edge) (n : ℕ) → least_coordinate ≤ℤ bottom
+    → (bottom +ℤ pos n) ≤ℤ greatest_coordinate → (bottom +ℤ pos n) ≤ℤ (top +ℤ pos 1) → es ≢ [] → AreEdges es → AreRowsFrom top (strip bottom es n)
+unfolding strip
+strip_rows top bottom es zero low high reach some edges = tt
+strip_rows top bottom es (suc n) low high reach some edges = (
+  record { bottom = omega (arith, ints); top = omega (arith, ints); some = some; edges = edges },
+  omega (arith, ints),
+  strip_rows ((bottom +ℤ pos n) -ℤ pos 1) bottom es n low (omega (arith, ints)) (omega (arith, ints)) some edges,
+)
 
-  next_row : HasStrip old es bottom top (rs ++ bottom_row ∷ [])
-  next_row = record {
-    rows = reaches_bottom;
-    strip = λ x y ge lt. weight_in_strip x y ge lt (by_lt_z bottom y inl (λ le. inr (omega (arith, ints, le, ge))));
-    above = λ x y ge. weight_elsewhere x y (λ same. absurd (omega (arith, ints, same, ge, under))) ∙ have.above x y ge;
-  }
+-- ---- strips below other rows
 
-  pub pushed_row : (new : List EdgeRow) (r : EdgeRow) → new ≡ rs ++ r ∷ [] → r ≡ bottom_row → HasStrip old es bottom top new
-  pushed_row new r pushed same = rw (pushed, same) next_row
+-- a strip with edges goes below rows that reach down to its top
+pub strip_below : (old : List EdgeRow) (es : List Edge) (bottom top : ℤ) → ReachDownTo top old → least_coordinate ≤ℤ bottom → bottom <ℤ top
+    → top ≤ℤ greatest_coordinate → es ≢ [] → AreEdges es → HasStrip old es bottom top (old ++ strip bottom es (unsigned_abs (top -ℤ bottom)))
+strip_below old es bottom top down low below in_reach some edges =
+    let n = unsigned_abs (top -ℤ bottom) in
+    let new = strip bottom es n in
+    let size : bottom +ℤ pos n ≡ top = omega (arith, ints) in
+    let heights = rw size at (strip_heights bottom es n) in
+    let within = λ (t : EdgeRow). (bottom ≤ℤ t.y) × (t.y <ℤ top) in
+    let lower = All-weaker (λ r. top ≤ℤ r.y) (λ r. AreBelow r.y new)
+    (λ r above. All-weaker within (λ t. t.y <ℤ r.y) (λ t inside. omega (arith, ints, above, inside.1)) new heights) old down.reach in
+    record {
+      rows = record {
+        rows = rows_from-append last_in_field old new down.rows
+            (strip_rows last_in_field bottom es n low (omega (arith, ints)) (omega (arith, ints)) some edges) lower;
+        reach = All-append (λ r. bottom ≤ℤ r.y) old new (reach_lower bottom top old (omega (arith, ints)) down).reach
+            (All-weaker within (λ t. bottom ≤ℤ t.y) (λ t inside. inside.0) new heights);
+      };
+      strip = λ x y ge lt.
+          let inside = strip_weight-inside bottom es n x y ge (rw size lt) in
+          omega (arith, ints, weight_in_rows-append old new x y, below_reach top old x y down lt, inside);
+      above = λ x y ge.
+          let outside = strip_weight-outside bottom es n x y (λ least under. omega (arith, ints, ge, under)) in
+          omega (arith, ints, weight_in_rows-append old new x y, outside);
+    }

@@ -2,7 +2,6 @@
 use Rattle.std.specs.Prelude.{◌≡◌, ℤ, pos, ◌+ℤ◌, ◌≤ℤ◌, ◌<ℤ◌, All, List, [], ◌∷◌, ◌++◌, Option, Some, None, map}
 use Rattle.std.specs.Arc.{arc_value}
 use Rattle.std.specs.Borrow.{Bor}
-use Rattle.std.specs.Int.{int_min}
 use Rattle.std.specs.declared.alloc.Global.{Global}
 use Rattle.std.specs.declared.sync.Arc.{Arc}
 use Rattle.std.proofs.Props.{props}
@@ -51,12 +50,6 @@ pub record IsSplitAtBand (n : ℤ) (bs first rest : List (Arc Band Global)) : Ty
   pub all : bs ≡ first ++ rest
   pub up_to : All (λ b. number_of b ≤ℤ n) first
   pub behind : All (λ b. n <ℤ number_of b) rest
-
--- n is the lesser one of the numbers of the first bands of two lists
-abbrev pub IsLesserFirst : List (Arc Band Global) → List (Arc Band Global) → ℤ → Type 0
-IsLesserFirst [] cs n = ⊥
-IsLesserFirst (b ∷ bs) [] n = ⊥
-IsLesserFirst (b ∷ bs) (c ∷ cs) n = n ≡ int_min (number_of b) (number_of c)
 
 -- the number of the band that is made of rows of band n: none where there are no rows
 abbrev pub number_of_rows : ℤ → List EdgeRow → List ℤ

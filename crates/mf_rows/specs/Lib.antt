@@ -1,3 +1,4 @@
+pub mod Addends
 pub mod BandNumbers
 pub mod BandSums
 pub mod Bands
@@ -13,6 +14,7 @@ pub mod Dots
 pub mod EdgeRows
 pub mod FieldBands
 pub mod Groups
+pub mod KeptEdges
 pub mod Merging
 pub mod Moves
 pub mod NewEdges

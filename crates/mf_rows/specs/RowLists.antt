@@ -1,5 +1,5 @@
 -- Lists of rows: the edges of short rows stand one after another in one list, and a long row has a list of its own.
-use Rattle.std.specs.Prelude.{◌≡◌, ◌≤◌, ◌-◌, ℕ, All, List, [], ◌∷◌, Option, take, drop, map, length}
+use Rattle.std.specs.Prelude.{◌≡◌, ◌≤◌, ◌-◌, ℕ, All, List, [], ◌∷◌, take, drop, map, length}
 use Rattle.std.specs.Arc.{arc_value}
 use Rattle.std.specs.Coded.{Unit-prop}
 use Rattle.std.proofs.Props.{props}
@@ -7,8 +7,7 @@ use Rattle.mf_rows.specs.declared.row_list.Head.{Head}
 use Rattle.mf_rows.specs.declared.row_list.Place.{Place}
 use Rattle.mf_rows.specs.declared.row_list.Place.TheVariants as place
 use Rattle.mf_edges.specs.declared.edge.Edge.{Edge}
-use Rattle.mf_edges.specs.Reaches.{HasReach, HasReach-prop}
-use Rattle.mf_edges.specs.Sums.{HasEdgeSum}
+use Rattle.mf_edges.specs.Reaches.{StaysInReach, StaysInReach-prop}
 use Rattle.mf_rows.specs.EdgeRows.{EdgeRow}
 
 -- the edges from place i up to the one before place j
@@ -49,19 +48,14 @@ pub record IsPlaceOf (es : List Edge) (p : Place) (row : List Edge) : Type 0 whe
   pub there : IsThere es p
   pub edges : edges_at es p ≡ row
 
--- a head has its edges at its place, and what it says of their reach is true
+-- a head has its edges at its place, and their weights stay in its reach
 pub record IsHead (es : List Edge) (h : Head) : Type 0 where
   pub there : IsThere es h.place
-  pub reached : HasReach h.reach (edges_at es h.place)
+  pub reached : StaysInReach h.reach (edges_at es h.place)
 
 -- all of these are heads
 abbrev pub AreHeads : List Edge → List Head → Type 0
 AreHeads es hs = All (IsHead es) hs
-
--- the edges of the sum of two rows were appended, and what is said of their reach is true
-pub record HasReachedSum (before es fs after : List Edge) (reach : Option ℕ) : Type 0 where
-  pub sum : HasEdgeSum before es fs after
-  pub reached : HasReach reach sum.more
 
 -- ---- these facts have at most one proof
 
@@ -70,7 +64,7 @@ IsThere-prop es (place.Among i j) = hlevel props
 IsThere-prop es (place.Own own) = Unit-prop
 
 IsHead-prop : (es : List Edge) (h : Head) → IsProp (IsHead es h)
-IsHead-prop es h = hlevel (props, IsThere-prop, HasReach-prop)
+IsHead-prop es h = hlevel (props, IsThere-prop, StaysInReach-prop)
 
 pub AreHeads-prop : (es : List Edge) (hs : List Head) → IsProp (AreHeads es hs)
 AreHeads-prop es hs = hlevel (props, IsHead-prop)

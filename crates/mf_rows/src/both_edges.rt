@@ -23,6 +23,7 @@ impl<'a> BothEdges<'a> {
     ghost use Rattle.mf_rows.specs.BothRest.{both_edges};
 
     /// No edges.
+    #[tactic(auto, unfolding(crate::specs::BothEdges::edges_of_both))]
     pub(crate) fn none() -> BothEdges<'a>
         ensures { both_edges result ≡ [] }
     {
@@ -34,6 +35,7 @@ impl<'a> BothEdges<'a> {
     }
 
     /// The edges of a row.
+    #[tactic(auto, unfolding(crate::specs::BothEdges::edges_of_both))]
     #[inline(always)]
     pub(crate) fn of(edges: &'a [Edge]) -> BothEdges<'a>
         ensures { both_edges result ≡ edges.now }
@@ -46,6 +48,7 @@ impl<'a> BothEdges<'a> {
     }
 
     /// The edges of two rows.
+    #[tactic(auto, using(crate::proofs::TakenEdges::left_of_rows))]
     pub(crate) fn of_both(left: &'a [Edge], right: &'a [Edge]) -> BothEdges<'a>
         requires left { AreEdges left.now }
         requires right { AreEdges right.now }

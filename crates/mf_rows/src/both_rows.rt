@@ -116,6 +116,7 @@ impl<'a> RowsAhead<'a> {
     }
 
     /// Takes the first row.
+    #[tactic(auto, using(crate::proofs::BothRowsLemmas::rows_left, crate::proofs::BothRowsLemmas::none_left, crate::proofs::BothRowsLemmas::rows_taken))]
     #[inline(always)]
     fn take_first(&mut self) -> Option<Row<'a>>
         ensures first { IfSome result (λ row. rows_ahead self.old ≡ edge_row row ∷ rows_ahead self.new) }
@@ -146,6 +147,7 @@ impl<'a> BothRows<'a> {
     }
 
     /// The next row, where it is one of the first list alone.
+    #[tactic(auto, using(crate::proofs::BothRowsLemmas::first_of_rows, crate::proofs::BothRowsLemmas::none_of_rows))]
     #[inline(always)]
     fn next_of_rows(&mut self) -> Option<BothRow<'a>>
         requires { BeginsAbove (rows_ahead self.old.rows) (rows_ahead self.old.recent) }
@@ -156,6 +158,7 @@ impl<'a> BothRows<'a> {
     }
 
     /// The next row, where it is one of the recent ones alone.
+    #[tactic(auto, using(crate::proofs::BothRowsLemmas::first_of_recent, crate::proofs::BothRowsLemmas::none_of_recent))]
     #[inline(always)]
     fn next_of_recent(&mut self) -> Option<BothRow<'a>>
         requires { BeginsAbove (rows_ahead self.old.recent) (rows_ahead self.old.rows) }

@@ -69,6 +69,7 @@ fn with_columns(above: Option<Box4>, y: i32, columns: Columns) -> Box4
 
 /// The least box of these pixels of the rows of these groups and the recent ones together, `None` where there are none. It looks at
 /// the ends of each row.
+#[tactic(auto, using(crate::proofs::PixelBoxes::no_bounds, crate::proofs::PixelBoxes::all_bounds))]
 pub(crate) fn bounds_of(
     groups: &[Option<Arc<Group>>],
     recent: &[Option<Arc<Group>>],

@@ -14,7 +14,7 @@ use crate::row::Row;
 use crate::run::Run;
 use crate::writer::RowWriter;
 use mf_base::OutOfMemory;
-use mf_edges::{Edge, add_edge};
+use mf_edges::{Edge, add_edge, reach_of};
 use std::alloc::Global;
 use std::marker::Model;
 
@@ -62,6 +62,7 @@ impl RowBuilder {
 
     /// Whether the run may be pushed: it has at least one pixel, lies in the field, has a weight in -32767..=32767 that
     /// is not 0, and comes entirely after the last pushed run.
+    #[tactic(auto, using(crate::proofs::EdgeRowsLemmas::lawful_picture_of_rows))]
     pub fn fits(&self, run: &Run) -> bool
         ensures answer { IsTrue result ↔ Fits self.now run.now }
         ensures lawful { IsPicture self.now }
@@ -139,19 +140,21 @@ fn closed_rows(alloc: Global, rows: Vec<OpenRow>) -> Result<RowWriter, OutOfMemo
 {
     let mut closed = RowWriter::new(alloc);
     for row in &rows {
-        let edges = Row {
+        let edges: &[Edge] = &row.edges;
+        let row = Row {
             y: row.y,
-            reach: None,
-            edges: &row.edges,
+            reach: reach_of(edges),
+            edges,
             own: None,
         };
-        closed.push(row.y, &edges)?;
+        closed.push(row.y, &row)?;
     }
     Ok(closed)
 }
 
 impl OpenRow {
     /// The row of a single run.
+    #[tactic(auto, using(crate::proofs::RunEdges::no_edges))]
     fn with_run(alloc: Global, run: Run) -> Result<OpenRow, OutOfMemory>
         requires { IsRun run }
         ensures { IfOk result (λ row. HasRun (record { y = run.y; edges = [] }) run (open_row row)) }
@@ -166,6 +169,7 @@ impl OpenRow {
 
     /// Adds a run to this row, after the runs that it has. Refused with `OutOfMemory`, only where there is no room for
     /// two more edges; the row is then as it was.
+    #[tactic(auto, using(std::proofs::lemmas::Int::ints))]
     fn push_run(&mut self, run: Run) -> Result<(), OutOfMemory>
         requires run { IsRun run }
         requires row { self.old.y ≡ run.y }

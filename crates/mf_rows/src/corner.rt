@@ -85,15 +85,14 @@ fn push_strip(
     if edges.is_empty() || bottom == top {
         return Ok(());
     }
-    // The reach is worked out once for all rows of the strip.
-    let reach = Some(reach_of(edges) as u16);
     if edges.len() > MANY_EDGES {
         let kept = NewEdges::copy_of(alloc, edges)?;
-        return rows.push_copies(kept.row_in_reach(top - 1, reach), bottom, top);
+        return rows.push_copies(kept.row(top - 1), bottom, top);
     }
+    // The reach is worked out once for all rows of the strip.
     let strip = Row {
         y: top - 1,
-        reach,
+        reach: reach_of(edges),
         edges,
         own: None,
     };

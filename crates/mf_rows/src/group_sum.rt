@@ -1,5 +1,6 @@
 //! The sum of groups, their difference, and the sum of groups and rows.
-ghost use Rattle.std.specs.Prelude.{◌≡◌, ◌≢◌, IfOk, IfErr};
+ghost use Rattle.std.specs.Prelude.{◌≡◌, ◌≢◌, IfOk, IfErr, pos};
+ghost use Rattle.mf_rows.specs.Addends.{IsAddedFrom, addend_rows};
 ghost use Rattle.mf_rows.specs.BandNumbers.{HaveRisingNumbers};
 ghost use Rattle.mf_rows.specs.Bands.{rows_of_bands, slice_rows};
 ghost use Rattle.mf_rows.specs.EdgeRows.{AreRows};
@@ -7,14 +8,13 @@ ghost use Rattle.mf_rows.specs.Groups.{AreGroups, group_found, rows_at_place, ro
 ghost use Rattle.mf_rows.specs.Signs.{signed};
 ghost use Rattle.mf_rows.specs.Sums.{weight_in_all, HaveRowWeights, IsUnlawfulSomewhere};
 
+use crate::addend::Addend;
 use crate::band::Band;
-use crate::band_row_sum::sum_of_bands_and_rows;
-use crate::band_sum::{push_negated, sum_of_bands};
+use crate::band_sum::sum_of_bands;
 use crate::group::{GROUP_COUNT, Group};
 use crate::groups::{group_at, group_of, share_group, split_rows_at_place};
 use crate::sign::Sign;
 use crate::slice::RowSlice;
-use mf_base::OutOfMemory;
 use mf_edges::AddFault;
 use std::alloc::Global;
 use std::sync::Arc;
@@ -58,32 +58,9 @@ pub(crate) fn sum_of_two(
     ensures too_large { IfErr result (λ fault. fault ≢ AddFault.OutOfMemory
         → IsUnlawfulSomewhere (weight_in_all (group_found left.entry) (signed sign (group_found right.entry)))) }
 {
-    match (left, right) {
-        (Some(left), Some(right)) => {
-            let bands = sum_of_bands(alloc, &left.bands, &right.bands, sign)?;
-            Ok(group_of(alloc, bands)?)
-        }
-        (Some(group), None) => Ok(share_group(Some(group))?),
-        (None, group) => Ok(signed_group(alloc, group, sign)?),
-    }
-}
-
-/// The same group, which is shared, or the negated one.
-fn signed_group(
-    alloc: Global,
-    group: Option<&Arc<Group>>,
-    sign: Sign,
-) -> Result<Option<Arc<Group>>, OutOfMemory>
-    requires { AreRows (group_found group) }
-    ensures { IfOk result (λ signed_group. rows_at_place signed_group ≡ signed sign (group_found group.entry)) }
-{
-    match sign {
-        Sign::Plus => share_group(group),
-        Sign::Minus => {
-            let mut bands = Vec::new(alloc);
-            push_negated(alloc, &mut bands, bands_found(group))?;
-            group_of(alloc, bands)
-        }
+    match (left, sign) {
+        (None, Sign::Plus) => Ok(share_group(right)?),
+        _ => sum_with(alloc, left, Addend::Bands(bands_found(right), sign)),
     }
 }
 
@@ -109,29 +86,30 @@ pub(crate) fn sum_with_rows(
             break;
         }
         let (own, others) = split_rows_at_place(rest, place);
-        sum.push(sum_with_own(alloc, group_at(groups, place), own)?)?;
+        sum.push(sum_with(alloc, group_at(groups, place), Addend::Rows(own))?)?;
         rest = others;
     }
     Ok(sum)
 }
 
-/// The sum of the group at a place, where there is one, and of the rows there.
-fn sum_with_own(
+/// The sum of the group at a place, where there is one, and of what is added to it, which is mostly nothing.
+#[inline(always)]
+fn sum_with(
     alloc: Global,
     group: Option<&Arc<Group>>,
-    rows: RowSlice<'_>,
+    added: Addend<'_>,
 ) -> Result<Option<Arc<Group>>, AddFault>
     requires group { AreRows (group_found group) }
-    requires rows { AreRows (slice_rows rows) }
+    requires added { IsAddedFrom (pos 0) added }
     ensures rows { IfOk result (λ sum. AreRows (rows_at_place sum)) }
-    ensures weights { IfOk result (λ sum. HaveRowWeights (weight_in_all (group_found group.entry) (slice_rows rows.entry)) (rows_at_place sum)) }
+    ensures weights { IfOk result (λ sum. HaveRowWeights (weight_in_all (group_found group.entry) (addend_rows added.entry)) (rows_at_place sum)) }
     ensures too_large { IfErr result (λ fault. fault ≢ AddFault.OutOfMemory
-        → IsUnlawfulSomewhere (weight_in_all (group_found group.entry) (slice_rows rows.entry))) }
+        → IsUnlawfulSomewhere (weight_in_all (group_found group.entry) (addend_rows added.entry))) }
 {
-    if rows.is_empty() {
+    if added.is_empty() {
         return Ok(share_group(group)?);
     }
-    let sum = sum_of_bands_and_rows(alloc, bands_found(group), rows)?;
+    let sum = sum_of_bands(alloc, bands_found(group), added)?;
     Ok(group_of(alloc, sum)?)
 }
 

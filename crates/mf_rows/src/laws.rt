@@ -15,6 +15,7 @@ ghost use Rattle.mf_rows.specs.Runs.{dots_of, runs_of, AreMaximal, IsMaximalRun}
 ghost use Rattle.mf_rows.specs.Weights.{picture_of, HaveSameWeights};
 
 /// The dots of the runs of a picture are its dots, and no run could be longer.
+#[tactic(auto, using(crate::proofs::RunsLemmas::maximal_runs))]
 pub fn runs_are_maximal()
     ensures covered { (ds : List Dot) → flat_map dots_of (runs_of ds) ≡ ds }
     ensures maximal { (ds : List Dot) → AreMaximal (runs_of ds) }
@@ -22,6 +23,7 @@ pub fn runs_are_maximal()
 
 /// Each run of a picture has at least one pixel, all its pixels have its weight, and neither neighbour in its row has
 /// that weight.
+#[tactic(auto, using(crate::proofs::MaximalRuns::longest_runs))]
 pub fn runs_are_as_long_as_can_be()
     ensures { (ds : List Dot) → IsPicture ds → All (IsMaximalRun ds) (runs_of ds) }
 {}
@@ -49,6 +51,7 @@ pub fn one_source_under_a_stretch()
 {}
 
 /// Two pictures with the same weight at each pixel of the field are equal.
+#[tactic(auto, using(crate::proofs::WeightsLemmas::same_pictures))]
 pub fn same_weights_make_same_pictures()
     ensures { (ds es : List Dot) → IsPicture ds → IsPicture es → HaveSameWeights ds es → ds ≡ es }
 {}
@@ -64,6 +67,7 @@ pub fn weight_is_the_sum_of_edges()
 
 /// The total weight of a picture is the sum of its weights over all pixels of the field, since a pixel of weight 0 adds
 /// nothing.
+#[tactic(auto, using(crate::proofs::FieldTotals::field_totals))]
 pub fn total_is_the_sum_over_the_field()
     ensures weights { (f : ℤ → ℤ → ℤ) → total_of (picture_of f) ≡ sum_over_field f }
     ensures picture { (ds : List Dot) → IsPicture ds → total_of ds ≡ sum_over_field (weight_at ds) }

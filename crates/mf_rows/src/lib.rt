@@ -1,8 +1,8 @@
 //! METAFONT pictures: an integer weight for each pixel, 0 for all but finitely many.
 #![tactic(auto)]
 
+mod addend;
 mod band;
-mod band_row_sum;
 mod band_sum;
 mod bands;
 mod both_edges;

@@ -27,7 +27,7 @@ pub(crate) fn negate_rows(alloc: Global, rows: RowSlice<'_>) -> Result<RowList, 
             last = row.edges;
             image = NewEdges::new(alloc, negate_edges(alloc, last)?)?;
         }
-        negated.push(row.y, &image.row_in_reach(row.y, row.reach))?;
+        negated.push(row.y, &image.row(row.y))?;
         rest = others;
     }
     Ok(negated)

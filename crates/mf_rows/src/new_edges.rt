@@ -1,19 +1,26 @@
 //! Edges of a row that is being made.
-ghost use Rattle.std.specs.Prelude.{◌≡◌, [], IfOk};
-ghost use Rattle.mf_edges.specs.Reaches.{HasReach};
-ghost use Rattle.mf_rows.specs.Bands.{edge_row};
-ghost use Rattle.mf_rows.specs.NewEdges.{new_edges};
+ghost use Rattle.mf_edges.specs.Reaches.{StaysInReach, StaysInReach-prop};
+ghost use Rattle.mf_rows.specs.KeptEdges.{kept_edges};
 
 use crate::row::Row;
 use crate::row_list::MANY_EDGES;
 use mf_base::OutOfMemory;
-use mf_edges::Edge;
+use mf_edges::{Edge, reach_of};
 use std::alloc::Global;
 use std::sync::Arc;
 
-/// The edges of a row that is being made, which may be written at several heights.
+/// Edges of a row that is being made, which may be written at several heights.
 #[derive(Debug, Drop)]
-pub(crate) enum NewEdges {
+pub(crate) struct NewEdges {
+    /// No weight between the edges exceeds it in absolute value.
+    reach: i32,
+    kept: Kept,
+    ghost reached: { StaysInReach reach (kept_edges kept) } by { StaysInReach-prop reach (kept_edges kept) },
+}
+
+/// How the edges are kept.
+#[derive(Debug, Drop)]
+pub(crate) enum Kept {
     /// Few edges, which are copied into the list of a band.
     Few(Vec<Edge>),
     /// More edges, which the rows share.
@@ -21,52 +28,58 @@ pub(crate) enum NewEdges {
 }
 
 impl NewEdges {
+    ghost use Rattle.std.specs.Prelude.{◌≡◌, [], IfOk};
+    ghost use Rattle.mf_edges.specs.Edges.{AreEdges};
+    ghost use Rattle.mf_rows.specs.Bands.{edge_row};
+    ghost use Rattle.mf_rows.specs.NewEdges.{new_edges};
+
     /// These edges.
     pub(crate) fn new(alloc: Global, edges: Vec<Edge>) -> Result<NewEdges, OutOfMemory>
-        ensures { IfOk result (λ kept. new_edges kept ≡ edges.items) }
+        requires { AreEdges edges.items }
+        ensures { IfOk result (λ new. new_edges new ≡ edges.items) }
     {
-        if edges.len() <= MANY_EDGES {
-            return Ok(NewEdges::Few(edges));
-        }
-        Ok(NewEdges::Many(Arc::new(alloc, edges)?))
+        let reach = reach_of(&edges);
+        let kept = if edges.len() <= MANY_EDGES {
+            Kept::Few(edges)
+        } else {
+            Kept::Many(Arc::new(alloc, edges)?)
+        };
+        Ok(NewEdges { reach, kept })
     }
 
     /// No edges. Allocates nothing.
     pub(crate) fn none(alloc: Global) -> NewEdges
         ensures { new_edges result ≡ [] }
     {
-        NewEdges::Few(Vec::new(alloc))
+        NewEdges {
+            reach: 0,
+            kept: Kept::Few(Vec::new(alloc)),
+        }
     }
 
     /// A copy of these edges.
     pub(crate) fn copy_of(alloc: Global, edges: &[Edge]) -> Result<NewEdges, OutOfMemory>
-        ensures { IfOk result (λ kept. new_edges kept ≡ edges.now) }
+        requires { AreEdges edges.now }
+        ensures { IfOk result (λ new. new_edges new ≡ edges.now) }
     {
-        let mut kept = Vec::new(alloc);
-        kept.extend_from_slice(edges)?;
-        NewEdges::new(alloc, kept)
+        let mut copy = Vec::new(alloc);
+        copy.extend_from_slice(edges)?;
+        NewEdges::new(alloc, copy)
     }
 
-    /// Row y with these edges, whose reach is not known.
+    /// Row y with these edges.
     pub(crate) fn row(&self, y: i32) -> Row<'_>
         ensures { edge_row result ≡ record { y = y; edges = new_edges self.now } }
     {
-        self.row_in_reach(y, None)
-    }
-
-    /// Row y with these edges, and with what is known of their reach.
-    pub(crate) fn row_in_reach(&self, y: i32, reach: Option<u16>) -> Row<'_>
-        requires { HasReach reach (new_edges self.now) }
-        ensures { edge_row result ≡ record { y = y; edges = new_edges self.now } }
-    {
-        match self {
-            NewEdges::Few(edges) => Row {
+        let reach = self.reach;
+        match &self.kept {
+            Kept::Few(edges) => Row {
                 y,
                 reach,
                 edges,
                 own: None,
             },
-            NewEdges::Many(edges) => Row {
+            Kept::Many(edges) => Row {
                 y,
                 reach,
                 edges: edges.as_slice(),

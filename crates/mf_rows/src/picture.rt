@@ -45,6 +45,7 @@ impl Model for Picture {
     ghost invariant = { λ p. AreRows p.pile };
 }
 
+#[tactic(auto, using(crate::proofs::EdgeRowsLemmas::lawful_picture_of_rows))]
 impl Picture {
     ghost use Rattle.mf_rows.specs.Bounds.{AreBounds, IsLeastBox, is_positive_at};
     ghost use Rattle.mf_rows.specs.Corners.{AreCorners, with_corners_at};
@@ -99,23 +100,16 @@ impl Picture {
         self.pile.weight(x, y)
     }
 
-    /// The sum of all weights. METAFONT's `totalweight` is this number, scaled (mf.web: `total_weight`). It walks the
-    /// runs, so its cost grows with the number of edges.
+    /// The sum of all weights. METAFONT's `totalweight` is this number, scaled (mf.web: `total_weight`). It passes all edges once.
     pub fn total(&self) -> i64
         ensures value { result ≡ total_of self.now }
         ensures lawful { IsPicture self.now }
     {
-        if self.is_blank() {
-            return 0;
-        }
-        let mut sum = 0i64;
-        for run in self.runs() {
-            sum += run.total();
-        }
-        sum
+        self.pile.total()
     }
 
     /// The least box of the pixels of nonzero weight, `None` where the picture is blank. It looks at both ends of each row.
+    #[tactic(auto, using(crate::proofs::LeastBoxes::least_boxes))]
     pub fn bounds(&self) -> Option<Box4>
         ensures blank { IsNone result ↔ (self.now ≡ []) }
         ensures least { IfSome result (IsLeastBox self.now) }
@@ -126,11 +120,18 @@ impl Picture {
 
     /// The least box of the pixels of positive weight, which are black in a character, `None` where there are none. It looks at the
     /// edges of each row from both ends, up to the first and the last of these pixels.
+    #[tactic(auto, using(crate::proofs::EdgeRowsLemmas::lawful_picture_of_rows, crate::proofs::LeastBoxes::black_in_rows))]
     pub fn black_bounds(&self) -> Option<Box4>
         ensures bounds { AreBounds (is_positive_at self.now) result }
         ensures lawful { IsPicture self.now }
     {
         self.pile.bounds(Pixels::Black)
+    }
+
+    /// How many edges the picture keeps: a run begins at one and ends at one. Where the newest contours are kept apart, there may be more
+    /// edges than columns at which the weight changes. It looks at each row once.
+    pub fn edge_count(&self) -> usize {
+        self.pile.edge_count()
     }
 
     /// The maximal runs of one nonzero weight: rows from the top down, columns from left to right.
@@ -155,6 +156,7 @@ impl Picture {
     /// all of the other one. Refused with `WeightTooLarge` where a weight would exceed 32767 in absolute value, and with
     /// `OutOfMemory` where an allocation fails; a refusal leaves this picture as it was. Adding a blank picture is never
     /// refused.
+    #[tactic(auto, using(crate::proofs::PictureRows::sums, crate::proofs::BlankPictures::added_to_blank, crate::proofs::BlankPictures::blank_added))]
     pub fn add(&mut self, alloc: Global, other: &Picture) -> Result<(), AddFault>
         ensures weights { OnOk result (HasWeights (sum_at self.old other.now) self.new) }
         ensures blank { other.now ≡ [] → IsOk result }
@@ -180,6 +182,7 @@ impl Picture {
     /// this picture has stay as they are, unless some of the newest contours lie on them. Refused with `WeightTooLarge` where a weight
     /// would exceed 32767 in absolute value, and with `OutOfMemory` where an allocation fails; a refusal leaves this picture as it was.
     /// Subtracting a blank picture is never refused.
+    #[tactic(auto, using(crate::proofs::PictureRows::differences, crate::proofs::BlankPictures::blank_subtracted))]
     pub fn subtract(&mut self, alloc: Global, other: &Picture) -> Result<(), AddFault>
         ensures weights { OnOk result (HasWeights (difference_at self.old other.now) self.new) }
         ensures blank { other.now ≡ [] → IsOk result }
@@ -207,6 +210,7 @@ impl Picture {
     /// The picture after each weight is mapped by itself, as `cull` does (The METAFONTbook, chapter 13; mf.web:
     /// `cull_edges`); this one is unchanged. Requires a map under which 0 stays 0 and weights in -32767..=32767 become
     /// such weights. Refused with `OutOfMemory` where an allocation fails, never for a blank picture.
+    #[tactic(auto, using(crate::proofs::BlankPictures::blank_mapped))]
     pub fn map_weights(&self, alloc: Global, map: &WeightMap) -> Result<Picture, OutOfMemory>
         requires { IsWeightMap map.now }
         ensures weights { IfOk result (HasWeights (mapped_weight_at map.now self.now)) }
@@ -283,6 +287,7 @@ impl Picture {
     /// coordinates in -4095..=4095 and weights in -3..=3, which together add nothing to the right of the field; what
     /// they add below the field is left out. Refused with `WeightTooLarge` where a weight would exceed 32767 in absolute
     /// value, and with `OutOfMemory` where an allocation fails; a refusal leaves the picture as it was.
+    #[tactic(auto, using(crate::proofs::PictureRows::sums, crate::proofs::PictureRows::weights_with_corners))]
     pub fn add_corners(&mut self, alloc: Global, corners: Vec<Corner>) -> Result<(), AddFault>
         requires { AreCorners corners.items }
         ensures weights { OnOk result (HasWeights (with_corners_at self.old corners.items) self.new) }

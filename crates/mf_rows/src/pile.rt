@@ -5,6 +5,8 @@ ghost use Rattle.mf_rows.specs.Bands.{slice_rows};
 ghost use Rattle.mf_rows.specs.EdgeRows.{AreRows, picture_of_rows, weight_in_rows};
 ghost use Rattle.mf_rows.specs.BothRest.{remaining_both_rows};
 ghost use Rattle.mf_rows.specs.Bounds.{AreBounds};
+ghost use Rattle.mf_rows.specs.Dots.{total_of};
+ghost use Rattle.mf_rows.specs.Dots.{total_of};
 ghost use Rattle.mf_rows.specs.Groups.{AreGroups, rows_of_groups};
 ghost use Rattle.mf_rows.specs.Piles.{HaveSameSum, IsReachOfSum, StayInReach};
 ghost use Rattle.mf_rows.specs.PixelsOfRows.{among_rows};
@@ -22,13 +24,13 @@ use crate::runs::Runs;
 use crate::sign::Sign;
 use crate::slice::RowSlice;
 use mf_base::OutOfMemory;
-use mf_edges::{AddFault, MAX_WEIGHT, weight_at_column};
+use mf_edges::{AddFault, MAX_WEIGHT, total_of_edges, weight_at_column};
 use std::alloc::Global;
 use std::marker::Model;
 use std::sync::Arc;
 
-/// Where rows have more edges than this on average, they are kept apart from the newest contours. A contour that is added to shorter
-/// rows copies few edges, too, and then nobody has to add up two lists of groups to read the picture.
+/// Where there are more edges than this for each row, and some more where rows are few, they are kept apart from the newest contours. A
+/// contour that is added to shorter rows copies few edges, too, and then nobody has to add up two lists of groups to read the picture.
 const LONG_ROWS: usize = 128;
 
 /// The newest contours are added to the long rows when they have so many edges for each of these, and a fourth of the edges of these. A
@@ -66,6 +68,7 @@ impl Model for Pile {
 
 impl Pile {
     /// No rows. Allocates nothing.
+    #[tactic(auto, using(crate::proofs::PilesLemmas::none_is_piled, crate::proofs::PilesLemmas::none_piled))]
     pub(crate) fn blank(alloc: Global) -> Pile
         ensures { result ≡ [] }
     {
@@ -78,6 +81,7 @@ impl Pile {
     }
 
     /// The rows of these groups.
+    #[tactic(auto, using(crate::proofs::PilesLemmas::alone_is_piled, crate::proofs::PilesLemmas::piled_alone))]
     pub(crate) fn of(alloc: Global, groups: Vec<Option<Arc<Group>>>) -> Pile
         requires { AreGroups groups.items }
         ensures { result ≡ rows_of_groups groups.items }
@@ -92,6 +96,7 @@ impl Pile {
     }
 
     /// The same rows, which are shared.
+    #[tactic(auto, using(crate::proofs::PilesLemmas::same_piled))]
     pub(crate) fn copy(&self, alloc: Global) -> Result<Pile, OutOfMemory>
         ensures { IfOk result (λ copy. copy ≡ self.now) }
     {
@@ -135,12 +140,27 @@ impl Pile {
         bounds_of(&self.groups, &self.older, pixels)
     }
 
+    /// The number of edges of both lists.
+    pub(crate) fn edge_count(&self) -> usize {
+        let older = size_of(&self.older);
+        let groups = size_of(&self.groups);
+        older.edges.saturating_add(groups.edges)
+    }
+
     /// The weight of the pixel (x, y), 0 outside the field.
     pub(crate) fn weight(&self, x: i32, y: i32) -> i32
         ensures weight { result ≡ weight_in_rows self.now x y }
         ensures rows { AreRows self.now }
     {
         weight_in_groups(&self.older, x, y) + weight_in_groups(&self.groups, x, y)
+    }
+
+    /// The sum of the weights of all pixels.
+    pub(crate) fn total(&self) -> i64
+        ensures total { result ≡ total_of (picture_of_rows self.now) }
+        ensures rows { AreRows self.now }
+    {
+        total_of_groups(&self.groups) + total_of_groups(&self.older)
     }
 
     /// Adds the newest contours to the older rows, as far as there is memory for that. The picture stays as it is.
@@ -236,6 +256,7 @@ impl Pile {
 }
 
 /// These groups as long rows, or as those to which contours are added.
+#[tactic(auto, using(crate::proofs::PilesLemmas::apart_alone, crate::proofs::PilesLemmas::alone_apart))]
 fn keep_apart(
     alloc: Global,
     groups: Vec<Option<Arc<Group>>>,
@@ -254,6 +275,7 @@ fn keep_apart(
 
 /// Adds what is kept beside groups to these, one after another, so that little is kept twice. Where that is refused, the weights of both
 /// together have not changed.
+#[tactic(auto, using(crate::proofs::GroupsLemmas::rows_in_place_are_rows, crate::proofs::SettledGroups::all_settled))]
 fn take_up(
     alloc: Global,
     groups: &mut Vec<Option<Arc<Group>>>,
@@ -284,6 +306,7 @@ fn take_up(
 }
 
 /// Makes a list of groups as long as this, with no groups at the further places.
+#[tactic(auto, using(crate::proofs::SettledGroups::groups_more, crate::proofs::SettledGroups::rows_more))]
 fn lengthen(groups: &mut Vec<Option<Arc<Group>>>, count: usize) -> Result<(), OutOfMemory>
     requires { AreGroups groups.old.items }
     ensures groups { AreGroups groups.new.items }
@@ -308,6 +331,18 @@ fn weight_in_groups(groups: &[Option<Arc<Group>>], x: i32, y: i32) -> i32
     }
 }
 
+/// The sum of the weights of all pixels of groups.
+fn total_of_groups(groups: &[Option<Arc<Group>>]) -> i64
+    requires { AreGroups groups.now }
+    ensures { result ≡ total_of (picture_of_rows (rows_of_groups groups.now)) }
+{
+    let mut total = 0i64;
+    for row in Rows::over(groups) {
+        total += total_of_edges(row.edges);
+    }
+    total
+}
+
 /// A reach of weights that are sums of two, with these reaches.
 fn reach_of_sum(left: i32, right: i32) -> i32
     requires left { pos 0 ≤ℤ left × left ≤ℤ greatest_weight }
@@ -318,14 +353,15 @@ fn reach_of_sum(left: i32, right: i32) -> i32
     if sum <= MAX_WEIGHT { sum } else { MAX_WEIGHT }
 }
 
-/// A reach of groups. Where the reach of a row is not known, it is worked out.
+/// A reach of groups.
+#[tactic(auto, using(crate::proofs::GroupsLemmas::rows_of_groups_are_rows, crate::proofs::PilesLemmas::reach_start))]
 fn reach_of_groups(groups: &[Option<Arc<Group>>]) -> i32
     requires { AreGroups groups.now }
     ensures { StayInReach result (weight_in_rows (rows_of_groups groups.now)) }
 {
     let mut reach = 0;
     for row in Rows::over(groups) {
-        reach = reach.max(row.reach());
+        reach = reach.max(row.reach);
     }
     reach
 }

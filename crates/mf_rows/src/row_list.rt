@@ -1,26 +1,21 @@
 //! Lists of rows whose edges stand one after another.
 ghost use Rattle.std.specs.Prelude.{◌≡◌, ◌≢◌, List, [], ◌∷◌, ◌++◌, ◌↔◌, IsTrue, IfOk, IfErr, OnOk, OnErr, ◌≤ℤ◌, ◌-ℤ◌};
 ghost use Rattle.mf_edges.specs.Edges.{AreEdges};
-ghost use Rattle.mf_edges.specs.Reaches.{HasReach};
-ghost use Rattle.mf_edges.specs.Sums.{weight_in_both, HasMoreEdges, IsUnlawfulColumn};
+ghost use Rattle.mf_edges.specs.Reaches.{StaysInReach};
+ghost use Rattle.mf_edges.specs.Sums.{weight_in_both, HasMoreEdges, IsEdgeSum, IsUnlawfulColumn};
 ghost use Rattle.std.specs.Int.RustNames.{unsigned_abs};
 ghost use Rattle.mf_geom.specs.Coordinates.{least_coordinate, greatest_coordinate};
 ghost use Rattle.mf_rows.specs.RowMoves.{strip};
-ghost use Rattle.mf_rows.specs.RowLists.{AreHeads, IsPlaceOf, HasReachedSum, last_edges, rows_at};
+ghost use Rattle.mf_rows.specs.RowLists.{AreHeads, IsPlaceOf, last_edges, rows_at};
 
 use crate::row::Row;
 use mf_base::OutOfMemory;
-use mf_edges::{AddFault, Edge, MAX_WEIGHT, give_back_room, push_sum_of_edges, push_with_changes};
+use mf_edges::{AddFault, Edge, MAX_WEIGHT, give_back_room, push_sum_of_edges, reach_of};
 use std::alloc::Global;
 use std::marker::Model;
 use std::sync::Arc;
 
 mod copies;
-
-/// A row of at most this many edges is added to another by binary search, without looking at the weights between the
-/// other's edges, where the reaches of both leave room: a contour changes a row at few places, so it costs about a copy
-/// of the row. With more edges, or with no room, the rows are merged and all weights are checked.
-const FEW_EDGES: usize = 8;
 
 /// Rows of corners and changed rows with more edges than this, and sums of two rows that have more together, get lists of their own
 /// behind an `Arc`. A band that is made anew for other rows then shares such a list, where it copies the edges of shorter rows:
@@ -56,7 +51,7 @@ impl Place {
 #[derive(Debug, Drop)]
 pub(crate) struct Head {
     pub(crate) y: i32,
-    pub(crate) reach: Option<u16>,
+    pub(crate) reach: i32,
     pub(crate) place: Place,
 }
 
@@ -183,11 +178,12 @@ impl RowList {
             return self.push_long_sum(alloc, left, right);
         }
         let start = self.edges.len();
-        let reach = push_sum_of_both(&mut self.edges, left, right)?;
+        push_sum_of_edges(&mut self.edges, left.edges, right.edges)?;
         let end = self.edges.len();
         if start == end {
             return Ok(());
         }
+        let reach = reach_of_sum(left, right, &self.edges[start..end])?;
         self.heads.push(Head {
             y: right.y,
             reach,
@@ -210,10 +206,11 @@ impl RowList {
             → IsUnlawfulInRow (weight_in_all (edge_row left.now ∷ []) (edge_row right.now ∷ [])) right.now.y) }
     {
         let mut edges = Vec::new(alloc);
-        let reach = push_sum_of_both(&mut edges, left, right)?;
+        push_sum_of_edges(&mut edges, left.edges, right.edges)?;
         if edges.is_empty() {
             return Ok(());
         }
+        let reach = reach_of_sum(left, right, &edges)?;
         give_back_room(&mut edges);
         self.heads.push(Head {
             y: right.y,
@@ -238,7 +235,7 @@ impl RowList {
 #[inline(always)]
 fn push_heads(
     heads: &mut Vec<Head>,
-    reach: Option<u16>,
+    reach: i32,
     place: &Place,
     bottom: i32,
     top: i32,
@@ -246,7 +243,7 @@ fn push_heads(
     requires bottom { least_coordinate ≤ℤ bottom }
     requires order { bottom ≤ℤ top }
     requires top { top ≤ℤ greatest_coordinate }
-    ensures heads { (edges row : List Edge) → AreHeads edges heads.old.items → IsPlaceOf edges place.now row → HasReach reach row
+    ensures heads { (edges row : List Edge) → AreHeads edges heads.old.items → IsPlaceOf edges place.now row → StaysInReach reach row
         → AreHeads edges heads.new.items }
     ensures rows { OnOk result ((edges row : List Edge) → IsPlaceOf edges place.now row
         → rows_at edges heads.new.items ≡ rows_at edges heads.old.items ++ strip bottom row (unsigned_abs (top -ℤ bottom))) }
@@ -289,30 +286,24 @@ fn place_of(edges: &mut Vec<Edge>, heads: &[Head], row: &Row<'_>) -> Result<Plac
     })
 }
 
-/// Appends the edges of the sum of two rows to a list of edges, and answers its reach, where that is known. Where few edges
-/// are added within the limit, the reach is the sum of both reaches, so it grows with each contour. Once there is no room
-/// left, all weights are checked, no reach is kept, and the next sum finds the least reach anew. Refused with
-/// `WeightTooLarge` where a weight would exceed 32767 in absolute value, and with `OutOfMemory` where an allocation fails;
-/// some edges may then have been appended. A sum of bands asks this for row after row, so it is inlined: both rows stay in registers.
+/// A reach of the sum of two rows, which has these edges. Where the sum of both reaches is within the limit, it is that, so it grows
+/// with each contour; otherwise all weights are looked at, and it is the least one. Refused with `WeightTooLarge` where a weight exceeds
+/// 32767 in absolute value.
 #[inline(always)]
-fn push_sum_of_both(
-    edges: &mut Vec<Edge>,
-    left: &Row<'_>,
-    right: &Row<'_>,
-) -> Result<Option<u16>, AddFault>
+fn reach_of_sum(left: &Row<'_>, right: &Row<'_>, sum: &[Edge]) -> Result<i32, AddFault>
     requires left { AreEdges left.now.edges.now }
     requires right { AreEdges right.now.edges.now }
-    ensures pushed { IfOk result (λ reach. HasReachedSum edges.old.items left.now.edges.now right.now.edges.now edges.new.items reach) }
-    ensures kept { OnErr result (HasMoreEdges edges.old.items edges.new.items) }
+    requires sum { IsEdgeSum left.now.edges.now right.now.edges.now sum.now }
+    ensures reach { IfOk result (λ reach. StaysInReach reach sum.now) }
     ensures too_large { IfErr result (λ fault. fault ≢ AddFault.OutOfMemory → IsUnlawfulColumn (weight_in_both left.now.edges.now right.now.edges.now)) }
 {
-    if right.edges.len() <= FEW_EDGES {
-        let reach = left.reach() + right.reach();
-        if reach <= MAX_WEIGHT {
-            push_with_changes(edges, left.edges, right.edges)?;
-            return Ok(Some(reach as u16));
-        }
+    let reach = left.reach + right.reach;
+    if reach <= MAX_WEIGHT {
+        return Ok(reach);
     }
-    push_sum_of_edges(edges, left.edges, right.edges)?;
-    Ok(None)
+    let least = reach_of(sum);
+    if least > MAX_WEIGHT {
+        return Err(AddFault::WeightTooLarge);
+    }
+    Ok(least)
 }

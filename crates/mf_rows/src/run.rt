@@ -2,9 +2,7 @@
 ghost use Rattle.std.specs.Prelude.{◌≡◌, ◌≢◌, ◌↔◌, IsTrue, pos, ◌+ℤ◌, ◌≤ℤ◌};
 ghost use Rattle.mf_geom.specs.Coordinates.{least_coordinate, greatest_coordinate, last_in_field};
 ghost use Rattle.mf_edges.specs.LawfulWeights.{IsLawfulWeight};
-ghost use Rattle.mf_rows.specs.Dots.{total_of};
 ghost use Rattle.mf_rows.specs.Order.{IsRun};
-ghost use Rattle.mf_rows.specs.Runs.{dots_of};
 
 use mf_edges::{FIELD_END, FIELD_START, is_lawful_weight};
 
@@ -25,14 +23,6 @@ impl Run {
         ensures { IsTrue result ↔ IsRun self.now }
     {
         self.len > 0 && self.lies_in_columns() && self.lies_in_rows() && self.has_weight()
-    }
-
-    /// The sum of the weights of its pixels.
-    pub(crate) fn total(&self) -> i64
-        requires { IsRun self.now }
-        ensures { result ≡ total_of (dots_of self.now) }
-    {
-        i64::from(self.len) * i64::from(self.weight)
     }
 
     /// Whether all its columns lie in the field.

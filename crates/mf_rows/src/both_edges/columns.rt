@@ -21,6 +21,7 @@ impl BothEdges<'_> {
 }
 
 /// The column of the first of these pixels, `None` where there are none. It passes the edges from the left up to that one.
+#[tactic(auto, using(crate::proofs::PixelColumns::none_at_first, crate::proofs::PixelColumns::none_at_last))]
 fn first_column(edges: &BothEdges<'_>, pixels: Pixels) -> Option<i32>
     requires { AreEdges (both_edges edges.now) }
     ensures some { IfSome result (IsFirstColumn pixels (both_edges edges.now)) }
@@ -38,6 +39,7 @@ fn first_column(edges: &BothEdges<'_>, pixels: Pixels) -> Option<i32>
 }
 
 /// The column of the last of these pixels, `None` where there are none. It passes the edges from the right up to that one.
+#[tactic(auto, using(crate::proofs::PixelColumns::none_at_right, crate::proofs::PixelColumns::none_at_all))]
 fn last_column(edges: &BothEdges<'_>, pixels: Pixels) -> Option<i32>
     requires { AreEdges (both_edges edges.now) }
     ensures some { IfSome result (IsLastColumn pixels (both_edges edges.now)) }

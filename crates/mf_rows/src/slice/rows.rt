@@ -93,7 +93,7 @@ impl<'a> RowSlice<'a> {
     {
         let mut reach = 0;
         for head in self.heads {
-            reach = reach.max(row_of_head(self.edges, head).reach());
+            reach = reach.max(row_of_head(self.edges, head).reach);
         }
         reach
     }

@@ -131,6 +131,24 @@ fn keeps_touching_runs_of_two_weights_apart(rt: HostRuntime) {
     assert_runs(&rt, &picture_of(&rt, &runs), &runs);
 }
 
+/// Asserts that the picture of these runs keeps this number of edges.
+fn assert_edges<R: Abort + AllocGlobal>(rt: &R, runs: &[Run], count: usize) {
+    assert_same(rt, picture_of(rt, runs).edge_count(), count, "edges");
+}
+
+#[test]
+fn counts_the_edges_that_it_keeps(rt: HostRuntime) {
+    let row = [make_run(1, 0, 3, 1), make_run(1, 3, 2, -1)];
+    let rows = [
+        make_run(1, 0, 3, 1),
+        make_run(1, 3, 2, -1),
+        make_run(0, 0, 3, 1),
+    ];
+    assert_edges(&rt, &[], 0);
+    assert_edges(&rt, &row, 3);
+    assert_edges(&rt, &rows, 5);
+}
+
 #[test]
 fn blank_has_nothing(rt: HostRuntime) {
     let blank = Picture::blank(rt.alloc());

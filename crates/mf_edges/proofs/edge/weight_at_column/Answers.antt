@@ -1,44 +1,43 @@
-use Rattle.std.proofs.Common.{◌≡◌, pos, ◌+◌, ◌+ℤ◌, drop, get_or, to_z, of_z, w32, arith}
+use Rattle.std.proofs.Common.{◌≡◌, pos, refl, sym, ap, subst, ◌∙◌, get_or, ◌+ℤ◌, ◌-ℤ◌, to_z, of_z, w32, arith}
 use Rattle.std.proofs.lemmas.Int.{ints}
-use Rattle.std.proofs.lemmas.List.{drop_all}
 use Rattle.mf_edges.specs.declared.edge.Edge.{Edge}
-use Rattle.mf_edges.proofs.SumsBefore.{IsSumBefore, sum_before_read, sum_before_more, lawful_sum_before, sum_before_right, sum_before_none}
+use Rattle.mf_edges.specs.LawfulWeights.{IsLawfulWeight}
+use Rattle.mf_edges.specs.Edges.{weight_in}
+use Rattle.mf_edges.proofs.EdgesAt.{step_at_edge, weight_in-take, weight_in-take_behind, weight_in-take_more}
 use Rattle.mf_edges.proofs.edge.weight_at_column.Goals as goal
+
+pub loop-edge-init : goal.loop-edge-init
+unfolding weight_in
+loop-edge-init c = refl
 
 pub returns-then-x-edge : goal.returns-then-x-edge
 returns-then-x-edge c =
     let x_is : to_z w32 (of_z w32 c.args.x) ≡ c.args.x = omega (arith, ints) in
-    let before =
-    sum_before_read c.args.edges.now c.args.x _ (record { x = pos 0; weight = pos 0 }) _ c.loop-edge-test.true (rw x_is at c.loop-edge.invariant) in
-    sum_before_right c.args.edges.now c.args.x _ _ _ before (grind (arith, ints, before.sorted.0))
+    rw x_is at c.loop-edge.invariant
+    ∙ weight_in-take _ c.args.edges.now _ (record { x = pos 0; weight = pos 0 }) c.args.x c.requires.sorted c.loop-edge-test.true (grind (arith, ints))
 
--- the sum with this edge
-more : (c : goal.After-weight-1) → let e : Edge =
-    get_or c.args.edges.now c.loop-edge.edge-index (record { x = pos 0; weight = pos 0 }) in IsSumBefore c.args.edges.now c.args.x
-    (drop (c.loop-edge.edge-index + 1) c.args.edges.now) (to_z w32 c.loop-edge.weight-bits +ℤ e.weight)
-more c =
+-- the weight before an edge that is passed, and the one behind it, are weights of the row
+next : (c : goal.After-weight-1) → let e : Edge = get_or c.args.edges.now c.loop-edge.edge-index (record { x = pos 0; weight = pos 0 }) in
+    IsLawfulWeight (to_z w32 c.loop-edge.weight-bits) × IsLawfulWeight (to_z w32 c.loop-edge.weight-bits +ℤ e.weight)
+next c =
+    let e : Edge = get_or c.args.edges.now c.loop-edge.edge-index (record { x = pos 0; weight = pos 0 }) in
     let x_is : to_z w32 (of_z w32 c.args.x) ≡ c.args.x = omega (arith, ints) in
+    let so_far = rw x_is at c.loop-edge.invariant in
     let before =
-    sum_before_read c.args.edges.now c.args.x _ (record { x = pos 0; weight = pos 0 }) _ c.loop-edge-test.true (rw x_is at c.loop-edge.invariant) in
-    sum_before_more c.args.edges.now c.args.x _ _ _ before (grind (arith, ints, before.sorted.0))
+    weight_in-take_behind _ c.args.edges.now _ (record { x = pos 0; weight = pos 0 }) c.args.x c.requires.sorted c.loop-edge-test.true (grind (arith, ints)) in
+    let step = step_at_edge _ c.args.edges.now _ (record { x = pos 0; weight = pos 0 }) c.requires.sorted c.loop-edge-test.true in (
+      subst IsLawfulWeight (sym (so_far ∙ before)) (c.requires.lawful (e.x -ℤ pos 1)),
+      subst IsLawfulWeight (step ∙ ap (λ w. w +ℤ e.weight) (sym (so_far ∙ before))) (c.requires.lawful e.x),
+    )
 
 pub overflow_add-weight : goal.overflow_add-weight
-overflow_add-weight c =
-    let before = lawful_sum_before c.args.edges.now _ _ _ c.requires c.loop-edge.invariant in
-    let after = lawful_sum_before c.args.edges.now _ _ _ c.requires (more c) in
-    omega (arith, ints)
+overflow_add-weight c = let lawful = next c in omega (arith, ints)
 
 pub loop-edge-preserved : goal.loop-edge-preserved
 loop-edge-preserved c =
     let e : Edge = get_or c.args.edges.now c.loop-edge.edge-index (record { x = pos 0; weight = pos 0 }) in
-    let before = lawful_sum_before c.args.edges.now _ _ _ c.requires c.loop-edge.invariant in
-    let after = lawful_sum_before c.args.edges.now _ _ _ c.requires (more c) in
+    let lawful = next c in
+    let more = weight_in-take_more c.args.edges.now _ (record { x = pos 0; weight = pos 0 }) c.args.x c.loop-edge-test.true (grind (arith, ints)) in
     let x_is : to_z w32 (of_z w32 c.args.x) ≡ c.args.x = omega (arith, ints) in
-    let weight_is : to_z w32 (of_z w32 e.weight) ≡ e.weight = omega (arith, ints) in
-    let sum_is : to_z w32 (of_z w32 (to_z w32 c.loop-edge.weight-bits +ℤ e.weight)) ≡ to_z w32 c.loop-edge.weight-bits +ℤ e.weight = omega (arith, ints) in
-    rw (x_is, weight_is, sum_is) (more c)
-
-pub returns : goal.returns
-returns c =
-    let x_is : to_z w32 (of_z w32 c.args.x) ≡ c.args.x = omega (arith, ints) in
-    sum_before_none c.args.edges.now c.args.x _ (rw (x_is, drop_all _ c.args.edges.now c.loop-edge-test.false) at c.loop-edge.invariant)
+    let so_far = rw x_is at c.loop-edge.invariant in
+    rw x_is (omega (arith, ints))

@@ -3,7 +3,7 @@ use Rattle.std.proofs.lemmas.Int.{ints}
 use Rattle.std.proofs.lemmas.List.{map_more, take_all}
 use Rattle.mf_edges.specs.declared.edge.Edge.{Edge}
 use Rattle.mf_edges.specs.Edges.{IsEdge, AreEdges}
-use Rattle.mf_edges.proofs.AddedEdges.{edges_from-at}
+use Rattle.mf_edges.proofs.EdgesAt.{edges_from-at}
 use Rattle.mf_edges.proofs.EdgeChanges.{stretched_edge, stretched_of, product_fits, sum_fits, point_is}
 use Rattle.mf_edges.proofs.edge_change.stretched_edges.Goals as goal
 

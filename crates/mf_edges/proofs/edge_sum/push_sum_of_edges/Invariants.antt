@@ -1,10 +1,9 @@
 use Rattle.std.proofs.Common.{length}
-use Rattle.mf_edges.specs.SumsSoFar.{IsSumSoFar}
-use Rattle.mf_edges.proofs.AppendedSums.{AreAppended}
+use Rattle.mf_edges.proofs.EdgeSums.{IsSumSoFar}
 use Rattle.mf_edges.proofs.edge_sum.push_sum_of_edges.Given as goal
 
 abbrev pub invariant-loop-change : goal.invariant-loop-change
-invariant-loop-change l = AreAppended (λ more. IsSumSoFar l.fn.left l.fn.right more l.left l.right l.weight) l.fn.sum.items l.sum.items
+invariant-loop-change l = IsSumSoFar l.fn.sum.items l.fn.left l.fn.right l.sum.items l.left l.right
 
 abbrev pub decreases-loop-change : goal.decreases-loop-change
 decreases-loop-change l = length l.right

@@ -1,26 +1,34 @@
-use Rattle.std.proofs.Common.{pos, ◌+ℤ◌, refl}
+use Rattle.std.proofs.Common.{◌≡◌, ◌∷◌, [], pos, ◌+ℤ◌, refl, to_z, of_z, w32, arith}
+use Rattle.std.proofs.lemmas.Int.{ints}
 use Rattle.mf_rows.specs.BandNumbers.{numbers_of}
-use Rattle.mf_rows.proofs.BandNumbersLemmas.{rise-append}
-use Rattle.mf_rows.proofs.BandSumsLemmas.{has_sum-right, has_sum-left}
-use Rattle.mf_rows.proofs.SignsLemmas.{signed_none, signed_rows}
+use Rattle.mf_rows.specs.FieldBands.{IsOfBand}
+use Rattle.mf_rows.proofs.BandNumbersLemmas.{rise-append, rise-finished}
+use Rattle.mf_rows.proofs.BandSumsLemmas.{has_sum-right}
+use Rattle.mf_rows.proofs.FieldBandsLemmas.{rows_of_only, sum_is_of_band}
+use Rattle.mf_rows.proofs.SignsLemmas.{signed_all}
 use Rattle.mf_rows.proofs.band_sum.push_sum.Goals as goal
 
-pub returns-in_ok-share_band-in-Some-None-clause-pushed : goal.returns-in_ok-share_band-in-Some-None-clause-pushed
-returns-in_ok-share_band-in-Some-None-clause-pushed c =
-    let left = rw c.in-Some-None.is-0 at c.requires.left in
-    rw (c.in-Some-None.is-0, c.in-Some-None.is-1) (has_sum-left _ _ _ _ left (signed_none c.args.sign _ refl) c.in_ok-share_band-in-Some-None.ensures.rows)
+pub returns-in-None-Some-Plus-clause-pushed : goal.returns-in-None-Some-Plus-clause-pushed
+returns-in-None-Some-Plus-clause-pushed c =
+    let same = rw c.in-None-Some-Plus.is-1 at c.requires.part.band in
+    rw (c.in-None-Some-Plus.is-0, c.in-None-Some-Plus.is-2) (has_sum-right _ _ _ _ c.requires.part.rows refl (rw (← same) c.in_ok-share_band.ensures.rows))
 
-pub returns-in_ok-share_band-in-Some-None-clause-rising : goal.returns-in_ok-share_band-in-Some-None-clause-rising
-returns-in_ok-share_band-in-Some-None-clause-rising c =
-    let left = rw c.in-Some-None.is-0 at c.requires.number_of_left in
-    rw c.in_ok-share_band-in-Some-None.ensures.numbers
-    (rise-append (pos 0) c.args.number (c.args.number +ℤ pos 1) (numbers_of c.args.sum.now.items) _ c.requires.before left)
+pub returns-in-None-Some-Plus-clause-rising : goal.returns-in-None-Some-Plus-clause-rising
+returns-in-None-Some-Plus-clause-rising c =
+    let n = c.args.part.number in
+    let same = rw c.in-None-Some-Plus.is-1 at c.requires.part.number in
+    rw (c.in_ok-share_band.ensures.numbers, same)
+    (rise-append (pos 0) n (n +ℤ pos 1) (numbers_of c.args.sum.now.items) (n ∷ []) c.requires.before (omega (arith, ints), omega (arith, ints)))
 
-pub returns-in_ok-push_signed_band-in-None-default-clause-pushed : goal.returns-in_ok-push_signed_band-in-None-default-clause-pushed
-returns-in_ok-push_signed_band-in-None-default-clause-pushed c =
-    rw c.in-None-default.is-0 (has_sum-right _ _ _ _ (signed_rows c.args.sign _ c.requires.right) refl c.in_ok-push_signed_band-in-None-default.ensures.rows)
+pub close_band-requires : goal.close_band-requires
+close_band-requires c =
+    let n = c.args.part.number in
+    let fits : to_z w32 (of_z w32 n) ≡ n = omega (arith, ints) in
+    rw fits (sum_is_of_band n _ _ _ (rows_of_only n _ c.requires.number) (signed_all (IsOfBand n) c.args.part.sign _ c.requires.part.of_band)
+    c.in_ok-rows.ensures.within)
 
-pub returns-in_ok-push_signed_band-in-None-default-clause-rising : goal.returns-in_ok-push_signed_band-in-None-default-clause-rising
-returns-in_ok-push_signed_band-in-None-default-clause-rising c =
-    rw c.in_ok-push_signed_band-in-None-default.ensures.numbers
-    (rise-append (pos 0) c.args.number (c.args.number +ℤ pos 1) (numbers_of c.args.sum.now.items) _ c.requires.before c.requires.number_of_right)
+pub returns-clause-rising : goal.returns-clause-rising
+returns-clause-rising c =
+    let n = c.args.part.number in
+    let fits : to_z w32 (of_z w32 n) ≡ n = omega (arith, ints) in
+    rw (c.in_ok-close_band.ensures.numbers, fits) (rise-finished n (numbers_of c.args.sum.now.items) c.in_ok-rows.rows c.requires.before)

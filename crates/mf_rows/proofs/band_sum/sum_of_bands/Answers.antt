@@ -1,80 +1,57 @@
-use Rattle.std.proofs.Common.{refl, sym, subst, ap, ◌∙◌, ◌++◌}
+use Rattle.std.proofs.Common.{refl, arith}
+use Rattle.std.proofs.lemmas.Int.{ints}
 use Rattle.std.proofs.lemmas.Result.{err_from_is_err_and}
-use Rattle.mf_rows.specs.BandNumbers.{numbers_of}
-use Rattle.mf_rows.specs.Bands.{rows_of_bands}
-use Rattle.mf_rows.specs.EdgeRows.{AreRows}
-use Rattle.mf_rows.specs.Signs.{signed}
-use Rattle.mf_rows.specs.Sums.{weight_in_all, HaveRowWeights}
-use Rattle.mf_rows.proofs.BandNumbersLemmas.{next_number, only_first, fewer_bands, nothing_numbered, numbered_more, all_numbered}
-use Rattle.mf_rows.proofs.RowSums.{sum_none, rows_left}
-use Rattle.mf_rows.proofs.BandSumsLemmas.{rows_of_first, rows_of_rest, rows_with_bands, weights_with_rest, unlawful_in_step, sum_more_step}
-use Rattle.mf_rows.proofs.FieldBandsLemmas.{rows_split_at}
-use Rattle.mf_rows.proofs.SignsLemmas.{signed_rows, signed_split}
+use Rattle.mf_rows.proofs.RowSumSteps.{sum_all_rows, sum_all_weights}
+use Rattle.mf_rows.proofs.BandSumSteps.{nothing_added, left_rise, added_left, all_rise, reached, least, others_rise, only_own, own_rows, rise_with_before, unlawful_in_band, added_more}
 use Rattle.mf_rows.proofs.band_sum.sum_of_bands.Goals as goal
 
-pub loop-number-init : goal.loop-number-init
-loop-number-init c = rw (c.in_ok-reserve.ensures.items, c.new-sum.ensures.items) (record {
-  so_far = sum_none (rows_of_bands c.args.left.now) (signed c.args.sign (rows_of_bands c.args.right.now)) c.requires.left (signed_rows c.args.sign _ c.requires.right);
-  lawful = c.requires.right;
-  numbers = nothing_numbered _ _ c.requires.left_rises c.requires.right_rises;
-})
+pub loop-part-init : goal.loop-part-init
+loop-part-init c = rw (c.in_ok-reserve.ensures.items, c.new-sum.ensures.items) (nothing_added _ _ c.requires.bands c.requires.rising c.requires.added)
+
+pub split_first-requires : goal.split_first-requires
+split_first-requires c = added_left c.loop-part.invariant
+
+pub overflow_sub-part : goal.overflow_sub-part
+overflow_sub-part c =
+    let so_far = c.loop-part.invariant in
+    let first = c.in-Some.ensures.first in
+    omega (arith, ints, least so_far, reached so_far first, first.greatest)
+
+pub split_bands-requires : goal.split_bands-requires
+split_bands-requires c = left_rise c.loop-part.invariant
 
 pub split_first_band-requires : goal.split_first_band-requires
-split_first_band-requires c = (next_number c.in-Some.number c.in-Some.ensures.number c.loop-number.invariant.numbers).left
+split_first_band-requires c = others_rise c.loop-part.invariant c.in-Some.ensures.first c.split_bands.ensures
 
-pub split_first_band-requires-in-Some : goal.split_first_band-requires-in-Some
-split_first_band-requires-in-Some c = (next_number c.in-Some.number c.in-Some.ensures.number c.loop-number.invariant.numbers).right
+pub push_sum-requires-clause-own : goal.push_sum-requires-clause-own
+push_sum-requires-clause-own c = own_rows c.loop-part.invariant c.in-Some.ensures.first c.split_bands.ensures c.split_first_band.ensures
 
-pub push_sum-requires-clause-left : goal.push_sum-requires-clause-left
-push_sum-requires-clause-left c = rows_of_first (rows_split_at c.split_first_band.ensures) (rows_left _ _ _ _ _ c.loop-number.invariant.so_far)
-
-pub push_sum-requires-clause-right : goal.push_sum-requires-clause-right
-push_sum-requires-clause-right c =
-    rows_of_first (rows_split_at c.split_first_band-in-Some.ensures) c.loop-number.invariant.lawful
-
-pub push_sum-requires-clause-number_of_left : goal.push_sum-requires-clause-number_of_left
-push_sum-requires-clause-number_of_left c =
-    only_first c.split_first_band.ensures (next_number c.in-Some.number c.in-Some.ensures.number c.loop-number.invariant.numbers).left
-
-pub push_sum-requires-clause-number_of_right : goal.push_sum-requires-clause-number_of_right
-push_sum-requires-clause-number_of_right c =
-    only_first c.split_first_band-in-Some.ensures (next_number c.in-Some.number c.in-Some.ensures.number c.loop-number.invariant.numbers).right
+pub push_sum-requires-clause-number : goal.push_sum-requires-clause-number
+push_sum-requires-clause-number c = only_own c.loop-part.invariant c.in-Some.ensures.first c.split_bands.ensures c.split_first_band.ensures
 
 pub push_sum-requires-clause-before : goal.push_sum-requires-clause-before
-push_sum-requires-clause-before c = (next_number c.in-Some.number c.in-Some.ensures.number c.loop-number.invariant.numbers).before
+push_sum-requires-clause-before c = rise_with_before c.loop-part.invariant c.in-Some.ensures.first c.split_bands.ensures c.in_ok-push_shared.ensures.numbers
 
 pub returns-in_err-push_sum-clause-too_large : goal.returns-in_err-push_sum-clause-too_large
 returns-in_err-push_sum-clause-too_large c =
     let p = err_from_is_err_and c.from_residual-in_err-push_sum.result c.from_residual-in_err-push_sum.ensures.1 in
-    rw (p.1, p.2) (λ fault. unlawful_in_step _ _ _ _ _ c.loop-number.invariant.so_far _ _ _ _ _ (rows_split_at c.split_first_band.ensures)
-    (signed_split c.args.sign (rows_split_at c.split_first_band-in-Some.ensures)) (c.in_err-push_sum.ensures.too_large fault))
+    rw (p.1, p.2) (λ fault. unlawful_in_band c.loop-part.invariant c.in-Some.ensures.first c.split_bands.ensures c.split_first_band.ensures
+    c.in_ok-push_shared.ensures.rows (c.in_err-push_sum.ensures.too_large fault))
 
-pub loop-number-smaller : goal.loop-number-smaller
-loop-number-smaller c =
-    fewer_bands _ _ _ _ _ _ _ (next_number c.in-Some.number c.in-Some.ensures.number c.loop-number.invariant.numbers).lesser
-    c.split_first_band.ensures c.split_first_band-in-Some.ensures
-
-pub loop-number-preserved : goal.loop-number-preserved
-loop-number-preserved c = record {
-  so_far = sum_more_step _ _ _ _ _ c.loop-number.invariant.so_far _ _ _ _ _ (rows_split_at c.split_first_band.ensures)
-      (signed_split c.args.sign (rows_split_at c.split_first_band-in-Some.ensures)) _ c.in_ok-push_sum.ensures.pushed;
-  lawful = rows_of_rest (rows_split_at c.split_first_band-in-Some.ensures) c.loop-number.invariant.lawful;
-  numbers = numbered_more (next_number c.in-Some.number c.in-Some.ensures.number c.loop-number.invariant.numbers)
-      c.split_first_band.ensures c.split_first_band-in-Some.ensures c.in_ok-push_sum.ensures.rising;
-}
+pub loop-part-preserved : goal.loop-part-preserved
+loop-part-preserved c =
+    added_more c.loop-part.invariant c.in-Some.ensures.first c.split_bands.ensures c.split_first_band.ensures c.in_ok-push_shared.ensures.rows
+    c.in_ok-push_sum.ensures.pushed c.in_ok-push_sum.ensures.rising
 
 pub returns-clause-rows : goal.returns-clause-rows
 returns-clause-rows c =
-    let all = c.in_ok-push_signed.ensures.rows ∙ ap (λ rs. rs ++ signed c.args.sign (rows_of_bands c.loop-number.right.now)) c.in_ok-push_shared.ensures.rows in
-    subst AreRows (sym all) (rows_with_bands c.args.sign _ _ _ _ _ c.loop-number.invariant.so_far (c.in_default.ensures.none refl))
+    let all = rw (c.in_default.ensures.none refl) at c.loop-part.invariant.rows in
+    rw c.in_ok-push_shared-2.ensures.rows (sum_all_rows _ _ _ _ all)
 
 pub returns-clause-rising : goal.returns-clause-rising
-returns-clause-rising c =
-    all_numbered _ c.loop-number.left.now c.loop-number.right.now _ c.loop-number.invariant.numbers (c.in_default.ensures.none refl)
-    (c.in_ok-push_signed.ensures.numbers ∙ ap (λ ns. ns ++ numbers_of c.loop-number.right.now) c.in_ok-push_shared.ensures.numbers)
+returns-clause-rising c = all_rise c.loop-part.invariant _ c.in_ok-push_shared-2.ensures.numbers
 
 pub returns-clause-weights : goal.returns-clause-weights
 returns-clause-weights c =
-    let all = c.in_ok-push_signed.ensures.rows ∙ ap (λ rs. rs ++ signed c.args.sign (rows_of_bands c.loop-number.right.now)) c.in_ok-push_shared.ensures.rows in
-    subst (HaveRowWeights (weight_in_all (rows_of_bands c.args.left.now) (signed c.args.sign (rows_of_bands c.args.right.now)))) (sym all)
-    (weights_with_rest _ _ _ _ _ c.loop-number.invariant.so_far)
+    let all = rw (c.in_default.ensures.none refl) at c.loop-part.invariant.rows in
+    rw c.in_ok-push_shared-2.ensures.rows (sum_all_weights _ _ _ _ all)

@@ -1,7 +1,7 @@
 use Rattle.std.proofs.Common.{subst, arith}
 use Rattle.std.proofs.lemmas.Int.{ints}
 use Rattle.mf_rows.specs.Bands.{slice_rows, AreAbove}
-use Rattle.mf_rows.proofs.BandRowSums.{others_behind}
+use Rattle.mf_rows.proofs.BandSumSteps.{others_behind}
 use Rattle.mf_rows.proofs.bands.split_rows.Goals as goal
 
 pub returns : goal.returns

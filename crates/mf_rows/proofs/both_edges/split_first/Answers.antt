@@ -1,59 +1,34 @@
-use Rattle.std.proofs.Common.{◌≡◌, ◌≢◌, pos, ◌+ℤ◌, ◌≤ℤ◌, ◌<ℤ◌, arith}
+use Rattle.std.proofs.Common.{arith}
 use Rattle.std.proofs.lemmas.Int.{ints}
 use Rattle.std.proofs.lemmas.List.{nil_from_length}
-use Rattle.mf_rows.proofs.TakenEdges.{first_alone, first_left, first_right, first_here, first_cancelled, first_fit, none_over}
+use Rattle.mf_rows.proofs.TakenEdges.{first_alone, first_of_right, first_taken, none_over}
 use Rattle.mf_rows.proofs.both_edges.split_first.Goals as goal
 use Rattle.mf_rows.proofs.both_edges.split_first.Goals.{in_default-split_first-via-in-Some-split_first+else-first-edge, in_default-split_first-via-in_default-split_first}
 
 pub returns-then-first-edge-2-clause-some : goal.returns-then-first-edge-2-clause-some
 returns-then-first-edge-2-clause-some c =
-    let now = c.loop-edge.invariant in
-    let e = c.in-Some-split_first.first.now in
-    let f = c.in-Some.edge.now in
-    let fit = first_fit _ _ _ now.0 now.1 f _ c.in-Some.ensures.cases.0 e _ c.in-Some-split_first.ensures.cases.0 in
-    let lt : e.x <ℤ f.x = grind (arith, ints, fit.left_x, fit.right_x) in
-    first_left _ _ _ now.0 now.1 f _ c.in-Some.ensures.cases.0 e _ c.in-Some-split_first.ensures.cases.0 lt
+    (first_taken c.loop-edge.invariant c.in-Some-split_first.ensures.cases.0 c.in-Some.ensures.cases.0).left (omega (arith, ints))
 
 pub overflow_add-weight : goal.overflow_add-weight
 overflow_add-weight c =
-    let now = c.loop-edge.invariant in
-    let e = c.in-Some-split_first.first.now in
-    let f = c.in-Some.edge.now in
-    let fit = first_fit _ _ _ now.0 now.1 f _ c.in-Some.ensures.cases.0 e _ c.in-Some-split_first.ensures.cases.0 in
-    rw (fit.left_weight, fit.right_weight) fit.sum
+    (first_taken c.loop-edge.invariant c.in-Some-split_first.ensures.cases.0 c.in-Some.ensures.cases.0).sum
 
 pub returns-then-weight-ne0-clause-some : goal.returns-then-weight-ne0-clause-some
 returns-then-weight-ne0-clause-some c =
-    let now = c.loop-edge.invariant in
-    let e = c.in-Some-split_first.first.now in
-    let f = c.in-Some.edge.now in
-    let fit = first_fit _ _ _ now.0 now.1 f _ c.in-Some.ensures.cases.0 e _ c.in-Some-split_first.ensures.cases.0 in
-    let same : e.x ≡ f.x = grind (arith, ints, fit.left_x, fit.right_x) in
-    let nonzero : (e.weight +ℤ f.weight) ≢ pos 0 = grind (arith, ints, fit.left_weight, fit.right_weight, fit.sum_is) in
-    rw (fit.right_x, fit.left_weight, fit.right_weight, fit.sum_is) (first_here _ _ _ now.0 now.1 f _ c.in-Some.ensures.cases.0 e _ c.in-Some-split_first.ensures.cases.0 same nonzero)
+    (first_taken c.loop-edge.invariant c.in-Some-split_first.ensures.cases.0 c.in-Some.ensures.cases.0).here (omega (arith, ints)) c.if-weight-ne0.true
 
 pub loop-edge-preserved : goal.loop-edge-preserved
 loop-edge-preserved c =
-    let now = c.loop-edge.invariant in
-    let e = c.in-Some-split_first.first.now in
-    let f = c.in-Some.edge.now in
-    let fit = first_fit _ _ _ now.0 now.1 f _ c.in-Some.ensures.cases.0 e _ c.in-Some-split_first.ensures.cases.0 in
-    let same : e.x ≡ f.x = grind (arith, ints, fit.left_x, fit.right_x) in
-    let zero : e.weight +ℤ f.weight ≡ pos 0 = grind (arith, ints, fit.left_weight, fit.right_weight, fit.sum_is) in
-    first_cancelled _ _ _ now.0 now.1 f _ c.in-Some.ensures.cases.0 e _ c.in-Some-split_first.ensures.cases.0 same zero
+    (first_taken c.loop-edge.invariant c.in-Some-split_first.ensures.cases.0 c.in-Some.ensures.cases.0).cancelled (omega (arith, ints)) c.if-weight-ne0.false
 
 pub returns-in_default-split_first-clause-some : goal.returns-in_default-split_first-clause-some
 returns-in_default-split_first-clause-some c =
-    let now = c.loop-edge.invariant in
-    let f = c.in-Some.edge.now in
-    first_right _ _ _ now.0 now.1 f _ c.in-Some.ensures.cases.0
-    (elim c.in_default-split_first.branch [
+    elim c.in_default-split_first.branch [
       | in_default-split_first-via-in-Some-split_first+else-first-edge w ↦
-          let fit = first_fit _ _ _ now.0 now.1 f _ c.in-Some.ensures.cases.0 w.in-Some-split_first.first.now _ w.in-Some-split_first.ensures.cases.0 in
-          let behind : (f.x +ℤ pos 1) ≤ℤ w.in-Some-split_first.first.now.x = grind (arith, ints, fit.left_x, fit.right_x) in
-          rw w.in-Some-split_first.ensures.cases.0 behind
-      | in_default-split_first-via-in_default-split_first w ↦ rw (nil_from_length _ w.in_default-split_first.ensures.cases) tt
-    ])
+          (first_taken c.loop-edge.invariant w.in-Some-split_first.ensures.cases.0 c.in-Some.ensures.cases.0).right
+          (omega (arith, ints, w.if-first-edge.false))
+      | in_default-split_first-via-in_default-split_first w ↦ first_of_right c.loop-edge.invariant (nil_from_length _ w.in_default-split_first.ensures.cases) c.in-Some.ensures.cases.0
+    ]
 
 pub returns-in_err-edge-clause-none : goal.returns-in_err-edge-clause-none
 returns-in_err-edge-clause-none c =
@@ -61,5 +36,4 @@ returns-in_err-edge-clause-none c =
 
 pub returns-clause-some : goal.returns-clause-some
 returns-clause-some c =
-    let now = c.loop-edge.invariant in
-    first_alone _ _ _ now.0 now.1 _ _ (nil_from_length _ c.in_default.ensures.cases) c.in_ok-edge.ensures.cases.0
+    first_alone c.loop-edge.invariant (nil_from_length _ c.in_default.ensures.cases) c.in_ok-edge.ensures.cases.0

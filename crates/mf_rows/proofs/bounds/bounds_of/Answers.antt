@@ -1,8 +1,5 @@
-use Rattle.mf_rows.proofs.PixelBoxes.{no_bounds, row_edges, height_is, bounds_kept, bounds_grown, all_bounds}
+use Rattle.mf_rows.proofs.PixelBoxes.{row_edges, height_is, bounds_kept, bounds_grown}
 use Rattle.mf_rows.proofs.bounds.bounds_of.Goals as goal
-
-pub loop-row-init : goal.loop-row-init
-loop-row-init c = rw (c.into_iter-row-iterator.ensures.into_iter_gives, c.over-row-items.ensures) (no_bounds _ _)
 
 pub columns-requires : goal.columns-requires
 columns-requires c = row_edges _ _ _ _ _ _ c.requires.both c.in-Some.ensures.steps c.loop-row.invariant
@@ -15,6 +12,3 @@ loop-row-preserved-in-Some-columns c =
 pub loop-row-preserved : goal.loop-row-preserved
 loop-row-preserved c =
     bounds_kept _ _ _ _ _ _ c.requires.both c.in-Some.ensures.steps c.loop-row.invariant c.in_default.ensures.none
-
-pub returns : goal.returns
-returns c = all_bounds _ _ _ _ c.in-None.ensures.steps.0 c.loop-row.invariant

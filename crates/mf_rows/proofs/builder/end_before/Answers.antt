@@ -1,25 +1,23 @@
 use Rattle.std.proofs.Common.{◌≤◌, ◌<ℤ◌, length, arith, rules}
+use Rattle.std.proofs.lemmas.Bool.Decides.{Decides-like}
 use Rattle.std.proofs.lemmas.List.{nil_from_length}
 use Rattle.std.proofs.lemmas.List.Elements.{All-nil}
 use Rattle.mf_rows.specs.Dots.{place}
-use Rattle.mf_rows.proofs.BuildingLemmas.{IsLastRow, last_open_row, before_from_last, last_ends_before}
+use Rattle.mf_rows.proofs.BuildingLemmas.{last_row, last_open_row, pixels_before, ends_before_from_pixels}
 use Rattle.mf_rows.proofs.EdgeRowsLemmas.{picture_of_rows-none}
 use Rattle.mf_rows.proofs.builder.end_before.Goals as goal
 
 pub ends_before-requires : goal.ends_before-requires
 ends_before-requires c =
     let item = c.in-Some.ensures.item in
-    (last_open_row c.args.rows.now c.in-Some.row.now c.requires.rows (record { some = item.3.0; here = item.1 })).edges
+    (last_open_row _ _ c.requires.rows (last_row _ c.in-Some.row.now item.3.0 item.1)).edges
 
 pub returns-in-Some : goal.returns-in-Some
 returns-in-Some c =
-    let rows = c.args.rows.now in
-    let last = c.in-Some.row.now in
-    let run = c.args.run.now in
-    let is_last : IsLastRow rows last = let item = c.in-Some.ensures.item in record { some = item.3.0; here = item.1 } in (
-      λ test. before_from_last rows last run c.requires.rows c.requires.run is_last (c.ends_before.ensures.0 test),
-      λ before. c.ends_before.ensures.1 (last_ends_before rows last run c.requires.rows c.requires.run is_last before),
-    )
+    let item = c.in-Some.ensures.item in
+    let is_last = last_row c.args.rows.now c.in-Some.row.now item.3.0 item.1 in
+    Decides-like _ (pixels_before _ _ _ _ is_last.all c.requires.rows c.requires.run)
+    (ends_before_from_pixels _ _ _ _ is_last.all c.requires.rows c.requires.run) c.ends_before.ensures
 
 -- where there is no row there is no pixel
 pub returns-in-None : goal.returns-in-None

@@ -4,8 +4,7 @@ use Rattle.std.proofs.lemmas.Int.{ints}
 use Rattle.std.proofs.lemmas.List.{nil_from_length}
 use Rattle.std.proofs.lemmas.Result.{on_ok_weaker}
 use Rattle.mf_rows.specs.EdgeRows.{EdgeRow}
-use Rattle.mf_rows.proofs.StripsLemmas.{no_strip}
-use Rattle.mf_rows.proofs.StripCopies.{strip_below}
+use Rattle.mf_rows.proofs.StripsLemmas.{no_strip, strip_below}
 use Rattle.mf_rows.proofs.corner.push_strip.Goals.{then-is_empty-via-then-is_empty, then-is_empty-via-else-is_empty+then-bottom-top}
 use Rattle.mf_rows.proofs.corner.push_strip.Goals as goal
 
@@ -22,7 +21,7 @@ returns-then-edges-gt-MANY_EDGES c =
     let bottom : to_z w32 (of_z w32 c.args.bottom) ≡ c.args.bottom = omega (arith, ints) in
     let some : c.args.edges.now ≢ [] = λ none. false≢true (sym c.if-is_empty.false ∙ c.is_empty.ensures ∙ rw none) in
     let below : c.args.bottom <ℤ c.args.top = omega (arith, ints, c.if-bottom-top.false, c.requires.order) in
-    let kept : c.row_in_reach.result.edges.now ≡ c.args.edges.now = ap (λ (r : EdgeRow). r.edges) c.row_in_reach.ensures ∙ c.in_ok-kept.ensures in
+    let kept : c.row.result.edges.now ≡ c.args.edges.now = ap (λ (r : EdgeRow). r.edges) c.row.ensures ∙ c.in_ok-kept.ensures in
     let pushed = rw (top, bottom, kept) at c.push_copies.ensures in
     on_ok_weaker c.push_copies.result
     (λ all. rw all (strip_below _ _ _ _ c.requires.rows c.requires.bottom below c.requires.top some (c.requires.edges below))) pushed

@@ -1,15 +1,15 @@
-use Rattle.std.proofs.Common.{◌≡◌, ◌+◌, pos, [], drop, get_or, sym, ap, ◌∙◌, rules}
+use Rattle.std.proofs.Common.{◌≡◌, pos, [], drop, ◌∙◌, rules}
 use Rattle.std.specs.List.Sorted.{IsPermutation, IsSortedBy}
 use Rattle.std.specs.Ordering.{int_cmp, is_lt}
 use Rattle.std.proofs.lemmas.List.{drop_all}
-use Rattle.std.proofs.lemmas.List.Elements.{All-head, All-tail}
 use Rattle.std.proofs.lemmas.List.Sorted.{answers_always}
 use Rattle.mf_rows.specs.declared.corner.Corner.{Corner}
-use Rattle.mf_rows.specs.Corners.{AreCorners, IsCorner}
-use Rattle.mf_rows.specs.Strips.{first_height_of}
-use Rattle.mf_edges.specs.Sums.{HaveWeights, with_edge_in}
-use Rattle.mf_rows.proofs.CornersLemmas.{swept_none, swept_at, swept_edges, swept_more, swept_all, level_in_field, level_order, level_edges, corner_read_back, height_read_back, corners_permuted, added_by_permuted, falling_from_sorted}
+use Rattle.mf_rows.proofs.CornersLemmas.{swept_none, swept_edges, swept_all, corner_read, corner_weight_is_lawful, level, corners_permuted, added_by_permuted, falling_from_sorted}
 use Rattle.mf_rows.proofs.corner.rows_of_corners.Goals as goal
+
+-- a corner in place of one outside the list
+abbrev any : Corner
+any = record { x = pos 0; y = pos 0; weight = pos 0 }
 
 pub loop-place-init : goal.loop-place-init
 loop-place-init c =
@@ -22,68 +22,26 @@ loop-place-init c =
 
 pub add_edge-requires : goal.add_edge-requires
 add_edge-requires c =
-    let all = c.deref-corner-items.result.now in
-    let any : Corner = record { x = pos 0; y = pos 0; weight = pos 0 } in
-    let k = get_or all c.loop-place.place any in
-    let swept = swept_at all c.loop-place.place any _ _ c.loop-place-test.true c.loop-place.invariant in
-    let corner = All-head IsCorner k _ swept.corners in
-    let read = corner_read_back k corner in
-    record {
-      edges = swept_edges _ _ _ _ c.loop-place.invariant;
-      left = rw read.x corner.left;
-      right = rw read.x corner.right;
-      weight = rw read.weight read.lawful;
-    }
+    let corner = corner_read c.deref-corner-items.result.now c.loop-place.place any _ _ c.loop-place-test.true c.loop-place.invariant in
+    let weight = corner_weight_is_lawful _ corner.weight in
+    record { edges = swept_edges _ _ _ _ c.loop-place.invariant; left = corner.left; right = corner.right; weight = weight }
 
 pub push_strip-requires : goal.push_strip-requires
 push_strip-requires c =
+    let next = rw (c.deref-in-loop-place.ensures.value, ← c.deref-corner-items.ensures.value) at c.next_height-next.ensures in
+    let edges = c.in_ok-add_edge.ensures in
     let all = c.deref-corner-items.result.now in
-    let place = c.loop-place.place in
-    let any : Corner = record { x = pos 0; y = pos 0; weight = pos 0 } in
-    let k = get_or all place any in
-    let left = drop (place + 1) all in
-    let swept = swept_at all place any _ _ c.loop-place-test.true c.loop-place.invariant in
-    let corner = All-head IsCorner k left swept.corners in
-    let read = corner_read_back k corner in
-    let same = c.deref-in-loop-place.ensures.value ∙ sym c.deref-corner-items.ensures.value in
-    let next =
-    height_read_back left c.next_height-next.result (All-tail IsCorner k left swept.corners)
-    (c.next_height-next.ensures ∙ ap (λ ks. first_height_of (drop (place + 1) ks)) same) in
-    let corners : AreCorners all =
-    rw c.deref-corner-items.ensures.value
-    (corners_permuted c.args.corners.items c.sort_by_key.new.self.items c.sort_by_key.ensures.permutation c.requires) in
-    let added : HaveWeights (with_edge_in c.loop-place.edges.items k.x k.weight) c.add_edge.new.edges.items =
-    rw (read.x, read.weight) at c.in_ok-add_edge.ensures.weights in
-    let sorted = c.in_ok-add_edge.ensures.sorted in
-    record {
-      bottom = rw next (level_in_field all k left _ _ _ corners swept sorted added);
-      order = rw (next, read.y) (level_order all k left _ _ _ corners swept sorted added);
-      top = rw read.y corner.top;
-      edges = rw (next, read.y, c.deref-in-loop-place-2.ensures.value) (level_edges all k left _ _ _ corners swept sorted added);
-      rows = rw read.y swept.rows;
-    }
+    let made = level all c.loop-place.place any _ _ c.loop-place-test.true c.loop-place.invariant _ edges.sorted edges.weights _ next in
+    rw c.deref-in-loop-place-2.ensures.value
+    (record { bottom = made.bottom; order = made.order; top = made.top; edges = made.edges; rows = made.rows })
 
 pub loop-place-preserved : goal.loop-place-preserved
 loop-place-preserved c =
+    let next = rw (c.deref-in-loop-place.ensures.value, ← c.deref-corner-items.ensures.value) at c.next_height-next.ensures in
+    let edges = c.in_ok-add_edge.ensures in
     let all = c.deref-corner-items.result.now in
-    let place = c.loop-place.place in
-    let any : Corner = record { x = pos 0; y = pos 0; weight = pos 0 } in
-    let k = get_or all place any in
-    let left = drop (place + 1) all in
-    let swept = swept_at all place any _ _ c.loop-place-test.true c.loop-place.invariant in
-    let corner = All-head IsCorner k left swept.corners in
-    let read = corner_read_back k corner in
-    let same = c.deref-in-loop-place.ensures.value ∙ sym c.deref-corner-items.ensures.value in
-    let next =
-    height_read_back left c.next_height-next.result (All-tail IsCorner k left swept.corners)
-    (c.next_height-next.ensures ∙ ap (λ ks. first_height_of (drop (place + 1) ks)) same) in
-    let corners : AreCorners all =
-    rw c.deref-corner-items.ensures.value
-    (corners_permuted c.args.corners.items c.sort_by_key.new.self.items c.sort_by_key.ensures.permutation c.requires) in
-    let added : HaveWeights (with_edge_in c.loop-place.edges.items k.x k.weight) c.add_edge.new.edges.items =
-    rw (read.x, read.weight) at c.in_ok-add_edge.ensures.weights in
-    let strip = rw (next, read.y, c.deref-in-loop-place-2.ensures.value) at c.in_ok-push_strip.ensures in
-    swept_more all k left _ _ _ corners swept c.in_ok-add_edge.ensures.sorted added _ strip
+    let made = level all c.loop-place.place any _ _ c.loop-place-test.true c.loop-place.invariant _ edges.sorted edges.weights _ next in
+    made.more _ (rw c.deref-in-loop-place-2.ensures.value at c.in_ok-push_strip.ensures)
 
 pub returns : goal.returns
 returns c =

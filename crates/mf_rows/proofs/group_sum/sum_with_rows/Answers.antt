@@ -1,6 +1,7 @@
 use Rattle.std.proofs.Common.{arith}
 use Rattle.std.proofs.lemmas.Result.{err_from_is_err_and}
 use Rattle.mf_rows.specs.Bands.{slice_rows}
+use Rattle.mf_rows.proofs.AddendsLemmas.{rows_are_added}
 use Rattle.mf_rows.proofs.GroupsLemmas.{rows_in_place_are_rows}
 use Rattle.mf_rows.proofs.GroupsMade.{lawful_from, own_is_layer}
 use Rattle.mf_rows.proofs.GroupSums.{added_none, added_more, unlawful_in_place, added_all, added_before}
@@ -13,24 +14,24 @@ loop-place-init c = rw (c.in_ok-reserve.ensures.items, c.new-sum.ensures.items) 
 pub split_rows_at_place-requires-clause-rows : goal.split_rows_at_place-requires-clause-rows
 split_rows_at_place-requires-clause-rows c = lawful_from c.loop-place.place _ c.loop-place.invariant.left
 
-pub sum_with_own-requires-clause-group : goal.sum_with_own-requires-clause-group
-sum_with_own-requires-clause-group c = rw c.group_at.ensures (rows_in_place_are_rows c.args.groups.now _ c.requires.groups)
+pub sum_with-requires-clause-group : goal.sum_with-requires-clause-group
+sum_with-requires-clause-group c = rw c.group_at.ensures (rows_in_place_are_rows c.args.groups.now _ c.requires.groups)
 
-pub sum_with_own-requires-clause-rows : goal.sum_with_own-requires-clause-rows
-sum_with_own-requires-clause-rows c =
-    lawful_from c.loop-place.place _ (own_is_layer c.loop-place.place _ _ _ c.loop-place.invariant.left c.split_rows_at_place.ensures).rows
+pub sum_with-requires-clause-added : goal.sum_with-requires-clause-added
+sum_with-requires-clause-added c =
+    rows_are_added c.split_rows_at_place.result.0 (lawful_from c.loop-place.place _ (own_is_layer c.loop-place.place _ _ _ c.loop-place.invariant.left c.split_rows_at_place.ensures).rows)
 
-pub returns-in_err-sum_with_own-clause-too_large : goal.returns-in_err-sum_with_own-clause-too_large
-returns-in_err-sum_with_own-clause-too_large c =
-    let p = err_from_is_err_and c.from_residual-in_err-sum_with_own.result c.from_residual-in_err-sum_with_own.ensures.1 in
+pub returns-in_err-sum_with-clause-too_large : goal.returns-in_err-sum_with-clause-too_large
+returns-in_err-sum_with-clause-too_large c =
+    let p = err_from_is_err_and c.from_residual-in_err-sum_with.result c.from_residual-in_err-sum_with.ensures.1 in
     rw (p.1, p.2) (λ fault. unlawful_in_place c.loop-place.place _ _ _ _ _ _ c.requires.groups c.loop-place.invariant c.split_rows_at_place.ensures
-    (rw c.group_at.ensures at c.in_err-sum_with_own.ensures.too_large fault))
+    (rw c.group_at.ensures at c.in_err-sum_with.ensures.too_large fault))
 
 pub loop-place-preserved : goal.loop-place-preserved
 loop-place-preserved c =
     rw c.in_ok-push.ensures.items
-    (added_more c.loop-place.place _ _ _ _ _ _ c.requires.groups c.loop-place.invariant c.split_rows_at_place.ensures _ c.in_ok-sum_with_own.ensures.rows
-    (rw c.group_at.ensures at c.in_ok-sum_with_own.ensures.weights))
+    (added_more c.loop-place.place _ _ _ _ _ _ c.requires.groups c.loop-place.invariant c.split_rows_at_place.ensures _ c.in_ok-sum_with.ensures.rows
+    (rw c.group_at.ensures at c.in_ok-sum_with.ensures.weights))
 
 pub returns-clause-groups : goal.returns-clause-groups
 returns-clause-groups c = record { layers = c.loop-place.invariant.layers }

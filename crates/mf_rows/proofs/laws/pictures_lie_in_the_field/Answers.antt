@@ -12,7 +12,7 @@ pub returns-clause-lawful : goal.returns-clause-lawful
 returns-clause-lawful c ds x y picture = lawful_weight_at ds x y (dots_from-lawful start_of_field ds picture.dots)
 
 pub returns-clause-runs : goal.returns-clause-runs
-returns-clause-runs c ds picture = lawful_runs_of ds (dots_from-lawful start_of_field ds picture.dots)
+returns-clause-runs c = lawful_runs_of
 
 pub returns-clause-bounds : goal.returns-clause-bounds
 returns-clause-bounds c = bounds_in_field

@@ -8,29 +8,42 @@ loop-down-init c = record { copies = heads_none _ _; least = omega (arith, ints)
 
 pub returns-in_err-push-clause-heads : goal.returns-in_err-push-clause-heads
 returns-in_err-push-clause-heads c = λ edges row heads placed reached.
-    rw c.in_err-push.ensures.items (c.loop-down.invariant.copies.heads edges row heads placed reached)
+    let reach_is : to_z w32 (of_z w32 c.args.reach) ≡ c.args.reach = omega (arith, ints) in
+    rw c.in_err-push.ensures.items (c.loop-down.invariant.copies.heads edges row heads placed (rw reach_is reached))
 
 -- the next head is below those that are there, and has their place
 pub loop-down-preserved : goal.loop-down-preserved
 loop-down-preserved c =
     let top : to_z w32 (of_z w32 c.args.top) ≡ c.args.top = omega (arith, ints) in
     let bottom : to_z w32 (of_z w32 c.args.bottom) ≡ c.args.bottom = omega (arith, ints) in
+    let reach : to_z w32 (of_z w32 c.args.reach) ≡ c.args.reach = omega (arith, ints) in
     let down = to_z w32 c.loop-down.down-bits in
     let bound : (down +ℤ pos 1) ≤ℤ (c.args.top -ℤ c.args.bottom) = omega (arith, ints, c.loop-down-test.true, c.requires) in
     let place = next_place c.args.bottom c.args.top down c.requires.bottom c.requires.top c.loop-down.invariant.least bound in
-    let so_far = rw (top, bottom) at c.loop-down.invariant.copies in
+    let so_far = rw (top, bottom, reach) at c.loop-down.invariant.copies in
     record {
-      copies = rw (top, bottom, place.more, c.in_ok-push.ensures.items, top, place.row)
+      copies = rw (top, bottom, reach, place.more, c.in_ok-push.ensures.items, top, place.row, reach)
           (heads_more c.args.heads.now.items (record { reach = c.args.reach; place = c.args.place.now; bottom = c.args.bottom; top = c.args.top }) down c.loop-down.heads.items bound so_far
           c.in_ok-share.field-0 c.in_ok-share.ensures);
       least = rw place.more place.least;
       greatest = rw (place.more, top, bottom) bound;
     }
 
+pub returns-in_err-share-clause-heads : goal.returns-in_err-share-clause-heads
+returns-in_err-share-clause-heads c = λ edges row heads placed reached.
+    let reach_is : to_z w32 (of_z w32 c.args.reach) ≡ c.args.reach = omega (arith, ints) in
+    c.loop-down.invariant.copies.heads edges row heads placed (rw reach_is reached)
+
+pub returns-clause-heads : goal.returns-clause-heads
+returns-clause-heads c = λ edges row heads placed reached.
+    let reach_is : to_z w32 (of_z w32 c.args.reach) ≡ c.args.reach = omega (arith, ints) in
+    c.loop-down.invariant.copies.heads edges row heads placed (rw reach_is reached)
+
 pub returns-clause-rows : goal.returns-clause-rows
 returns-clause-rows c =
     let top : to_z w32 (of_z w32 c.args.top) ≡ c.args.top = omega (arith, ints) in
     let bottom : to_z w32 (of_z w32 c.args.bottom) ≡ c.args.bottom = omega (arith, ints) in
+    let reach : to_z w32 (of_z w32 c.args.reach) ≡ c.args.reach = omega (arith, ints) in
     let end : c.args.top -ℤ c.args.bottom ≡ to_z w32 c.loop-down.down-bits =
     omega (arith, ints, c.loop-down-test.false, c.loop-down.invariant.greatest, c.requires) in
-    heads_all _ (record { reach = c.args.reach; place = c.args.place.now; bottom = c.args.bottom; top = c.args.top }) (to_z w32 c.loop-down.down-bits) _ end (rw (top, bottom) at c.loop-down.invariant.copies)
+    heads_all _ (record { reach = c.args.reach; place = c.args.place.now; bottom = c.args.bottom; top = c.args.top }) (to_z w32 c.loop-down.down-bits) _ end (rw (top, bottom, reach) at c.loop-down.invariant.copies)

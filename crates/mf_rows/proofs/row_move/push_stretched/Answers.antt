@@ -1,33 +1,32 @@
-use Rattle.std.proofs.Common.{◌≡◌, to_z, of_z, w32, arith}
+use Rattle.std.proofs.Common.{◌≡◌, ◌-ℤ◌, ◌+ℤ◌, arith}
 use Rattle.std.proofs.lemmas.Int.{ints}
 use Rattle.std.proofs.lemmas.Result.{on_ok_weaker}
-use Rattle.mf_rows.proofs.RowStretches.{product_fits, strip_place}
+use Rattle.mf_edges.specs.Axes.{target_of}
+use Rattle.mf_rows.proofs.RowStretches.{strip_place}
 use Rattle.mf_rows.proofs.row_move.push_stretched.Goals as goal
 
 pub overflow_mul-bottom : goal.overflow_mul-bottom
-overflow_mul-bottom c =
-    product_fits c.args.row.y c.args.stretch.now.factor c.requires.bottom c.requires.top c.requires.stretch.least c.requires.stretch.greatest
+overflow_mul-bottom c = (strip_place (omega (arith, ints)) c.requires.stretch c.requires.bottom c.requires.top c.requires.allowed).fits
 
 pub overflow_add-bottom : goal.overflow_add-bottom
 overflow_add-bottom c =
-    let offset : to_z w32 (of_z w32 c.args.stretch.now.offset) ≡ c.args.stretch.now.offset = omega (arith, ints) in
-    (strip_place c.args.stretch.now c.args.row.y c.requires.stretch c.requires.bottom c.requires.top c.requires.allowed offset).bottom_fits
+    let place = strip_place (omega (arith, ints)) c.requires.stretch c.requires.bottom c.requires.top c.requires.allowed in
+    rw place.product (omega (arith, ints, c.requires.allowed.start))
 
 pub overflow_add-bottom-2 : goal.overflow_add-bottom-2
 overflow_add-bottom-2 c =
-    let offset : to_z w32 (of_z w32 c.args.stretch.now.offset) ≡ c.args.stretch.now.offset = omega (arith, ints) in
-    let place = strip_place c.args.stretch.now c.args.row.y c.requires.stretch c.requires.bottom c.requires.top c.requires.allowed offset in
-    rw place.bottom place.top_fits
+    let place = strip_place (omega (arith, ints)) c.requires.stretch c.requires.bottom c.requires.top c.requires.allowed in
+    rw (place.product, place.bottom) (omega (arith, ints, c.requires.allowed.start, c.requires.stretch))
 
 pub push_copies-requires : goal.push_copies-requires
 push_copies-requires c =
-    let offset : to_z w32 (of_z w32 c.args.stretch.now.offset) ≡ c.args.stretch.now.offset = omega (arith, ints) in
-    let place = strip_place c.args.stretch.now c.args.row.y c.requires.stretch c.requires.bottom c.requires.top c.requires.allowed offset in
-    rw (place.bottom, place.top) (record { bottom = c.requires.allowed.start.least; order = place.order; top = place.end })
+    let place = strip_place (omega (arith, ints)) c.requires.stretch c.requires.bottom c.requires.top c.requires.allowed in
+    rw (place.product, place.bottom, place.top)
+    (record { bottom = c.requires.allowed.start.least; order = omega (arith, ints, c.requires.stretch); top = place.end })
 
 pub returns : goal.returns
 returns c =
-    let offset : to_z w32 (of_z w32 c.args.stretch.now.offset) ≡ c.args.stretch.now.offset = omega (arith, ints) in
-    let place = strip_place c.args.stretch.now c.args.row.y c.requires.stretch c.requires.bottom c.requires.top c.requires.allowed offset in
-    let pushed = rw (place.bottom, place.top, place.size) at c.push_copies.ensures in
-    on_ok_weaker c.push_copies.result (λ all. record { all = all }) pushed
+    let place = strip_place (omega (arith, ints)) c.requires.stretch c.requires.bottom c.requires.top c.requires.allowed in
+    let bottom = target_of c.args.stretch.now c.args.row.y in
+    let size : (bottom +ℤ c.args.stretch.now.factor) -ℤ bottom ≡ c.args.stretch.now.factor = omega (arith, ints) in
+    on_ok_weaker c.push_copies.result (λ all. record { all = all }) (rw (place.product, place.bottom, place.top, size) at c.push_copies.ensures)

@@ -1,6 +1,5 @@
 use Rattle.std.proofs.lemmas.Result.{err_from_is_err_and}
-use Rattle.mf_rows.proofs.EdgeRowsLemmas.{lawful_picture_of_rows}
-use Rattle.mf_rows.proofs.PictureRows.{weights_with_sum, unlawful_with_sum, weights_with_corners, unlawful_with_corners}
+use Rattle.mf_rows.proofs.PictureRows.{unlawful_with_sum, unlawful_with_corners}
 use Rattle.mf_rows.proofs.picture.Picture.add_corners.Goals as goal
 
 pub returns-in_err-add_rows-clause-too_large : goal.returns-in_err-add_rows-clause-too_large
@@ -10,13 +9,3 @@ returns-in_err-add_rows-clause-too_large c =
     let p = err_from_is_err_and c.from_residual-in_err-add_rows.result c.from_residual-in_err-add_rows.ensures.1 in
     rw (p.1, p.2, ← c.self.view_is)
     (λ fault. unlawful_with_corners _ _ added.rows added.weights (unlawful_with_sum _ _ c.self.invariant added.rows (unlawful fault)))
-
-pub returns-clause-weights : goal.returns-clause-weights
-returns-clause-weights c =
-    let added = c.in_ok-rows.ensures in
-    let weights = rw c.of.ensures at c.in_ok-add_rows.ensures.weights in
-    rw (← c.self.view_is)
-    (weights_with_corners _ _ added.rows added.weights (weights_with_sum _ _ _ c.self.invariant added.rows c.in_ok-add_rows.ensures.rows weights))
-
-pub returns-clause-lawful : goal.returns-clause-lawful
-returns-clause-lawful c = lawful_picture_of_rows _ c.in_ok-add_rows.ensures.rows

@@ -1,19 +1,9 @@
-use Rattle.std.proofs.Common.{◌≡◌}
-use Rattle.std.proofs.lemmas.Result.{IfOk-weaker}
-use Rattle.mf_rows.specs.Bands.{edge_rows}
-use Rattle.mf_rows.specs.EdgeRows.{picture_of_rows}
-use Rattle.mf_rows.specs.Moves.{column_mirror_at}
-use Rattle.mf_rows.specs.Sums.{HasWeights}
-use Rattle.mf_rows.proofs.PictureRows.{weights_of_columns_mirrored}
-use Rattle.mf_rows.proofs.PictureGroups.{pictured}
+use Rattle.mf_rows.proofs.PictureRows.{image_made, columns_mirrored}
 use Rattle.mf_rows.proofs.picture.Picture.mirror_columns.Goals as goal
 
 pub returns-clause-weights : goal.returns-clause-weights
 returns-clause-weights c =
-    let mirrored = c.in_ok-changed.changed in
-    let weights = rw c.deref-2.ensures.value at c.in_ok-changed.ensures.weights in
-    let has =
-    rw (pictured _ c.in_ok-groups.groups.items _ (rw c.deref.ensures.value at c.in_ok-rows.ensures.all) c.in_ok-groups.ensures.picture) at (weights_of_columns_mirrored (edge_rows c.in_ok-rows.rows.items) mirrored c.in_ok-rows.ensures.rows
-    c.in_ok-changed.ensures.rows weights) in
-    IfOk-weaker c.from_rows.result (λ picture. picture ≡ picture_of_rows mirrored) (HasWeights (column_mirror_at c.args.self.now))
-    (λ picture is. rw is has) c.from_rows.ensures.value
+    let rows = c.in_ok-rows.ensures in
+    let made = c.in_ok-changed.ensures in
+    image_made c.from_rows.result columns_mirrored rows.rows (rw c.deref.ensures.value at rows.all) c.in_ok-groups.ensures.picture made.rows
+    (rw c.deref-2.ensures.value at made.weights) c.from_rows.ensures.value

@@ -1,6 +1,6 @@
 use Rattle.std.proofs.Common.{◌≡◌, sym, ◌∙◌, to_z, of_z, w32, arith}
 use Rattle.std.proofs.lemmas.Int.{ints}
-use Rattle.mf_rows.proofs.EdgeRowsLemmas.{lawful_picture_of_rows, weight_at-picture_of_rows}
+use Rattle.mf_rows.proofs.EdgeRowsLemmas.{weight_at-picture_of_rows}
 use Rattle.mf_rows.proofs.picture.Picture.weight.Goals as goal
 
 pub returns-clause-weight : goal.returns-clause-weight
@@ -9,6 +9,3 @@ returns-clause-weight c =
     let y : to_z w32 (of_z w32 c.args.y) ≡ c.args.y = omega (arith, ints) in
     let weight : to_z w32 (of_z w32 c.weight.result) ≡ c.weight.result = omega (arith, ints) in
     rw (weight, ← c.self.view_is) ((rw (x, y) at c.weight.ensures.weight) ∙ sym (weight_at-picture_of_rows _ c.args.x c.args.y c.self.invariant))
-
-pub returns-clause-lawful : goal.returns-clause-lawful
-returns-clause-lawful c = rw c.self.view_is at (lawful_picture_of_rows _ c.self.invariant)

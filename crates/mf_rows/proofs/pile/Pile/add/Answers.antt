@@ -1,6 +1,6 @@
 use Rattle.std.proofs.lemmas.Result.{err_from_is_err_and}
 use Rattle.mf_rows.proofs.GroupsLemmas.{rows_of_groups_are_rows}
-use Rattle.mf_rows.proofs.PilesLemmas.{are_piled_apart, piled_apart, piled_rows, reach_fits, reach_is_no_less, stay_in_pile, stay_in_same, stay_in_sum, sum_through, unlawful_through_both}
+use Rattle.mf_rows.proofs.PilesLemmas.{are_piled_apart, piled_apart, piled_rows, reach_fits, reach_is_no_less, stay_as, stay_in_pile, stay_in_sum, sum_through, unlawful_through_both}
 use Rattle.mf_rows.proofs.SignsLemmas.{signed_reach, signed_same}
 use Rattle.mf_rows.proofs.pile.Pile.add.Goals as goal
 
@@ -23,8 +23,8 @@ reach_of_sum-self-inside-requires-clause-right c =
 pub invariant_of-self : goal.invariant_of-self
 invariant_of-self c =
     let weights = rw (c.deref.ensures.value, c.deref-2.ensures.value) at c.in_ok-sum.ensures.weights in
-    let left = stay_in_same _ _ _ (rw c.self.view_is at (stay_in_pile _ _ _ c.self.invariant)) c.in_ok-groups.ensures.weights in
-    let right = stay_in_same _ _ _ (rw c.other.view_is at (stay_in_pile _ _ _ c.other.invariant)) c.in_ok-others.ensures.weights in
+    let left = stay_as (rw c.self.view_is at (stay_in_pile _ _ _ c.self.invariant)) c.in_ok-groups.ensures.weights.weights in
+    let right = stay_as (rw c.other.view_is at (stay_in_pile _ _ _ c.other.invariant)) c.in_ok-others.ensures.weights.weights in
     let of_sum = rw (reach_fits _ _ c.self.invariant.reached, reach_fits _ _ c.other.invariant.reached) at c.reach_of_sum-self-inside.ensures in
     let stay = stay_in_sum _ _ _ _ _ _ left (signed_reach c.args.sign _ _ right) (rows_of_groups_are_rows _ c.in_ok-sum.ensures.groups) weights of_sum in
     let apart = c.keep_apart-older.ensures in

@@ -2,7 +2,7 @@ use Rattle.std.proofs.Common.{refl, ◌∙◌, ap}
 use Rattle.std.proofs.lemmas.Result.{err_from_is_err_and}
 use Rattle.mf_rows.specs.EdgeRows.{picture_of_rows}
 use Rattle.mf_rows.proofs.PictureGroups.{same_picture}
-use Rattle.mf_rows.proofs.PilesLemmas.{are_piled_apart, piled_apart, piled_rows, reach_fits, weights_through, unlawful_through}
+use Rattle.mf_rows.proofs.PilesLemmas.{are_piled_apart, piled_apart, piled_rows, reach_fits, same_rows, sum_through, unlawful_through_both}
 use Rattle.mf_rows.proofs.SettledGroups.{piled_same, rows_same, rows_settled}
 use Rattle.mf_rows.proofs.pile.Pile.add_and_measure.Goals as goal
 
@@ -31,7 +31,7 @@ returns-in_err-sum-clause-too_large c =
     let p = err_from_is_err_and c.from_residual-in_err-sum.result c.from_residual-in_err-sum.ensures.1 in
     let unlawful = rw c.deref.ensures.value at c.in_err-sum.ensures.too_large in
     let same = rw c.self.view_is at (rows_settled _ _ _ _ (c.in_ok-take_up.ensures.none refl) c.in_ok-take_up.ensures.weights) in
-    rw (p.1, p.2) (λ fault. unlawful_through _ _ _ same (unlawful fault))
+    rw (p.1, p.2) (λ fault. unlawful_through_both _ _ _ _ same (same_rows _) (unlawful fault))
 
 pub invariant_of-self-2 : goal.invariant_of-self-2
 invariant_of-self-2 c =
@@ -44,7 +44,7 @@ returns-clause-weights c =
     let weights = rw c.deref.ensures.value at c.in_ok-sum.ensures.weights in
     let same = rw c.self.view_is at (rows_settled _ _ _ _ (c.in_ok-take_up.ensures.none refl) c.in_ok-take_up.ensures.weights) in
     piled_apart _ c.keep_apart-older.result.0.items c.keep_apart-older.result.1.items c.in_ok-sum.sum.items c.keep_apart-older.ensures.weights
-    (weights_through _ _ _ _ same weights)
+    (sum_through _ _ _ _ _ same (same_rows _) weights)
 
 pub returns-clause-rows : goal.returns-clause-rows
 returns-clause-rows c = piled_rows _ _ _ (invariant_of-self-2 c)

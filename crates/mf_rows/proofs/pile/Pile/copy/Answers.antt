@@ -1,6 +1,6 @@
-use Rattle.std.proofs.Common.{◌≡◌, to_z, of_z, w32, ◌∙◌, arith}
+use Rattle.std.proofs.Common.{◌≡◌, to_z, of_z, w32, arith}
 use Rattle.std.proofs.lemmas.Int.{ints}
-use Rattle.mf_rows.proofs.PilesLemmas.{piled_as, same_piled}
+use Rattle.mf_rows.proofs.PilesLemmas.{piled_as}
 use Rattle.mf_rows.proofs.pile.Pile.copy.Goals as goal
 
 pub invariant_of-result : goal.invariant_of-result
@@ -9,9 +9,3 @@ invariant_of-result c =
     let groups = rw c.deref.ensures.value at c.in_ok-share.ensures in
     let recent = rw c.deref-2.ensures.value at c.in_ok-share-2.ensures in
     rw reach (piled_as _ _ _ _ _ groups recent c.self.invariant)
-
-pub returns : goal.returns
-returns c =
-    let groups = rw c.deref.ensures.value at c.in_ok-share.ensures in
-    let recent = rw c.deref-2.ensures.value at c.in_ok-share-2.ensures in
-    same_piled _ _ _ _ groups recent ∙ c.self.view_is

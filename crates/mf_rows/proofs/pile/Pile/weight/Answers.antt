@@ -12,17 +12,7 @@ returns-clause-weight c =
     let older = rw (c.deref.ensures.value, x, y) at c.weight_in_groups.ensures.weight in
     let newer = rw (c.deref-2.ensures.value, x, y) at c.weight_in_groups-2.ensures.weight in
     let both = weight_in_rows-both (rows_of_groups c.self.inside.groups.items) (rows_of_groups c.self.inside.older.items) c.args.x c.args.y in
-    rw (← c.self.view_is) (omega (
-      arith,
-      ints,
-      older,
-      newer,
-      both,
-      c.weight_in_groups.ensures.lawful.least,
-      c.weight_in_groups.ensures.lawful.greatest,
-      c.weight_in_groups-2.ensures.lawful.least,
-      c.weight_in_groups-2.ensures.lawful.greatest,
-    ))
+    rw (← c.self.view_is) (omega (arith, ints))
 
 pub returns-clause-rows : goal.returns-clause-rows
 returns-clause-rows c = rw c.self.view_is at (piled_rows _ _ _ c.self.invariant)

@@ -1,6 +1,7 @@
 use Rattle.std.proofs.Common.{◌≡◌, to_z, of_z, w32, arith}
 use Rattle.std.proofs.lemmas.Int.{ints}
 use Rattle.std.proofs.lemmas.Result.{err_from_is_err_and}
+use Rattle.mf_edges.proofs.ReachesLemmas.{reach_is}
 use Rattle.mf_rows.proofs.RowListLemmas.{heads_kept, heads_push, rows_push, rows_kept}
 use Rattle.mf_rows.proofs.row_list.RowList.push.Goals as goal
 
@@ -13,7 +14,7 @@ pub invariant_of-self-in_err-push : goal.invariant_of-self-in_err-push
 invariant_of-self-in_err-push c = rw c.in_err-push.ensures.items (heads_kept _ _ c.place_of.ensures.kept _ c.self.invariant)
 
 pub invariant_of-self-2 : goal.invariant_of-self-2
-invariant_of-self-2 c = rw c.in_ok-push.ensures.items (heads_push _ _ c.place_of.ensures.kept _ c.self.invariant _ c.args.row.now.edges.now
+invariant_of-self-2 c = rw (c.in_ok-push.ensures.items, reach_is _ _ c.args.row.now.reached) (heads_push _ _ c.place_of.ensures.kept _ c.self.invariant _ c.args.row.now.edges.now
     c.in_ok-place.ensures.place c.args.row.now.reached)
 
 pub returns-clause-pushed : goal.returns-clause-pushed

@@ -1,5 +1,6 @@
 use Rattle.std.proofs.Common.{◌≡◌, ◌-◌, suc, length, to_z, of_z, w32, arith}
 use Rattle.std.proofs.lemmas.Int.{ints}
+use Rattle.mf_edges.proofs.ReachesLemmas.{reach_is}
 use Rattle.mf_rows.proofs.RowListLemmas.{IsLastHead, is_last, nothing_more, heads_push, rows_push}
 use Rattle.mf_rows.proofs.row_list.RowList.push_again.Goals as goal
 use Rattle.mf_rows.proofs.row_list.RowList.push_again.Goals.{In_ok-push}
@@ -18,7 +19,7 @@ pub invariant_of-self-2 : goal.invariant_of-self-2
 invariant_of-self-2 c =
     let es = c.self.inside.edges.items in
     let is = last c in
-    rw c.in_ok-push.ensures.items
+    rw (c.in_ok-push.ensures.items, reach_is _ _ is.reached)
     (heads_push es es (nothing_more es) _ c.self.invariant _ _ (c.in_ok-place.ensures es _ is.place) is.reached)
 
 pub returns-clause-pushed : goal.returns-clause-pushed

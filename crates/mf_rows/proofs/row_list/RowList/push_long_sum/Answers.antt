@@ -6,6 +6,7 @@ use Rattle.std.proofs.lemmas.Int.{ints}
 use Rattle.std.proofs.lemmas.List.{nil_from_length}
 use Rattle.std.proofs.lemmas.Result.{err_from_is_err_and}
 use Rattle.mf_edges.specs.declared.edge.Edge.{Edge}
+use Rattle.mf_edges.proofs.ReachesLemmas.{reach_is}
 use Rattle.mf_rows.specs.declared.row_list.Head.{Head}
 use Rattle.mf_rows.specs.declared.row_list.Place.TheVariants as place
 use Rattle.mf_rows.specs.Bands.{edge_row}
@@ -13,48 +14,54 @@ use Rattle.mf_rows.proofs.RowListLemmas.{heads_push, rows_push, place_of_own, no
 use Rattle.mf_rows.proofs.RowSums.{unlawful_in_row, sum_of_both-blank, sum_of_both-some}
 use Rattle.mf_rows.proofs.row_list.RowList.push_long_sum.Goals as goal
 
+pub reach_of_sum-requires-clause-sum : goal.reach_of_sum-requires-clause-sum
+reach_of_sum-requires-clause-sum c =
+    let pushed = c.in_ok-push_sum_of_edges.ensures.pushed in
+    rw (c.deref.ensures.value, pushed.all, c.new-edges.ensures.items) pushed.sum
+
 pub returns-in_err-reach-clause-too_large : goal.returns-in_err-reach-clause-too_large
 returns-in_err-reach-clause-too_large c =
-    let p = err_from_is_err_and c.from_residual.result c.from_residual.ensures.1 in
+    let p = err_from_is_err_and c.from_residual-in_err-reach.result c.from_residual-in_err-reach.ensures.1 in
     rw (p.1, p.2) (λ fault. unlawful_in_row c.args.right.now.y (edge_row c.args.left.now) (edge_row c.args.right.now)
     c.requires.left c.requires.right (c.in_err-reach.ensures.too_large fault))
 
 pub returns-then-is_empty-clause-pushed : goal.returns-then-is_empty-clause-pushed
 returns-then-is_empty-clause-pushed c =
-    let sum = c.in_ok-reach.ensures.pushed.sum in
-    let all : c.push_sum_of_both.new.edges.items ≡ sum.more = sum.all ∙ ap (λ (fs : List Edge). fs ++ sum.more) c.new-edges.ensures.items in
-    let none : sum.more ≡ [] =
-    let len : vec_len c.push_sum_of_both.new.edges ≡ 0 = eqb-true (vec_len c.push_sum_of_both.new.edges) 0 (sym c.is_empty.ensures ∙ c.if-is_empty.true) in
+    let pushed = c.in_ok-push_sum_of_edges.ensures.pushed in
+    let all : c.push_sum_of_edges.new.sum.items ≡ pushed.more = pushed.all ∙ ap (λ (fs : List Edge). fs ++ pushed.more) c.new-edges.ensures.items in
+    let none : pushed.more ≡ [] =
+    let len : vec_len c.push_sum_of_edges.new.sum ≡ 0 = eqb-true (vec_len c.push_sum_of_edges.new.sum) 0 (sym c.is_empty.ensures ∙ c.if-is_empty.true) in
     sym all ∙ nil_from_length _ (omega (arith, len)) in
     sum_of_both-blank c.args.right.now.y (edge_row c.args.left.now) (edge_row c.args.right.now)
-    c.requires.left c.requires.right c.args.self.now sum.more none sum.weights
+    c.requires.left c.requires.right c.args.self.now pushed.more none pushed.sum.weights
 
 pub invariant_of-self-2 : goal.invariant_of-self-2
 invariant_of-self-2 c =
-    let pushed = c.in_ok-reach.ensures.pushed in
-    let sum = pushed.sum in
-    let all : c.push_sum_of_both.new.edges.items ≡ sum.more = sum.all ∙ ap (λ (fs : List Edge). fs ++ sum.more) c.new-edges.ensures.items in
-    let own : (arc_value c.in_ok-new.field-0).items ≡ sum.more = ap (λ v. v.items) c.in_ok-new.ensures.ok ∙ c.give_back_room.ensures.items ∙ all in
+    let pushed = c.in_ok-push_sum_of_edges.ensures.pushed in
+    let all : c.push_sum_of_edges.new.sum.items ≡ pushed.more = pushed.all ∙ ap (λ (fs : List Edge). fs ++ pushed.more) c.new-edges.ensures.items in
+    let own : (arc_value c.in_ok-new.field-0).items ≡ pushed.more = ap (λ v. v.items) c.in_ok-new.ensures.ok ∙ c.give_back_room.ensures.items ∙ all in
+    let reached = rw (c.deref.ensures.value, all) at c.in_ok-reach.ensures.reach in
     let es = c.self.inside.edges.items in
-    rw c.in_ok-push.ensures.items (heads_push es es (nothing_more es) _ c.self.invariant _ sum.more (place_of_own es _ _ own) pushed.reached)
+    rw (c.in_ok-push.ensures.items, reach_is _ _ reached)
+    (heads_push es es (nothing_more es) _ c.self.invariant _ pushed.more (place_of_own es _ _ own) reached)
 
 pub returns-clause-pushed : goal.returns-clause-pushed
 returns-clause-pushed c =
-    let pushed = c.in_ok-reach.ensures.pushed in
-    let sum = pushed.sum in
-    let all : c.push_sum_of_both.new.edges.items ≡ sum.more = sum.all ∙ ap (λ (fs : List Edge). fs ++ sum.more) c.new-edges.ensures.items in
-    let own : (arc_value c.in_ok-new.field-0).items ≡ sum.more = ap (λ v. v.items) c.in_ok-new.ensures.ok ∙ c.give_back_room.ensures.items ∙ all in
-    let some : sum.more ≢ [] = λ none.
-    let long : length c.push_sum_of_both.new.edges.items ≡ 0 = ap (λ (fs : List Edge). length fs) (all ∙ none) in
-    eqb-false (vec_len c.push_sum_of_both.new.edges) 0 (sym c.is_empty.ensures ∙ c.if-is_empty.false) (omega (arith, long)) in
+    let pushed = c.in_ok-push_sum_of_edges.ensures.pushed in
+    let all : c.push_sum_of_edges.new.sum.items ≡ pushed.more = pushed.all ∙ ap (λ (fs : List Edge). fs ++ pushed.more) c.new-edges.ensures.items in
+    let own : (arc_value c.in_ok-new.field-0).items ≡ pushed.more = ap (λ v. v.items) c.in_ok-new.ensures.ok ∙ c.give_back_room.ensures.items ∙ all in
+    let reached = rw (c.deref.ensures.value, all) at c.in_ok-reach.ensures.reach in
+    let some : pushed.more ≢ [] = λ none.
+    let long : length c.push_sum_of_edges.new.sum.items ≡ 0 = ap (λ (fs : List Edge). length fs) (all ∙ none) in
+    eqb-false (vec_len c.push_sum_of_edges.new.sum) 0 (sym c.is_empty.ensures ∙ c.if-is_empty.false) (omega (arith, long)) in
     let y_is : to_z w32 (of_z w32 c.args.right.now.y) ≡ c.args.right.now.y = omega (arith, ints) in
     let es = c.self.inside.edges.items in
-    let head : Head = record { y = c.args.right.now.y; reach = c.in_ok-reach.reach; place = place.Own c.in_ok-new.field-0 } in
+    let head : Head = record { y = c.args.right.now.y; reach = to_z w32 (of_z w32 c.in_ok-reach.reach); place = place.Own c.in_ok-new.field-0 } in
     rw (
       c.in_ok-push.ensures.items,
       y_is,
-      rows_push es es (nothing_more es) c.self.inside.heads.items c.self.invariant head sum.more (place_of_own es _ _ own),
+      rows_push es es (nothing_more es) c.self.inside.heads.items c.self.invariant head pushed.more (place_of_own es _ _ own),
       c.self.view_is,
     )
     (sum_of_both-some c.args.right.now.y (edge_row c.args.left.now) (edge_row c.args.right.now)
-    c.requires.left c.requires.right c.args.self.now sum.more some sum.edges sum.weights)
+    c.requires.left c.requires.right c.args.self.now pushed.more c.in_ok-reach.reach some pushed.sum reached)

@@ -13,7 +13,8 @@ relocate-requires c =
 pub loop-head-preserved : goal.loop-head-preserved
 loop-head-preserved c =
     let y_is : to_z w32 (of_z w32 c.head-item.result.y) ≡ c.head-item.result.y = to_z-of_z w32 c.head-item.result.y (search rules) in
-    rw (c.in_ok-push.ensures.items, y_is)
+    let reach_is : to_z w32 (of_z w32 c.head-item.result.reach) ≡ c.head-item.result.reach = to_z-of_z w32 c.head-item.result.reach (search rules) in
+    rw (c.in_ok-push.ensures.items, y_is, reach_is)
     (moved_next _ _ _ _ _ c.requires.copied c.args.rows.placed c.loop-head.head-index c.head-item.result c.loop-head-test.true c.head-item.is
     c.args.heads.now.items c.loop-head.heads.items c.loop-head.invariant c.in_ok-place.place c.in_ok-place.ensures)
 

@@ -2,24 +2,19 @@ use Rattle.std.proofs.lemmas.List.{drop_all}
 use Rattle.std.proofs.Common.{ap}
 use Rattle.mf_rows.specs.Bands.{edge_row}
 use Rattle.mf_rows.specs.RowLists.{rows_at}
-use Rattle.mf_rows.proofs.PilesLemmas.{reach_start, reach_read, reach_edges, reach_next, reach_all, row_fits}
+use Rattle.mf_rows.proofs.PilesLemmas.{reach_start, reach_read, reach_next, reach_all, row_fits}
 use Rattle.mf_rows.proofs.slice.RowSlice.reach.Goals as goal
 
 pub loop-head-init : goal.loop-head-init
 loop-head-init c = reach_start _ c.requires
 
-pub reach-requires : goal.reach-requires
-reach-requires c =
-    let step = reach_read _ c.args.self.edges.now c.args.self.heads.now _ _ (edge_row c.row_of_head.result) _ c.loop-head-test.true c.head-item.is c.row_of_head.ensures
-    c.loop-head.invariant in
-    reach_edges _ _ _ _ _ step c.loop-head.invariant
-
 pub loop-head-preserved : goal.loop-head-preserved
 loop-head-preserved c =
     let step = reach_read _ c.args.self.edges.now c.args.self.heads.now _ _ (edge_row c.row_of_head.result) _ c.loop-head-test.true c.head-item.is c.row_of_head.ensures
     c.loop-head.invariant in
-    let next = reach_next _ _ _ _ _ c.reach.result c.max-reach.result step c.loop-head.invariant c.reach.ensures.stays
-    (rw (row_fits _ _ c.reach.ensures.stays) at c.max-reach.ensures) in
+    let row = c.row_of_head.result in
+    let next = reach_next _ _ _ (edge_row row) _ row.reach c.max-reach.result step c.loop-head.invariant row.reached
+    (rw (row_fits _ _ row.reached) at c.max-reach.ensures) in
     rw next.1 next.0
 
 pub returns : goal.returns

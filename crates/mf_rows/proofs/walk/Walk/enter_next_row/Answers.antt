@@ -1,27 +1,27 @@
 use Rattle.std.proofs.Common.{◌≡◌, to_z, of_z, w32, FitsSigned, refl, subst, rules, arith}
 use Rattle.std.proofs.lemmas.Int.{ints}
-use Rattle.std.proofs.lemmas.List.Elements.{All-rest}
+use Rattle.std.proofs.lemmas.List.Elements.{All-head, All-rest}
 use Rattle.mf_rows.specs.EdgeRows.{IsEdgeRow}
 use Rattle.mf_rows.specs.Rest.{AreEdgeRows}
 use Rattle.mf_rows.specs.Walk.{runs_of_edges}
-use Rattle.mf_rows.proofs.RemainingRuns.{rest_entered, runs_entered}
+use Rattle.mf_rows.proofs.EdgeRuns.{rest_of_edges, weight_none}
 use Rattle.mf_rows.proofs.walk.Walk.enter_next_row.Goals as goal
 
 pub invariant_of-self : goal.invariant_of-self
 invariant_of-self c =
-    let over = c.requires in
-    let rows = subst AreEdgeRows c.in-Some.ensures.steps c.args.self.now.others in
+    let self = c.args.self.now in
+    let rows = subst AreEdgeRows c.in-Some.ensures.steps self.others in
     record {
-      rest = rest_entered _ _ _ _ over c.args.self.now.rest rows;
-      others = All-rest IsEdgeRow _ _ _ c.in-Some.ensures.steps c.args.self.now.others;
+      rest = rw (weight_none _ _ c.requires self.rest) (rest_of_edges _ (All-head IsEdgeRow _ _ rows).edges);
+      others = All-rest IsEdgeRow _ _ _ c.in-Some.ensures.steps self.others;
     }
 
 pub returns-in-Some-clause-left : goal.returns-in-Some-clause-left
+unfolding runs_of_edges
 returns-in-Some-clause-left c =
-    let over = c.requires in
     let y_fits : FitsSigned w32 c.in-Some.row.y = search rules in
     let y : to_z w32 (of_z w32 c.in-Some.row.y) ≡ c.in-Some.row.y = omega (arith, ints) in
-    rw (y, c.in-Some.ensures.steps) (runs_entered _ _ _ _ _ over c.args.self.now.rest)
+    rw (y, c.in-Some.ensures.steps, c.requires, weight_none _ _ c.requires c.args.self.now.rest) refl
 
 -- no row is left
 pub returns-in_default-clause-over : goal.returns-in_default-clause-over
