@@ -12,7 +12,7 @@ use Rattle.mf_rows.specs.Order.{IsRun}
 use Rattle.mf_rows.specs.Runs.{stretch, dots_of, runs_of}
 use Rattle.mf_rows.proofs.DotsLemmas.{dots_from-lower}
 use Rattle.mf_rows.proofs.RunsLemmas.{dots_of-runs_of}
-use Rattle.mf_rows.proofs.Totals.{total_none}
+use Rattle.mf_rows.proofs.PassedRuns.{lawful_runs_of}
 use Rattle.mf_gf.specs.Ahead.{blacks, AreBlackRuns}
 use Rattle.mf_gf.specs.Pixels.{black}
 
@@ -102,7 +102,7 @@ blacks-ones (r ∷ rs) =
 
 pub blacks_in_order : (ds : List Dot) → IsPicture ds → AreBlackRuns (blacks (runs_of ds))
 blacks_in_order ds picture = record {
-  runs = blacks-lawful (runs_of ds) (total_none ds (runs_of ds) picture refl).passes.runs;
+  runs = blacks-lawful (runs_of ds) (lawful_runs_of ds picture);
   ones = blacks-ones (runs_of ds);
   low = start_of_field;
   dots = rw (black-blacks ds) (black_picture ds picture).dots;

@@ -5,7 +5,7 @@ use Rattle.std.proofs.lemmas.Iterator.Adapters.{option_map_id}
 use Rattle.byteorder.specs.Endian.{big_bytes, big_number}
 use Rattle.byteorder.specs.Numbers.{big_number-reads_back}
 use Rattle.mf_gf.specs.Painting.{Stroke, Paint, Skip, NewRow, Read, with_bytes, read_stroke, strokes_at_end, strokes_within, strokes}
-use Rattle.mf_gf.specs.Spelling.{with_parameter, paint, skip, new_row}
+use Rattle.mf_gf.specs.Spelling.{with_parameter, paint, skip, most_new_row, new_row}
 
 -- what is read where these bytes start with a command
 abbrev read_as : Stroke → List ℕ → Option Read
@@ -48,7 +48,7 @@ writes_skip n fits =
     (λ yes. record { some = omega arith; read = λ rest. ap (λ m. read_as (Skip m) rest) (sym (eqb-true n 0 yes)) })
     (λ no. writes_parameter Skip 71 n fits (λ bytes. refl) (λ bytes. refl))
 
-pub writes_new_row : (n : ℕ) → n ≤ 164 → IsCommand (new_row n) (NewRow n)
+pub writes_new_row : (n : ℕ) → n ≤ most_new_row → IsCommand (new_row n) (NewRow n)
 unfolding read_stroke
 writes_new_row n fits =
     let b = 74 + n in

@@ -10,7 +10,7 @@ use Rattle.mf_rows.specs.Dots.{Dot, IsPicture, AreDotsFrom}
 use Rattle.mf_rows.specs.Order.{IsRun}
 use Rattle.mf_rows.specs.Runs.{runs_of}
 use Rattle.mf_rows.proofs.PlacesLemmas.{start_of_field-le}
-use Rattle.mf_rows.proofs.Totals.{total_none}
+use Rattle.mf_rows.proofs.PassedRuns.{lawful_runs_of}
 use Rattle.mf_gf.specs.declared.boxes.CharacterBox.{CharacterBox}
 use Rattle.mf_gf.specs.declared.spelling.Spelling.{Spelling}
 use Rattle.mf_gf.specs.Boxes.{box_of_pixels}
@@ -25,7 +25,7 @@ picture_from low (d ∷ ds) dots = record { dots = (dots.0, start_of_field-le d.
 
 -- each stretch of a picture is a run
 pub stretches_are_runs : (ds : List Dot) → IsPicture ds → All IsRun (runs_of ds)
-stretches_are_runs ds picture = (total_none ds (runs_of ds) picture refl).passes.runs
+stretches_are_runs ds picture = lawful_runs_of ds picture
 
 -- the stretches still to come, from a position of the pen and in a box with this left end
 pub record Coming : Type 0 where
@@ -72,21 +72,20 @@ module _ (before out : Spelling) (text : List ℕ) (c : Coming) where
   pub next_is_run : (r : Run) (others : List Run) → c.runs ≡ r ∷ others → AreSpelled before out text c → IsRun r
   next_is_run r others first so_far = All-head IsRun r others (All-same IsRun (r ∷ others) c.runs (sym first) so_far.runs)
 
-  pub one_more_spelled : (r : Run) (others : List Run) (gone painted : Spelling) → c.runs ≡ r ∷ others
-      → Writes out gone (approach c.left c.row c.column r) → Writes gone painted (paint r.len)
-      → gone.room ≡ out.room → painted.room ≡ gone.room → AreSpelled before out text c
+  pub one_more_spelled : (r : Run) (others : List Run) (painted : Spelling) → c.runs ≡ r ∷ others
+      → Writes out painted (approach c.left c.row c.column r ++ paint r.len) → painted.room ≡ out.room → AreSpelled before out text c
       → AreSpelled before painted text (record { left = c.left; row = r.y; column = r.x +ℤ pos r.len; runs = others })
-  one_more_spelled r others gone painted first goes paints gone_room painted_room so_far =
+  one_more_spelled r others painted first puts same_room so_far =
       let run = next_is_run r others first so_far in
       let stroke = approach c.left c.row c.column r ++ paint r.len in
       record {
         written = so_far.written ++ stroke;
-        writes = write_both _ _ _ _ _ so_far.writes (write_both _ _ _ _ _ goes paints);
+        writes = write_both _ _ _ _ _ so_far.writes puts;
         rest =
             append_assoc so_far.written stroke (rows c.left r.y (r.x +ℤ pos r.len) others)
             ∙ ap (λ bytes. so_far.written ++ bytes) (sym (rows-cons c.left c.row c.column r others))
             ∙ ap (λ rs. so_far.written ++ rows c.left c.row c.column rs) (sym first) ∙ so_far.rest;
-        room = painted_room ∙ gone_room ∙ so_far.room;
+        room = same_room ∙ so_far.room;
         runs = All-rest IsRun r others c.runs first so_far.runs;
         row_in_range = record { least = run.bottom; greatest = omega (arith, ints, run.top) };
         column_in_range = record { least = omega (arith, ints, run.left); greatest = run.right };

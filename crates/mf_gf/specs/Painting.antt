@@ -53,7 +53,7 @@ strokes_within (suc n) bytes = elim (read_stroke bytes) [
 abbrev pub strokes : List ℕ → Option (List Stroke)
 strokes bytes = strokes_within (length bytes) bytes
 
--- the state of the machine: its row and column (n and m in GF), the left end of the box, and its colour
+-- the state of the machine: its row and column (n and m in GF), the left end of the box, and its color
 pub record Pen : Type 0 where
   pub row : ℤ
   pub column : ℤ

@@ -2,13 +2,14 @@
 ghost use Rattle.std.specs.Prelude.{◌≡◌, ◌++◌, List, ℕ};
 ghost use Rattle.mf_geom.specs.Coordinates.{IsCoordinate};
 ghost use Rattle.mf_gf.specs.Ahead.{AreBlackRuns, blacks_ahead, stretches_left};
-ghost use Rattle.mf_gf.specs.Spelling.{approach, rows};
+ghost use Rattle.mf_gf.specs.Spelling.{approach, paint, rows};
 ghost use Rattle.mf_gf.specs.Spellings.{Holds};
 ghost use Rattle.mf_rows.specs.Order.{IsRun};
 
 use crate::boxes::CharacterBox;
 use crate::spelling::Spelling;
 use crate::stretches::Stretches;
+use crate::strokes::MOST_PAINTED;
 use mf_rows::Run;
 
 /// The greatest offset of a new_row command (gftype.web).
@@ -37,8 +38,7 @@ pub(crate) fn spell_rows(out: &mut Spelling, stretches: Stretches<'_>, bounds: &
         column: bounds.min_m,
     };
     for stretch in stretches {
-        go_to(out, bounds.min_m, place, &stretch);
-        out.paint(stretch.len);
+        put_stretch(out, bounds.min_m, place, &stretch);
         place = Place {
             row: stretch.y,
             column: stretch.x + stretch.len as i32,
@@ -46,8 +46,30 @@ pub(crate) fn spell_rows(out: &mut Spelling, stretches: Stretches<'_>, bounds: &
     }
 }
 
-/// Goes from a position to the start of a stretch, where the next paint is black. `left` is the left end of the box.
+/// Paints a stretch, starting from a position. `left` is the left end of the box. Most stretches are short and near the one before, so
+/// they take two bytes, which are appended at once. With the way to the others inlined, too, a page would take a seventh longer.
 #[inline(always)]
+fn put_stretch(out: &mut Spelling, left: i32, from: Place, stretch: &Run)
+    requires stretch { IsRun stretch.now }
+    requires left { IsCoordinate left }
+    requires row { IsCoordinate from.row }
+    requires column { IsCoordinate from.column }
+    ensures held { (text : List ℕ) → Holds out.old text
+        → Holds out.new (text ++ (approach left from.row from.column stretch.now ++ paint stretch.now.len)) }
+    ensures room { out.new.room ≡ out.old.room }
+{
+    let gap = stretch.x - from.column;
+    let most = MOST_PAINTED as i32;
+    if stretch.y == from.row && 0 <= gap && gap <= most && stretch.len <= MOST_PAINTED {
+        out.put_pair(gap as u8, stretch.len as u8);
+        return;
+    }
+    go_to(out, left, from, stretch);
+    out.paint(stretch.len);
+}
+
+/// Goes from a position to the start of a stretch, where the next paint is black. `left` is the left end of the box.
+#[inline(never)]
 fn go_to(out: &mut Spelling, left: i32, from: Place, stretch: &Run)
     requires stretch { IsRun stretch.now }
     requires left { IsCoordinate left }

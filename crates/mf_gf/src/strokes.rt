@@ -9,7 +9,7 @@ use crate::spelling::Spelling;
 const PAINT1: u8 = 64;
 
 /// The greatest number of pixels that is its own opcode: paint_0 to paint_63 (gftype.web).
-const MOST_PAINTED: u32 = 63;
+pub(crate) const MOST_PAINTED: u32 = 63;
 
 /// skip0, which goes to the next row and skips no blank row (gftype.web).
 const SKIP0: u8 = 70;

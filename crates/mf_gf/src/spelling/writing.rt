@@ -31,21 +31,35 @@ impl Spelling {
         self.length
     }
 
+    /// Asks for room for this many bytes at once, or for all that may be written where that is fewer. Where that is refused, the
+    /// bytes are only counted.
+    pub(crate) fn reserve(&mut self, most: usize)
+        ensures held { (text : List ℕ) → Holds self.old text → Holds self.new text }
+        ensures room { self.new.room ≡ self.old.room }
+    {
+        if self.bytes.reserve_exact(most.min(self.room)).is_err() {
+            self.is_wanting = true;
+        }
+    }
+
     /// Counts more bytes. Returns whether to keep them: there is room for them, and no allocation failed before.
+    #[inline(always)]
     fn count(&mut self, more: usize) -> bool
         requires { more ≤ 2 ^ 31 }
-        ensures counted { self.old.length ≤ self.old.room → self.new.length ≡ self.old.length + more }
-        ensures beyond { self.old.room < self.old.length → self.new.room < self.new.length }
+        ensures counted { self.old.length + more ≤ self.old.room → self.new.length ≡ self.old.length + more }
+        ensures beyond { self.old.room < self.old.length + more → self.new.room < self.new.length }
         ensures kept { self.new.bytes ≡ self.old.bytes }
         ensures room { self.new.room ≡ self.old.room }
         ensures wanting { self.new.is_wanting ≡ self.old.is_wanting }
         ensures answer { IsTrue result ↔ ((self.new.length ≤ self.new.room) × (self.new.is_wanting ≡ false)) }
     {
-        if self.length > self.room {
+        let length = self.length + more;
+        if length > self.room {
+            self.length = self.room + 1;
             return false;
         }
-        self.length += more;
-        self.length <= self.room && !self.is_wanting
+        self.length = length;
+        !self.is_wanting
     }
 
     /// Appends bytes.
@@ -54,8 +68,8 @@ impl Spelling {
         ensures held { (text : List ℕ) → Holds self.old text → Holds self.new (text ++ bytes.now) }
         ensures room { self.new.room ≡ self.old.room }
     {
-        if self.count(bytes.len()) {
-            self.is_wanting = self.bytes.extend_from_slice(bytes).is_err();
+        if self.count(bytes.len()) && self.bytes.extend_from_slice(bytes).is_err() {
+            self.is_wanting = true;
         }
     }
 
@@ -65,8 +79,19 @@ impl Spelling {
         ensures held { (text : List ℕ) → Holds self.old text → Holds self.new (text ++ byte ∷ []) }
         ensures room { self.new.room ≡ self.old.room }
     {
-        if self.count(1) {
-            self.is_wanting = self.bytes.push(byte).is_err();
+        if self.count(1) && self.bytes.push(byte).is_err() {
+            self.is_wanting = true;
+        }
+    }
+
+    /// Appends two bytes.
+    #[inline(always)]
+    pub(crate) fn put_pair(&mut self, first: u8, second: u8)
+        ensures held { (text : List ℕ) → Holds self.old text → Holds self.new (text ++ first ∷ second ∷ []) }
+        ensures room { self.new.room ≡ self.old.room }
+    {
+        if self.count(2) && self.bytes.extend_from_slice(&[first, second]).is_err() {
+            self.is_wanting = true;
         }
     }
 

@@ -20,4 +20,5 @@ spell_rows-requires-clause-top c = let over = c.over-stretches in (bounds_in_ran
 pub returns-clause-held : goal.returns-clause-held
 returns-clause-held c =
     let all = write_both _ _ _ _ _ (write_both _ _ _ _ _ c.put_begin.ensures.held c.spell_rows.ensures.held) c.put_byte.ensures.held in
-    write_same _ _ _ _ (spell-is c.args.code _ _ c.args.bounds.now _ c.requires c.over-stretches.ensures.stretches) all
+    let same = write_same _ _ _ _ (spell-is c.args.code _ _ c.args.bounds.now _ c.requires c.over-stretches.ensures.stretches) all in
+    λ text held. same text (c.reserve.ensures.held text held)

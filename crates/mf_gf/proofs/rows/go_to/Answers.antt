@@ -1,6 +1,6 @@
 use Rattle.std.proofs.Common.{◌≡◌, ◌≢◌, ◌-◌, ◌<◌, ◌-ℤ◌, nat_abs, to_z, of_z, w32, sym, ap, ◌∙◌, arith}
 use Rattle.std.proofs.lemmas.Int.{ints}
-use Rattle.mf_gf.specs.Spelling.{distance, new_row, paint, skip}
+use Rattle.mf_gf.specs.Spelling.{distance, most_new_row, new_row, paint, skip}
 use Rattle.mf_gf.proofs.StrokeTexts.{approach_next_row, approach_by_skip}
 use Rattle.mf_gf.proofs.Writing.{write_both, write_same}
 use Rattle.mf_gf.proofs.rows.go_to.Goals as goal
@@ -27,7 +27,7 @@ returns-clause-held c =
     let right : to_z w32 (of_z w32 r.x) -ℤ to_z w32 (of_z w32 c.args.left) ≡ r.x -ℤ c.args.left = omega (arith, ints) in
     let rows = c.abs_diff-rows.ensures ∙ ap nat_abs down in
     let offset = c.abs_diff-offset.ensures ∙ ap nat_abs right in
-    let far : distance from.row r.y ≡ 1 → 164 < distance r.x c.args.left = elim c.else-rows-eq1.branch [
+    let far : distance from.row r.y ≡ 1 → most_new_row < distance r.x c.args.left = elim c.else-rows-eq1.branch [
       | else-rows-eq1-via-then-rows-eq1+else-offset-le-MOST_NEW_ROW w ↦ (λ _. omega (arith, w.if-offset-le-MOST_NEW_ROW.false))
       | else-rows-eq1-via-else-rows-eq1 w ↦ (λ next. absurd (w.if-rows-eq1.false (rows ∙ next)))
     ] in

@@ -11,13 +11,8 @@ loop-stretch-init c =
     let runs = stretches_are_runs _ (picture_from _ _ c.requires.order.dots) in
     rw (c.into_iter-stretch-iterator.ensures.into_iter_gives, top, left) (none_spelled _ _ runs c.requires.top c.requires.left)
 
-pub go_to-requires-clause-stretch : goal.go_to-requires-clause-stretch
-go_to-requires-clause-stretch c = next_is_run _ _ _ _ _ _ c.in-Some.ensures.steps c.loop-stretch.invariant
-
-pub paint-requires : goal.paint-requires
-paint-requires c =
-    let run = next_is_run _ _ _ _ _ _ c.in-Some.ensures.steps c.loop-stretch.invariant in
-    omega (arith, ints, run.left, run.right)
+pub put_stretch-requires-clause-stretch : goal.put_stretch-requires-clause-stretch
+put_stretch-requires-clause-stretch c = next_is_run _ _ _ _ _ _ c.in-Some.ensures.steps c.loop-stretch.invariant
 
 pub overflow_cast-place : goal.overflow_cast-place
 overflow_cast-place c =
@@ -36,9 +31,8 @@ loop-stretch-preserved c =
     let left : to_z w32 (of_z w32 c.args.bounds.now.min_m) ≡ c.args.bounds.now.min_m = omega (arith, ints) in
     let row : to_z w32 (of_z w32 r.y) ≡ r.y = omega (arith, ints, run.bottom, run.top) in
     let column : to_z w32 (of_z w32 (to_z w32 (of_z w32 r.x) +ℤ to_z w32 r.len)) ≡ r.x +ℤ pos r.len = omega (arith, ints, run.left, run.right) in
-    let goes = rw left at c.go_to.ensures.held in
-    rw (row, column) (one_more_spelled _ _ _ _ r _ _ _ c.in-Some.ensures.steps goes c.paint.ensures.held c.go_to.ensures.room
-    c.paint.ensures.room c.loop-stretch.invariant)
+    let puts = rw left at c.put_stretch.ensures.held in
+    rw (row, column) (one_more_spelled _ _ _ _ r _ _ c.in-Some.ensures.steps puts c.put_stretch.ensures.room c.loop-stretch.invariant)
 
 pub returns-clause-held : goal.returns-clause-held
 returns-clause-held c = all_spelled _ _ _ _ c.in-None.ensures.steps.0 c.loop-stretch.invariant
