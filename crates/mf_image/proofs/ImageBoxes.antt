@@ -5,15 +5,16 @@ use Rattle.mf_geom.specs.Coordinates.{field_size, least_coordinate, last_in_fiel
 use Rattle.mf_rows.specs.declared.bounds.Box4.{Box4}
 use Rattle.mf_rows.specs.Bounds.{IsLeastBox}
 use Rattle.mf_rows.specs.Dots.{Dot, IsPicture}
+use Rattle.mf_rows.proofs.BoxesJoined.{box_of_some}
 use Rattle.mf_show.specs.Boxes.{IsBoxOfField, box_of_dots}
 use Rattle.mf_show.specs.Grid.{extent}
-use Rattle.mf_show.proofs.LeastBoxes.{least_box_of_dots, least_box_of_field, least_box_of_some, same_least_box}
+use Rattle.mf_show.proofs.LeastBoxes.{least_box_of_dots, least_box_of_field, same_least_box}
 use Rattle.mf_image.specs.Boxes.{IsImageBox, IsLargeBox, IsTooLargeForImage, greatest_side, image_box, origin}
 use Rattle.mf_image.specs.Svg.{IsSmall, IsSmallBox, view_box_of}
 
 least_is_image_box : (ds : List Dot) (b : Box4) → IsLeastBox ds b → b ≡ image_box ds
 unfolding image_box
-least_is_image_box [] b least = absurd (least_box_of_some b least)
+least_is_image_box [] b least = absurd (box_of_some b least)
 least_is_image_box (d ∷ ds) b least = same_least_box (d ∷ ds) b (box_of_dots d ds) least (least_box_of_dots d ds)
 
 -- the least box is that of the image

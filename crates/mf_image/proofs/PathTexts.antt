@@ -9,7 +9,7 @@ use Rattle.mf_rows.specs.declared.run.Run.{Run}
 use Rattle.mf_rows.specs.Dots.{Dot, IsPicture}
 use Rattle.mf_rows.specs.Order.{IsRun}
 use Rattle.mf_rows.specs.Runs.{runs_of}
-use Rattle.mf_rows.proofs.Totals.{total_none}
+use Rattle.mf_rows.proofs.PassedRuns.{runs_are_lawful}
 use Rattle.mf_show.specs.Grid.{extent}
 use Rattle.mf_show.proofs.ShownRows.{extent-next, extent-none}
 use Rattle.std.specs.Fmt.{signed_decimal}
@@ -30,7 +30,7 @@ pub record AreSpanned (ds : List Dot) (rs : List Run) (least greatest : ℤ) : T
 
 pub none_spanned : (ds : List Dot) (rs : List Run) → IsPicture ds → rs ≡ runs_of ds → AreSpanned ds rs (pos 0) (pos 0)
 none_spanned ds rs picture all = record {
-  runs = (total_none ds rs picture all).passes.runs;
+  runs = runs_are_lawful ds rs picture all;
   below = rw all refl;
   above = rw all refl;
   low = omega (arith, ints);
@@ -70,7 +70,7 @@ pub record AreDrawn (w : ℤ) (ds : List Dot) (old : List ℕ) (rs : List Run) (
   pub lines : text ++ flat_map (rectangle_of w) rs ≡ old ++ flat_map (rectangle_of w) (runs_of ds)
 
 pub none_drawn : (w : ℤ) (ds : List Dot) (old : List ℕ) (rs : List Run) → IsPicture ds → rs ≡ runs_of ds → AreDrawn w ds old rs old
-none_drawn w ds old rs picture all = record { runs = (total_none ds rs picture all).passes.runs; lines = rw all refl }
+none_drawn w ds old rs picture all = record { runs = runs_are_lawful ds rs picture all; lines = rw all refl }
 
 pub next_is_lawful : (w : ℤ) (ds : List Dot) (old : List ℕ) (rs : List Run) (r : Run) (others : List Run) (text : List ℕ) → rs ≡ r ∷ others
     → AreDrawn w ds old rs text → IsRun r

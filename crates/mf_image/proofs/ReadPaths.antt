@@ -13,7 +13,7 @@ use Rattle.mf_rows.specs.Dots.{Dot, IsPicture, start_of_field, weight_at}
 use Rattle.mf_rows.specs.Order.{IsRun}
 use Rattle.mf_rows.specs.Runs.{stretch, dots_of, runs_of}
 use Rattle.mf_rows.proofs.RunsLemmas.{dots_of-runs_of}
-use Rattle.mf_rows.proofs.Totals.{total_none}
+use Rattle.mf_rows.proofs.PassedRuns.{runs_are_lawful}
 use Rattle.mf_show.specs.Boxes.{IsBoxOfField, box_of_dots}
 use Rattle.mf_show.specs.Grid.{extent}
 use Rattle.mf_show.proofs.LeastBoxes.{least_box_of_dots, least_box_of_field}
@@ -148,7 +148,7 @@ pub svg_read : (ds : List Dot) (x y : ℤ) → IsPicture ds → weight_at (read_
 unfolding svg_text
 svg_read ds x y picture =
     let rs = runs_of ds in
-    let runs = (total_none ds rs picture refl).passes.runs in
+    let runs = runs_are_lawful ds rs picture refl in
     let same : flat_map dots_of rs ≡ ds = dots_of-runs_of ds in
     let low = least_weight_of rs in
     let high = greatest_weight_of rs in

@@ -7,11 +7,12 @@ use Rattle.mf_rows.specs.declared.bounds.Box4.{Box4}
 use Rattle.mf_rows.specs.Bounds.{IsLeastBox}
 use Rattle.mf_rows.specs.Dots.{Dot, IsPicture, place, weight_at}
 use Rattle.mf_rows.specs.Runs.{dots_of, runs_of}
+use Rattle.mf_rows.proofs.BoxesJoined.{box_of_some}
 use Rattle.mf_rows.proofs.RunsLemmas.{dots_of-runs_of}
 use Rattle.mf_show.specs.Boxes.{IsBoxOfField}
 use Rattle.mf_show.specs.Grid.{grid_character, greatest_grid_side, extent, shown_row, row_text, box_text, IsGridText, IsTooLarge}
 use Rattle.mf_show.specs.RunsAhead.{AreInOrder, AreSameFrom}
-use Rattle.mf_show.proofs.LeastBoxes.{same_least_box, least_box_of_some, some_least_box}
+use Rattle.mf_show.proofs.LeastBoxes.{same_least_box, some_least_box}
 use Rattle.mf_show.proofs.ShownRows.{IsBoxSoFar, IsRowSoFar, ShownBox, ShownRow, box_more, box_none, row_more, row_none}
 use Rattle.mf_show.proofs.PassedPixels.{all_in_order, same_all}
 
@@ -92,7 +93,7 @@ grid_more ds b y text new rs others box row pushed ordered later so_far =
 
 pub grid_of_box : (ds : List Dot) (b : Box4) (text : List ℕ) → IsLeastBox ds b → text ≡ box_text ds b → IsGridText ds text
 grid_of_box ds b text box drawn = record {
-  blank = λ none. absurd (least_box_of_some b (subst (λ all. IsLeastBox all b) none box));
+  blank = λ none. absurd (box_of_some b (subst (λ all. IsLeastBox all b) none box));
   drawn = λ c least. drawn ∙ ap (box_text ds) (same_least_box ds b c box least);
 }
 
@@ -102,7 +103,7 @@ one_grid_text [] one other p q = p.blank refl ∙ sym (q.blank refl)
 one_grid_text (d ∷ ds) one other p q = let (b, least) = some_least_box d ds in p.drawn b least ∙ sym (q.drawn b least)
 
 pub some_grid_text : (ds : List Dot) → (text : List ℕ) × IsGridText ds text
-some_grid_text [] = (codes "blank\n", record { blank = λ _. refl; drawn = λ b least. absurd (least_box_of_some b least) })
+some_grid_text [] = (codes "blank\n", record { blank = λ _. refl; drawn = λ b least. absurd (box_of_some b least) })
 some_grid_text (d ∷ ds) =
     let (b, least) = some_least_box d ds in (box_text (d ∷ ds) b, grid_of_box (d ∷ ds) b (box_text (d ∷ ds) b) least refl)
 

@@ -7,7 +7,7 @@ use Rattle.mf_rows.specs.declared.bounds.Box4.{Box4}
 use Rattle.mf_rows.specs.Bounds.{IsDotIn, IsLeastBox}
 use Rattle.mf_rows.specs.Dots.{Dot, IsPicture}
 use Rattle.mf_rows.proofs.BoundsInField.{bounds_in_field}
-use Rattle.mf_rows.proofs.BoxesJoined.{least_box_of_both}
+use Rattle.mf_rows.proofs.BoxesJoined.{box_of_some, least_box_of_both}
 use Rattle.mf_show.specs.Boxes.{IsBoxOfField, box_of, box_of_dot, box_of_dots}
 
 -- what holds for all dots holds for the one that some property finds
@@ -59,10 +59,6 @@ same_least_box ds a b one other =
     let top : a.max_y ≡ b.max_y = omega (arith, ints, here.top, there.top) in
     λ i. record { min_x = left i; max_x = right i; min_y = bottom i; max_y = top i }
 
--- the blank picture has no least box
-pub least_box_of_some : (b : Box4) → IsLeastBox [] b → ⊥
-least_box_of_some b box = omega (arith, box.left.2)
-
 least_box_of_dot : (d : Dot) → IsLeastBox (d ∷ []) (box_of_dot d)
 least_box_of_dot d =
     record {
@@ -89,7 +85,7 @@ some_least_box d ds = (box_of_dots d ds, least_box_of_dots d ds)
 -- the least box of a picture is the one that is defined
 pub least_box_is : (ds : List Dot) (b : Box4) → IsLeastBox ds b → box_of ds ≡ Some b
 unfolding box_of
-least_box_is [] b box = absurd (least_box_of_some b box)
+least_box_is [] b box = absurd (box_of_some b box)
 least_box_is (d ∷ ds) b box = ap Some (same_least_box (d ∷ ds) (box_of_dots d ds) b (least_box_of_dots d ds) box)
 
 -- the blank picture has none

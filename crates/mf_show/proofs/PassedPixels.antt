@@ -11,7 +11,7 @@ use Rattle.mf_rows.proofs.DotsLemmas.{weight_at-before}
 use Rattle.mf_rows.proofs.PlacesLemmas.{place-next}
 use Rattle.mf_rows.proofs.RunDots.{IsOnRun, weight_at-on_run, weight_at-off_run, weight_at-append_after, weight_at-append_none, before_stretch-end}
 use Rattle.mf_rows.proofs.RunsLemmas.{dots_of-runs_of}
-use Rattle.mf_rows.proofs.Totals.{total_none}
+use Rattle.mf_rows.proofs.PassedRuns.{runs_are_lawful}
 use Rattle.mf_show.specs.RunsAhead.{with_taken, AreInOrder, AreSameFrom, IsNotBefore}
 
 -- ---- the weight that a run gives to a pixel
@@ -70,7 +70,7 @@ same_more p ds es fs first second = record { same = λ x y from. second.same x y
 -- all runs of a picture are in order
 pub all_in_order : (ds : List Dot) (rs : List Run) → IsPicture ds → rs ≡ runs_of ds → AreInOrder rs
 all_in_order ds rs picture all = record {
-  runs = (total_none ds rs picture all).passes.runs;
+  runs = runs_are_lawful ds rs picture all;
   low = start_of_field;
   dots = rw (all, dots_of-runs_of ds) picture.dots;
 }

@@ -7,7 +7,7 @@ use Rattle.mf_rows.specs.declared.run.Run.{Run}
 use Rattle.mf_rows.specs.Dots.{Dot, IsPicture}
 use Rattle.mf_rows.specs.Order.{IsRun}
 use Rattle.mf_rows.specs.Runs.{runs_of}
-use Rattle.mf_rows.proofs.Totals.{total_none}
+use Rattle.mf_rows.proofs.PassedRuns.{runs_are_lawful}
 use Rattle.mf_show.specs.RunText.{run_line, run_text}
 
 -- a text has the lines of all runs of a picture but the last ones, rs
@@ -16,7 +16,7 @@ pub record AreWritten (ds : List Dot) (rs : List Run) (text : List ℕ) : Type 0
   pub lines : text ++ flat_map run_line rs ≡ flat_map run_line (runs_of ds)
 
 pub none_written : (ds : List Dot) (rs : List Run) (text : List ℕ) → IsPicture ds → rs ≡ runs_of ds → text ≡ [] → AreWritten ds rs text
-none_written ds rs text picture all empty = record { runs = (total_none ds rs picture all).passes.runs; lines = rw (empty, all) refl }
+none_written ds rs text picture all empty = record { runs = runs_are_lawful ds rs picture all; lines = rw (empty, all) refl }
 
 pub next_is_lawful : (ds : List Dot) (rs : List Run) (r : Run) (others : List Run) (text : List ℕ) → rs ≡ r ∷ others → AreWritten ds rs text → IsRun r
 next_is_lawful ds rs r others text first so_far = All-head IsRun r others (All-same IsRun (r ∷ others) rs (sym first) so_far.runs)

@@ -19,7 +19,7 @@ pub fn show_runs(alloc: Global, picture: &Picture) -> Result<Vec<u8>, OutOfMemor
     ensures { IfOk result (λ text. text.items ≡ run_text picture.now) }
 {
     // Room for all lines is asked for at once. A text that grows is copied each time, which takes longer than counting the runs.
-    let mut text = Vec::with_capacity(alloc, most_bytes(picture))?;
+    let mut text = Vec::with_capacity(alloc, room_for_lines(picture))?;
     for run in picture.runs() {
         push_line(&mut text, &run)?;
     }
@@ -30,7 +30,7 @@ pub fn show_runs(alloc: Global, picture: &Picture) -> Result<Vec<u8>, OutOfMemor
 }
 
 /// The most bytes that the lines of all runs take.
-fn most_bytes(picture: &Picture) -> usize {
+fn room_for_lines(picture: &Picture) -> usize {
     let mut most = 0usize;
     for _ in picture.runs() {
         most = most.saturating_add(LONGEST_LINE);
