@@ -6,11 +6,12 @@ ghost use Rattle.mf_frame.specs.Cells.{cell_of};
 ghost use Rattle.mf_frame.specs.Windows.{IsScale, IsWindow, line_of, scale_of, window_at};
 
 use crate::canvas::Canvas;
+use mf_geom::MAX_COORDINATE;
 use mf_rows::Box4;
 use mf_show::extent;
 
 /// The scale at which each picture fits: the field is then two cells wide and two lines high.
-const MAX_SCALE: i32 = 4095;
+const MAX_SCALE: i32 = MAX_COORDINATE;
 
 /// The cells that a frame shows: columns of cells from the left, and lines of two rows of cells each from the bottom. Borders of cells
 /// lie on the axes, so that they stay between the same pixels when the picture grows; in return a window may need one more column or
