@@ -5,7 +5,7 @@ use Rattle.mf_text.specs.Token as token
 use Rattle.mf_text.specs.Grammar.{Form, AddContour, AddPicture, CullKeeping, CullDropping, Clear, Move, ShowTotal, ShowPicture, ShowProof, ShipOut, Shifted, spell_name, spell_source, spell_signed, spell_form, spell_end, Sign, Plus, Minus, Name, Current, Register, Source, Null, Named}
 use Rattle.mf_text.specs.Lines.{Gives}
 use Rattle.mf_text.specs.Meaning.{Meaning, Is, If, Turns, Means, meaning, Command}
-use Rattle.mf_text.specs.Registers.{IsName, IsSource, HasNames}
+use Rattle.mf_text.specs.Registers.{IsName, IsSource, HasNames, register_count}
 use Rattle.mf_text.specs.Tokens.{kinds, tokens, Placed, Token}
 use Rattle.mf_text.specs.TokenTexts.{AreTokens}
 use Rattle.mf_text.proofs.Cuts.{are_tokens}
@@ -15,7 +15,7 @@ use Rattle.mf_text.proofs.TokenTexts.{IsSaid, text_says}
 
 -- what is true of each token of a line: the number of a letter is below 26
 abbrev IsLetter : Token → Type 0
-IsLetter (token.Letter n) = n < 26
+IsLetter (token.Letter n) = n < register_count
 IsLetter _ = Unit {0}
 
 abbrev AreLetters : List Token → Type 0

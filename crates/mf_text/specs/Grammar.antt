@@ -10,11 +10,11 @@ pub use Rattle.mf_text.specs.declared.command.Source.TheVariants.{Null, Named}
 pub use Rattle.mf_text.specs.declared.code.Code.{Code}
 pub use Rattle.mf_text.specs.declared.int.Int.{Int}
 pub use Rattle.mf_text.specs.declared.pair.Pair.{Pair}
-pub use Rattle.mf_text.specs.declared.token.Mark.{Mark}
+use Rattle.mf_text.specs.declared.token.Mark.{Mark}
 use Rattle.mf_text.specs.declared.token.Mark.TheVariants as mark
-pub use Rattle.mf_text.specs.Token.{Token}
+use Rattle.mf_text.specs.Token.{Token}
 use Rattle.mf_text.specs.Token as token
-pub use Rattle.mf_text.specs.declared.token.Word.{Word}
+use Rattle.mf_text.specs.declared.token.Word.{Word}
 use Rattle.mf_text.specs.declared.token.Word.TheVariants as word
 pub use Rattle.mf_text.specs.Ints.{int_value, pair_value}
 

@@ -1,9 +1,8 @@
 -- What a form gives: a command, or a refusal of its values.
 use Rattle.std.specs.Prelude.{◌≡◌, ◌⊎◌, ◌≤◌, ℤ, pos, int_lt, List, length, Some, Result, Ok, Err, if◌then◌else◌}
-pub use Rattle.mf_geom.specs.Faults.{form_fault}
-pub use Rattle.mf_geom.specs.Lawful.{IsRectilinearCycle}
-use Rattle.mf_geom.specs.Lawful.{most_points}
-pub use Rattle.mf_geom.specs.declared.check.Check.{Check}
+use Rattle.mf_geom.specs.Faults.{form_fault}
+use Rattle.mf_geom.specs.Lawful.{IsRectilinearCycle, most_points}
+use Rattle.mf_geom.specs.declared.check.Check.{Check}
 use Rattle.mf_geom.specs.declared.check.Check.TheVariants.{Off, On}
 pub use Rattle.mf_ops.specs.ContourWeight.{IsContourWeight}
 pub use Rattle.mf_ops.specs.Cull.{IsLawfulCull}
