@@ -1,5 +1,5 @@
 -- The history of what a picture's writer holds: how long it is, and what one more event does to it.
-use Rattle.std.proofs.Common.{◌≡◌, ◌≤◌, ◌+◌, false, [], ◌∷◌, ◌++◌, length, ap, sym, ◌∙◌, append_assoc, arith, length-append}
+use Rattle.std.proofs.Common.{◌≡◌, ◌≤◌, ◌+◌, ◌*◌, false, [], ◌∷◌, ◌++◌, length, ap, sym, ◌∙◌, append_assoc, arith, length-append}
 use Rattle.left_right.specs.Sides.{view}
 use Rattle.mf_live.specs.declared.event.Event.{Event}
 use Rattle.mf_live.specs.declared.holder.Holder.{Holder}
@@ -17,14 +17,14 @@ pub lawful : (h : Holder) → IsLawful most (world_after new_world (events h))
 lawful h = lawful-after most (events h) h.lawful
 
 -- at most `most` operations and the end mark were accepted
-pub few_entries : (h : Holder) → length (accepted_list h) ≤ 4294967296
+pub few_entries : (h : Holder) → length (accepted_list h) ≤ most + 1
 few_entries h = omega (arith, length-rev (accepted_list h) (lawful h).ended, (lawful h).few)
 
 -- the shown version knows of at most two events for each entry
-pub few_events : (h : Holder) → length (events_of (version h)) ≤ 8589934592
+pub few_events : (h : Holder) → length (events_of (version h)) ≤ 2 * (most + 1)
 few_events h = omega (arith, h.short, h.since, few_entries h)
 
-pub few_unwritten : (h : Holder) → h.unwritten ≤ 4294967296
+pub few_unwritten : (h : Holder) → h.unwritten ≤ most + 1
 few_unwritten h = omega (arith, h.since, few_entries h)
 
 -- the writer has one more event to write, by which the entry e is accepted

@@ -8,7 +8,6 @@ use super::{CloseFault, Closing, Ended};
 use crate::notice::Notice;
 use crate::rule::Swap;
 use crate::writer::Writer;
-use mf_base::OutOfMemory;
 use std::sync::Wait;
 
 impl Writer {
