@@ -24,7 +24,7 @@ Answers-too_long limits s t xs ys text long longer answer =
     ⊎_elim
     (λ (done : IsPerformed limits s xs text t). absurd (omega (arith, done.given.line_is.text.short)))
     (λ (no : IsRefusedLine s xs text t). inr
-    (record { fault = no.fault; told = no.told; refused = refused-too_long xs ys no.fault long longer no.refused; answer = no.answer }))
+    (record { fault = no.fault; printable = no.printable; refused = refused-too_long xs ys no.fault long longer no.refused; answer = no.answer }))
     answer
 
 -- of a line that grows, as many bytes are kept as of the complete line

@@ -17,7 +17,7 @@ use Rattle.mf_desk.specs.EndedRuns.{IsOver, glance}
 use Rattle.mf_desk.specs.Fault.{Breaks}
 use Rattle.mf_desk.specs.Performances.{IsCompleteText, IsPerformance, Tells, task, run_limits, viewer_lines}
 use Rattle.mf_desk.specs.Streams.{Passes, Streams, streams}
-use Rattle.mf_session.specs.States.{Limits}
+use Rattle.mf_session.specs.States.{Limits, least_bytes}
 use Rattle.mf_watch.specs.Watchers.{HasSeen, glance_at}
 use Rattle.mf_desk.proofs.Stages.{Breaks-nothing}
 
@@ -37,7 +37,7 @@ module _ (settings : Settings) (viewers : ℕ) where
       Tells-script (run_limits settings) OutOfMemory (streams unread unread held held) refl
       ([], Consumes-nil unread, Breaks-nothing (run_limits settings) unread held)
 
-  pub Tells-no_room : (unread held : Option (List ℕ)) → settings.max_bytes < 3 → Passes (streams unread unread held held) (Tells settings viewers FileTooLong)
+  pub Tells-no_room : (unread held : Option (List ℕ)) → settings.max_bytes < least_bytes → Passes (streams unread unread held held) (Tells settings viewers FileTooLong)
   Tells-no_room unread held few = (
     [],
     Consumes-nil unread,

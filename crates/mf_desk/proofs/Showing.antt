@@ -1,5 +1,5 @@
 -- The lines of the viewers of a run whose script has ended, one after another.
-use Rattle.std.proofs.Common.{◌≡◌, ◌≢◌, ◌≤◌, ◌<◌, ◌+◌, ◌*◌, ◌^◌, ℕ, List, [], ◌++◌, Option, length, inr, refl, sym, ap, ◌∙◌, subst, arith, append_assoc, append-nil, length-append}
+use Rattle.std.proofs.Common.{◌≡◌, ◌≢◌, ◌≤◌, ◌<◌, ◌+◌, ◌*◌, ℕ, List, [], ◌++◌, Option, length, inr, refl, sym, ap, ◌∙◌, subst, arith, append_assoc, append-nil, length-append}
 use Rattle.std.specs.Io.KnownBytes.{Appends, IsAtEnd, Keeps}
 use Rattle.std.proofs.KnownBytes.{Appends-kept, Appends-nil, Appends-trans}
 use Rattle.mf_live.specs.declared.sheet.SheetFault.{SheetFault}
@@ -11,6 +11,7 @@ use Rattle.mf_desk.specs.declared.fault.RunFault.TheVariants.{OutOfMemory, Write
 use Rattle.mf_desk.specs.EndedRuns.{IsViewerLine, IsOver, IsSameEnd, glance}
 use Rattle.mf_desk.specs.Fault.{BreaksOff}
 use Rattle.mf_desk.specs.Performances.{IsShownText, Tells, run_limits, viewer_line, viewer_lines}
+use Rattle.mf_desk.specs.Performer.{longest_text}
 use Rattle.mf_desk.specs.Streams.{Gets, HasPassed}
 use Rattle.mf_desk.specs.ViewerFaults.{fault_of_sheet}
 use Rattle.mf_watch.specs.Watchers.{glance_at}
@@ -22,7 +23,7 @@ pub record IsShown (run now : EndedRun) (shown : ℕ) (held holds : Option (List
   pub same : IsSameEnd run now
   pub out : Appends held holds (viewer_lines shown (glance run))
   pub counted : now.written ≡ run.written + length (viewer_lines shown (glance run))
-  pub at_most : now.written ≤ run.written + shown * 2 ^ 64
+  pub at_most : now.written ≤ run.written + shown * longest_text
 
 -- at first no line has gone out
 pub IsShown-start : (run : EndedRun) (held : Option (List ℕ)) → IsShown run run 0 held held
@@ -47,7 +48,7 @@ same_glance run now same = ap glance_at same.published
 -- one more line goes out
 pub IsShown-next : (run before after : EndedRun) (shown : ℕ) (held holds later : Option (List ℕ)) → IsShown run before shown held holds → IsSameEnd before after
     → Appends holds later (viewer_line shown (glance before)) → after.written ≡ before.written + length (viewer_line shown (glance before))
-    → after.written ≤ before.written + 2 ^ 64
+    → after.written ≤ before.written + longest_text
     → IsShown run after (shown + 1) held later
 IsShown-next run before after shown held holds later is same out counted at_most =
     let lines = viewer_lines shown (glance run) in

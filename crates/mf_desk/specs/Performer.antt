@@ -5,13 +5,30 @@ use Rattle.mf_session.specs.Sessions.{StandsFor, limits}
 use Rattle.mf_session.specs.States.{State}
 use Rattle.mf_desk.specs.declared.performer.Performer.{Performer}
 
+-- the most bytes that a read gives
+abbrev pub longest_read : ℕ
+longest_read = 2 ^ 16
+
+-- a line prints fewer bytes than this
+abbrev pub longest_text : ℕ
+longest_text = 2 ^ 64
+
+-- the most bytes that the lines of a script print: each of at most 2 ^ 20 reads gives bytes, each of which may end a line, and one
+-- more line may follow the last line feed
+abbrev pub most_written : ℕ
+most_written = 2 ^ 101
+
+-- the most bytes that a run counts
+abbrev pub most_counted : ℕ
+most_counted = 2 ^ 127
+
 -- a line was performed, and this text of it was written
 pub record IsWritten (before : Performer) (s : State) (line : List ℕ) (after : Performer) (text : List ℕ) : Type 0 where
   pub next : State
   pub answer : Answers (limits before.session) s line text next
   pub stands : StandsFor after.session next
   pub counted : after.written ≡ before.written + length text
-  pub short : length text < 2 ^ 64
+  pub short : length text < longest_text
 
 -- this is what a line prints where those before it have led to this state
 abbrev pub IsLineText : Performer → State → List ℕ → List ℕ → Type 0

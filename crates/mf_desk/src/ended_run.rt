@@ -1,11 +1,12 @@
 //! A run whose script has ended: its viewers are shown the last picture.
 ghost use Rattle.std.specs.Io.KnownBytes.{Appends};
-ghost use Rattle.std.specs.Prelude.{◌≡◌, ◌≢◌, ◌+◌, ◌<◌, ◌≤◌, ◌^◌, ℕ, All, Err, IfErr, IfOk, OnOk, length};
+ghost use Rattle.std.specs.Prelude.{◌≡◌, ◌≢◌, ◌+◌, ◌<◌, ◌≤◌, ℕ, All, Err, IfErr, IfOk, OnOk, length};
 ghost use Rattle.mf_live.specs.Desks.{most_places};
 ghost use Rattle.mf_live.specs.Writers.{ended_identity, ended_published_list};
 ghost use Rattle.mf_desk.specs.EndedRuns.{IsViewerLine, IsSameEnd, StopsShowing, glance, last_looks};
 ghost use Rattle.mf_desk.specs.Fault.{BreaksOff};
 ghost use Rattle.mf_desk.specs.Performances.{viewer_line, viewer_lines};
+ghost use Rattle.mf_desk.specs.Performer.{longest_text, most_counted, most_written};
 ghost use Rattle.mf_desk.specs.Streams.{Gets};
 ghost use Rattle.mf_watch.specs.Watchers.{HasRoomFor, HasSeen, IsRecord, identity};
 
@@ -40,7 +41,7 @@ impl EndedRun {
         requires identities { IfOk joined (λ watchers. All (λ w. identity w ≡ ended_identity self.old.ended) watchers.items) }
         requires rooms { IfOk joined (λ watchers. All (HasRoomFor 1) watchers.items) }
         requires few { IfOk joined (λ watchers. length watchers.items ≤ most_places) }
-        requires short { self.old.written ≤ 2 ^ 101 }
+        requires short { self.old.written ≤ most_written }
         ensures no_look { IfErr joined (λ _. result ≡ Err RunFault.NoLook) }
         ensures same { IsSameEnd self.old self.new }
         ensures shown { IfOk result (λ seen.
@@ -68,7 +69,7 @@ impl EndedRun {
         requires identities { All (λ w. identity w ≡ ended_identity self.old.ended) watchers.items }
         requires rooms { All (HasRoomFor 1) watchers.items }
         requires few { length watchers.items ≤ most_places }
-        requires short { self.old.written ≤ 2 ^ 101 }
+        requires short { self.old.written ≤ most_written }
         ensures same { IsSameEnd self.old self.new }
         ensures shown { OnOk result (Appends (W.contents writer.old) (W.contents writer.new) (viewer_lines (length watchers.items) (glance self.old))) }
         ensures count { IfOk result (λ seen. length seen.items ≡ length watchers.items) }
@@ -96,11 +97,11 @@ impl EndedRun {
     ) -> Result<Vec<Glance>, RunFault>
         requires identity { identity watcher ≡ ended_identity self.old.ended }
         requires room { HasRoomFor 1 watcher }
-        requires short { self.old.written + 2 ^ 64 ≤ 2 ^ 127 }
+        requires short { self.old.written + longest_text ≤ most_counted }
         ensures same { IsSameEnd self.old self.new }
         ensures shown { OnOk result (Appends (W.contents writer.old) (W.contents writer.new) (viewer_line number (glance self.old))) }
         ensures counted { OnOk result (self.new.written ≡ self.old.written + length (viewer_line number (glance self.old))) }
-        ensures at_most { OnOk result (self.new.written ≤ self.old.written + 2 ^ 64) }
+        ensures at_most { OnOk result (self.new.written ≤ self.old.written + longest_text) }
         ensures seen { IfOk result (λ seen. (looks : ℕ) → IsRecord looks watcher → HasSeen (ended_published_list self.old.ended) looks seen.items) }
         ensures no_look { result ≡ Err RunFault.NoLook → writer.new ≡ writer.old }
         ensures fault { IfErr result (λ fault. fault ≢ RunFault.NoLook

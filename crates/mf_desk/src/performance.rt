@@ -1,11 +1,13 @@
 //! A run beside viewers in threads.
 ghost use Rattle.std.specs.Io.KnownBytes.{IsAtEnd};
-ghost use Rattle.std.specs.Prelude.{◌≡◌, ◌≢◌, ◌⊎◌, ◌<◌, ◌≤◌, ◌^◌, ℕ, [], Err, IfErr, IfOk, List, OnOk, Option, length};
+ghost use Rattle.std.specs.Prelude.{◌≡◌, ◌≢◌, ◌⊎◌, ◌<◌, ◌≤◌, ℕ, [], Err, IfErr, IfOk, List, OnOk, Option, length};
 ghost use Rattle.mf_live.specs.Desks.{most_places};
 ghost use Rattle.mf_desk.specs.Performances.{Performs, Tells, task, run_limits};
+ghost use Rattle.mf_desk.specs.Performer.{longest_read};
 ghost use Rattle.mf_desk.specs.Progress.{IsAfter};
 ghost use Rattle.mf_desk.specs.Streams.{Passes, streams_of};
 ghost use Rattle.mf_session.specs.Sessions.{identity, limits};
+ghost use Rattle.mf_session.specs.States.{least_bytes};
 ghost use Rattle.mf_watch.specs.Watching.{AreStarted, viewer_count};
 
 use crate::fault::RunFault;
@@ -40,8 +42,8 @@ pub fn perform<S: Wait + Threads, R: Read, W: Write, G: Gate + 'static>(
     gate: &Arc<G>,
 ) -> Result<Outcome, RunFault>
     requires { viewers ≤ most_places }
-    ensures too_small { settings.now.max_bytes < 3 → (result ≡ Err RunFault.FileTooLong) ⊎ (result ≡ Err RunFault.OutOfMemory) }
-    ensures untouched { settings.now.max_bytes < 3 → (reader.new ≡ reader.old) × (writer.new ≡ writer.old) }
+    ensures too_small { settings.now.max_bytes < least_bytes → (result ≡ Err RunFault.FileTooLong) ⊎ (result ≡ Err RunFault.OutOfMemory) }
+    ensures untouched { settings.now.max_bytes < least_bytes → (reader.new ≡ reader.old) × (writer.new ≡ writer.old) }
     ensures no_place { result ≡ Err RunFault.NoPlace → (reader.new ≡ reader.old) × (writer.new ≡ writer.old) }
     ensures performance { IfOk result
         (Performs (task settings.now viewers looks) (streams_of R.remaining reader.old reader.new W.contents writer.old writer.new)) }
@@ -87,7 +89,7 @@ fn perform_beside_viewers<S: Wait + Threads, R: Read, W: Write>(
     requires unwritten { progress.performer.written ≡ 0 }
     requires limits { limits progress.performer.session ≡ run_limits settings.now }
     requires some { 0 < length chunk.old }
-    requires short { length chunk.old ≤ 2 ^ 16 }
+    requires short { length chunk.old ≤ longest_read }
     requires few { viewer_count watching ≤ most_places }
     requires started { (looks : ℕ) × AreStarted (identity progress.performer.session) looks watching }
     ensures performance { IfOk result (λ outcome. (looks : ℕ) → AreStarted (identity progress.performer.session) looks watching

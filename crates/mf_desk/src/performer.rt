@@ -1,13 +1,13 @@
 //! Performing lines one after another, and writing what each prints before the next is performed.
-ghost use Rattle.std.specs.Prelude.{◌≡◌, ◌⊎◌, ◌+◌, ◌<◌, ◌≤◌, ◌^◌, ◌↔◌, Err, IfErr, IfOk, OnOk};
+ghost use Rattle.std.specs.Prelude.{◌≡◌, ◌⊎◌, ◌+◌, ◌<◌, ◌≤◌, ◌↔◌, Err, IfErr, IfOk, OnOk};
 ghost use Rattle.mf_live.specs.Desks.{desk_identity, most_places, remaining_viewers};
 ghost use Rattle.mf_desk.specs.EndedRuns.{IsEndOf};
 ghost use Rattle.mf_desk.specs.Fault.{BreaksOff};
 ghost use Rattle.mf_desk.specs.Performances.{run_limits};
-ghost use Rattle.mf_desk.specs.Performer.{IsLineText, IsWritten};
+ghost use Rattle.mf_desk.specs.Performer.{IsLineText, IsWritten, longest_text, most_counted};
 ghost use Rattle.mf_desk.specs.Streams.{Gets};
 ghost use Rattle.mf_session.specs.Sessions.{StandsFor, identity, limits};
-ghost use Rattle.mf_session.specs.States.{State, start};
+ghost use Rattle.mf_session.specs.States.{State, least_bytes, start};
 
 use crate::ended_run::EndedRun;
 use crate::fault::RunFault;
@@ -42,7 +42,7 @@ impl Performer {
         ensures identity { IfOk result (λ made. desk_identity made.1 ≡ identity made.0.session) }
         ensures places { IfOk result (λ made. remaining_viewers made.1 ≤ viewers) }
         ensures written { IfOk result (λ made. made.0.written ≡ 0) }
-        ensures too_long { (settings.now.max_bytes < 3) ↔ (result ≡ Err RunFault.FileTooLong) }
+        ensures too_long { (settings.now.max_bytes < least_bytes) ↔ (result ≡ Err RunFault.FileTooLong) }
         ensures fault { IfErr result (λ fault. (fault ≡ RunFault.FileTooLong) ⊎ (fault ≡ RunFault.OutOfMemory)) }
     {
         match Session::new(rt, alloc, viewers, settings.max_ops, settings.max_bytes) {
@@ -67,10 +67,10 @@ impl Performer {
         writer: &mut W,
         line: &[u8],
     ) -> Result<(), RunFault>
-        requires { self.old.written + 2 ^ 64 ≤ 2 ^ 127 }
+        requires { self.old.written + longest_text ≤ most_counted }
         ensures written { OnOk result ((s : State) → StandsFor self.old.session s
             → Gets (W.contents writer.old) (W.contents writer.new) (IsWritten self.old s line.now self.new)) }
-        ensures at_most { OnOk result (self.new.written ≤ self.old.written + 2 ^ 64) }
+        ensures at_most { OnOk result (self.new.written ≤ self.old.written + longest_text) }
         ensures limits { limits self.new.session ≡ limits self.old.session }
         ensures identity { identity self.new.session ≡ identity self.old.session }
         ensures fault { IfErr result (λ fault. (s : State) → StandsFor self.old.session s
@@ -90,10 +90,10 @@ impl Performer {
         writer: &mut W,
         line: &[u8],
     ) -> Result<(), RunFault>
-        requires { self.old.written + 2 ^ 64 ≤ 2 ^ 127 }
+        requires { self.old.written + longest_text ≤ most_counted }
         ensures written { OnOk result ((s : State) → StandsFor self.old.session s
             → Gets (W.contents writer.old) (W.contents writer.new) (IsWritten self.old s line.now self.new)) }
-        ensures at_most { OnOk result (self.new.written ≤ self.old.written + 2 ^ 64) }
+        ensures at_most { OnOk result (self.new.written ≤ self.old.written + longest_text) }
         ensures limits { limits self.new.session ≡ limits self.old.session }
         ensures identity { identity self.new.session ≡ identity self.old.session }
         ensures fault { IfErr result (λ fault. (s : State) → StandsFor self.old.session s

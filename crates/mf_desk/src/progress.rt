@@ -1,15 +1,17 @@
 //! A run in progress: the lines that have been performed, and the bytes of the unended line.
 ghost use Rattle.std.specs.Io.KnownBytes.{IsAtEnd};
 ghost use Rattle.std.specs.Str.Lines.{lines};
-ghost use Rattle.std.specs.Prelude.{◌≡◌, ◌≢◌, ◌⊎◌, ◌+◌, ◌*◌, ◌<◌, ◌≤◌, ◌^◌, ◌↔◌, ◌++◌, ◌∷◌, All, Err, Option, List, ℕ, [], IfErr, IfOk, OnOk, length};
+ghost use Rattle.std.specs.Prelude.{◌≡◌, ◌≢◌, ◌⊎◌, ◌+◌, ◌*◌, ◌<◌, ◌≤◌, ◌↔◌, ◌++◌, ◌∷◌, All, Err, Option, List, ℕ, [], IfErr, IfOk, OnOk, length};
 ghost use Rattle.mf_live.specs.Desks.{desk_identity, most_places, remaining_viewers};
 ghost use Rattle.mf_live.specs.Writers.{ended_identity};
 ghost use Rattle.mf_desk.specs.EndedRuns.{EndsWith};
 ghost use Rattle.mf_desk.specs.Fault.{Breaks};
 ghost use Rattle.mf_desk.specs.Performances.{run_limits};
+ghost use Rattle.mf_desk.specs.Performer.{longest_read, longest_text, most_counted, most_written};
 ghost use Rattle.mf_desk.specs.Progress.{BreaksAfter, GoesOn, HasCounted, IsAfter, ReadsThrough, taking};
 ghost use Rattle.mf_desk.specs.Streams.{HasPassed, Passes, streams_of};
 ghost use Rattle.mf_session.specs.Sessions.{identity, limits};
+ghost use Rattle.mf_session.specs.States.{least_bytes};
 
 use crate::ended_run::EndedRun;
 use crate::fault::RunFault;
@@ -49,7 +51,7 @@ impl Progress {
         ensures identity { IfOk result (λ made. desk_identity made.1 ≡ identity made.0.performer.session) }
         ensures places { IfOk result (λ made. remaining_viewers made.1 ≤ viewers) }
         ensures written { IfOk result (λ made. made.0.performer.written ≡ 0) }
-        ensures too_long { (settings.now.max_bytes < 3) ↔ (result ≡ Err RunFault.FileTooLong) }
+        ensures too_long { (settings.now.max_bytes < least_bytes) ↔ (result ≡ Err RunFault.FileTooLong) }
         ensures fault { IfErr result (λ fault. (fault ≡ RunFault.FileTooLong) ⊎ (fault ≡ RunFault.OutOfMemory)) }
     {
         let (performer, desk) = Performer::new(rt, alloc, settings, viewers)?;
@@ -70,11 +72,11 @@ impl Progress {
         requires start { (held : Option (List ℕ)) → IsAfter held [] self held }
         requires unwritten { self.performer.written ≡ 0 }
         requires some { 0 < length chunk.old }
-        requires few { length chunk.old ≤ 2 ^ 16 }
+        requires few { length chunk.old ≤ longest_read }
         ensures over { IfOk result (λ run. EndsWith (limits self.performer.session)
             (streams_of R.remaining reader.old reader.new W.contents writer.old writer.new) run) }
         ensures identity { IfOk result (λ run. ended_identity run.ended ≡ identity self.performer.session) }
-        ensures short { IfOk result (λ run. run.written ≤ 2 ^ 101) }
+        ensures short { IfOk result (λ run. run.written ≤ most_written) }
         ensures end { OnOk result (IsAtEnd (R.remaining reader.new)) }
         ensures fault { IfErr result (λ fault. Passes (streams_of R.remaining reader.old reader.new W.contents writer.old writer.new)
             (Breaks (limits self.performer.session) fault)) }
@@ -105,10 +107,10 @@ impl Progress {
         requires start { (held : Option (List ℕ)) → IsAfter held [] self.old held }
         requires unwritten { self.old.performer.written ≡ 0 }
         requires some { 0 < length chunk.old }
-        requires few { length chunk.old ≤ 2 ^ 16 }
+        requires few { length chunk.old ≤ longest_read }
         ensures through { OnOk result
             (ReadsThrough (streams_of R.remaining reader.old reader.new W.contents writer.old writer.new) self.new.performer) }
-        ensures short { OnOk result (self.new.performer.written ≤ 2 ^ 101) }
+        ensures short { OnOk result (self.new.performer.written ≤ most_written) }
         ensures limits { limits self.new.performer.session ≡ limits self.old.performer.session }
         ensures identity { identity self.new.performer.session ≡ identity self.old.performer.session }
         ensures end { OnOk result (IsAtEnd (R.remaining reader.new)) }
@@ -135,9 +137,9 @@ impl Progress {
         writer: &mut W,
         bytes: &[u8],
     ) -> Result<(), RunFault>
-        requires { self.old.performer.written + length bytes.now * 2 ^ 64 ≤ 2 ^ 127 }
+        requires { self.old.performer.written + length bytes.now * longest_text ≤ most_counted }
         ensures after { OnOk result (GoesOn (taking self.old bytes.now (W.contents writer.old) (W.contents writer.new)) self.new) }
-        ensures at_most { OnOk result (self.new.performer.written ≤ self.old.performer.written + length bytes.now * 2 ^ 64) }
+        ensures at_most { OnOk result (self.new.performer.written ≤ self.old.performer.written + length bytes.now * longest_text) }
         ensures limits { limits self.new.performer.session ≡ limits self.old.performer.session }
         ensures identity { identity self.new.performer.session ≡ identity self.old.performer.session }
         ensures fault { IfErr result (BreaksAfter (taking self.old bytes.now (W.contents writer.old) (W.contents writer.new))) }
@@ -159,10 +161,10 @@ impl Progress {
         writer: &mut W,
         bytes: &[u8],
     ) -> Result<(), RunFault>
-        requires room { self.old.performer.written + 2 ^ 64 ≤ 2 ^ 127 }
+        requires room { self.old.performer.written + longest_text ≤ most_counted }
         requires unbroken { All (λ byte. byte ≢ 10) bytes.now }
         ensures after { OnOk result (GoesOn (taking self.old (bytes.now ++ 10 ∷ []) (W.contents writer.old) (W.contents writer.new)) self.new) }
-        ensures at_most { OnOk result (self.new.performer.written ≤ self.old.performer.written + 2 ^ 64) }
+        ensures at_most { OnOk result (self.new.performer.written ≤ self.old.performer.written + longest_text) }
         ensures limits { limits self.new.performer.session ≡ limits self.old.performer.session }
         ensures identity { identity self.new.performer.session ≡ identity self.old.performer.session }
         ensures fault { IfErr result (BreaksAfter (taking self.old (bytes.now ++ 10 ∷ []) (W.contents writer.old) (W.contents writer.new))) }
@@ -182,10 +184,10 @@ impl Progress {
         alloc: Global,
         writer: &mut W,
     ) -> Result<(), RunFault>
-        requires { self.old.performer.written + 2 ^ 64 ≤ 2 ^ 127 }
+        requires { self.old.performer.written + longest_text ≤ most_counted }
         ensures done { OnOk result ((held : Option (List ℕ)) (read : List ℕ) → IsAfter held read self.old (W.contents writer.old)
             → HasCounted held (lines read) self.new.performer (W.contents writer.new)) }
-        ensures at_most { OnOk result (self.new.performer.written ≤ self.old.performer.written + 2 ^ 64) }
+        ensures at_most { OnOk result (self.new.performer.written ≤ self.old.performer.written + longest_text) }
         ensures limits { limits self.new.performer.session ≡ limits self.old.performer.session }
         ensures identity { identity self.new.performer.session ≡ identity self.old.performer.session }
         ensures fault { IfErr result (λ fault. (held left : Option (List ℕ)) (read : List ℕ) → IsAtEnd left
@@ -207,9 +209,9 @@ impl Progress {
         alloc: Global,
         writer: &mut W,
     ) -> Result<(), RunFault>
-        requires { self.old.performer.written + 2 ^ 64 ≤ 2 ^ 127 }
+        requires { self.old.performer.written + longest_text ≤ most_counted }
         ensures after { OnOk result (GoesOn (taking self.old (10 ∷ []) (W.contents writer.old) (W.contents writer.new)) self.new) }
-        ensures at_most { OnOk result (self.new.performer.written ≤ self.old.performer.written + 2 ^ 64) }
+        ensures at_most { OnOk result (self.new.performer.written ≤ self.old.performer.written + longest_text) }
         ensures limits { limits self.new.performer.session ≡ limits self.old.performer.session }
         ensures identity { identity self.new.performer.session ≡ identity self.old.performer.session }
         ensures fault { IfErr result (BreaksAfter (taking self.old (10 ∷ []) (W.contents writer.old) (W.contents writer.new))) }

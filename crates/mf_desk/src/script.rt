@@ -5,6 +5,7 @@ ghost use Rattle.mf_gf.specs.Files.{Character, IsLongFile, file_if_any};
 ghost use Rattle.mf_gf.specs.Keeping.{Keeps, max_bytes_of};
 ghost use Rattle.mf_desk.specs.Performances.{Performs, Tells, task};
 ghost use Rattle.mf_desk.specs.Streams.{Passes, streams_of};
+ghost use Rattle.mf_session.specs.States.{least_bytes};
 
 use crate::fault::RunFault;
 use crate::outcome::Outcome;
@@ -35,8 +36,8 @@ pub fn run<S: Wait, R: Read, W: Write>(
     ensures end { OnOk result (IsAtEnd (R.remaining reader.new)) }
     ensures fault { IfErr result (λ fault.
         Passes (streams_of R.remaining reader.old reader.new W.contents writer.old writer.new) (Tells settings.now 0 fault)) }
-    ensures too_small { settings.now.max_bytes < 3 → (result ≡ Err RunFault.FileTooLong) ⊎ (result ≡ Err RunFault.OutOfMemory) }
-    ensures untouched { settings.now.max_bytes < 3 → (reader.new ≡ reader.old) × (writer.new ≡ writer.old) }
+    ensures too_small { settings.now.max_bytes < least_bytes → (result ≡ Err RunFault.FileTooLong) ⊎ (result ≡ Err RunFault.OutOfMemory) }
+    ensures untouched { settings.now.max_bytes < least_bytes → (reader.new ≡ reader.old) × (writer.new ≡ writer.old) }
 {
     // Memory for reads comes first: where it fails, nothing was read or written.
     let mut memory = vec![in alloc; 0u8; CHUNK_SIZE]?;

@@ -14,7 +14,7 @@ use Rattle.mf_text.specs.declared.command.Name.{Name}
 use Rattle.mf_text.proofs.OneAnswer.{gives_one, refused_once, given_or_refused}
 use Rattle.mf_session.specs.declared.refusal.Refusal.TheVariants.{Line}
 use Rattle.mf_session.specs.Answers.{Prints, Operates, KeepsRest, ProofAnswers, AnswersTo, Answers}
-use Rattle.mf_session.specs.Changes.{refusal_of, pictures_after, Becomes}
+use Rattle.mf_session.specs.Changes.{refusal_of, on, pictures_after, Becomes}
 use Rattle.mf_session.specs.Pictures.{Pictures, source_picture}
 use Rattle.mf_session.specs.Shipments.{Ships}
 use Rattle.mf_session.specs.Refusals.{refusal_line}
@@ -40,7 +40,7 @@ becomes_once None s new t u text other p q = (p.0 ∙ sym q.0, p.1 ∙ sym q.1)
 becomes_once (Some why) s new t u text other p q = (p.0 ∙ sym q.0, p.1 ∙ sym q.1)
 
 operates_once : (limits : Limits) (s t u : State) (name : Name) (op : Op) (text other : List ℕ)
-    → Operates limits s name op text t → Operates limits s name op other u → (text ≡ other) × (t ≡ u)
+    → Operates limits s (on name op) text t → Operates limits s (on name op) other u → (text ≡ other) × (t ≡ u)
 operates_once limits s t u name op text other p q =
     let (same_text, same_pictures) =
     becomes_once (refusal_of limits.max_ops s.pictures name op) s.pictures (pictures_after s.pictures name op) t.pictures u.pictures text other p.0 q.0 in
@@ -89,11 +89,11 @@ pub one_answer : (limits : Limits) (s t u : State) (line text other : List ℕ) 
 one_answer limits s t u line text other (inl p) (inl q) =
     answers_once limits s t u q.command text other
     (subst (λ given. AnswersTo limits s given text t) (gives_one line p.command q.command p.given q.given) p.answer) q.answer
-one_answer limits s t u line text other (inl p) (inr q) = absurd (given_or_refused line p.command q.fault q.told p.given q.refused)
-one_answer limits s t u line text other (inr p) (inl q) = absurd (given_or_refused line q.command p.fault p.told q.given p.refused)
+one_answer limits s t u line text other (inl p) (inr q) = absurd (given_or_refused line p.command q.fault q.printable p.given q.refused)
+one_answer limits s t u line text other (inr p) (inl q) = absurd (given_or_refused line q.command p.fault p.printable q.given p.refused)
 one_answer limits s t u line text other (inr p) (inr q) =
     prints_once s t u (refusal_line (Line q.fault)) text other
-    (subst (λ why. Prints s (refusal_line (Line why)) text t) (refused_once line p.fault q.fault p.told q.told p.refused q.refused) p.answer) q.answer
+    (subst (λ why. Prints s (refusal_line (Line why)) text t) (refused_once line p.fault q.fault p.printable q.printable p.refused q.refused) p.answer) q.answer
 
 performed_once : (limits : Limits) (s t u : State) (lines : List (List ℕ)) (text other : List ℕ)
     → Perform limits s lines text t → Perform limits s lines other u → (text ≡ other) × (t ≡ u)

@@ -10,17 +10,18 @@ use Rattle.mf_live.specs.declared.fault.Fault.{Fault}
 use Rattle.mf_ops.specs.declared.op.Op.{Op}
 use Rattle.mf_ops.specs.declared.op.Op.TheVariants as ops
 use Rattle.mf_rows.specs.Dots.{Dot}
-use Rattle.mf_show.specs.Grid.{IsTooLarge, box_text, extent}
+use Rattle.mf_rows.proofs.BoxesJoined.{box_of_some}
+use Rattle.mf_show.specs.Grid.{IsTooLarge, box_text, extent, greatest_grid_side}
 use Rattle.mf_show.specs.RunText.{run_text}
 use Rattle.mf_show.proofs.GridTexts.{grid_of_box, not_too_large, some_grid_text}
-use Rattle.mf_show.proofs.LeastBoxes.{least_box_of_some, some_least_box}
+use Rattle.mf_show.proofs.LeastBoxes.{some_least_box}
 use Rattle.mf_text.specs.declared.command.Command.{Command}
 use Rattle.mf_text.specs.declared.command.Command.TheVariants.{Nothing, Turning, Contour, Also, Cull, Clear, Shift, Scale, Quarter, Total, Show, Proof, Ship, Publish}
 use Rattle.mf_text.specs.declared.command.Name.{Name}
 use Rattle.mf_text.proofs.SomeAnswer as text
 use Rattle.mf_session.specs.declared.refusal.Refusal.TheVariants.{FileTooLong, Line, ProofTooLarge, Operation as RefusedOperation}
 use Rattle.mf_session.specs.Answers.{Answers, AnswersTo, Operates, ProofAnswers, total_line}
-use Rattle.mf_session.specs.Changes.{Becomes, pictures_after, refusal_of}
+use Rattle.mf_session.specs.Changes.{Becomes, on, pictures_after, refusal_of}
 use Rattle.mf_session.specs.Pictures.{Pictures, source_picture}
 use Rattle.mf_session.specs.Refusals.{refusal_line}
 use Rattle.mf_session.specs.Shipments.{Ships}
@@ -33,7 +34,7 @@ becomes_some : (refused : Option Fault) (s new : Pictures) → (text : List ℕ)
 becomes_some None s new = ([], new, (refl, refl))
 becomes_some (Some why) s new = (refusal_line (RefusedOperation why), s, (refl, refl))
 
-operates_some : (limits : Limits) (s : State) (name : Name) (op : Op) → (text : List ℕ) × (t : State) × Operates limits s name op text t
+operates_some : (limits : Limits) (s : State) (name : Name) (op : Op) → (text : List ℕ) × (t : State) × Operates limits s (on name op) text t
 operates_some limits s name op =
     let (text, pictures, becomes) = becomes_some (refusal_of limits.max_ops s.pictures name op) s.pictures (pictures_after s.pictures name op) in
     (text, record { pictures = pictures; check = s.check; characters = s.characters }, (becomes, record { check = refl; characters = refl }))
@@ -44,12 +45,12 @@ refused_proof ds large = (refusal_line ProofTooLarge, inl (record { too_large = 
 -- a picture has a grid text, or that text is too large
 proof_some : (ds : List Dot) → (text : List ℕ) × ProofAnswers ds text
 proof_some [] =
-    let (text, grid) = some_grid_text [] in (text, inr (record { fits = λ large. least_box_of_some large.bounds large.least; printed = grid }))
+    let (text, grid) = some_grid_text [] in (text, inr (record { fits = λ large. box_of_some large.bounds large.least; printed = grid }))
 proof_some (d ∷ ds) =
     let (b, least) = some_least_box d ds in
-    elim (cases_lt 128 (extent b.min_x b.max_x)) [
+    elim (cases_lt greatest_grid_side (extent b.min_x b.max_x)) [
       | inl wide ↦ refused_proof (d ∷ ds) (record { bounds = b; least = least; large = inl wide })
-      | inr narrow ↦ elim (cases_lt 128 (extent b.min_y b.max_y)) [
+      | inr narrow ↦ elim (cases_lt greatest_grid_side (extent b.min_y b.max_y)) [
         | inl high ↦ refused_proof (d ∷ ds) (record { bounds = b; least = least; large = inr high })
         | inr low ↦ (
           box_text (d ∷ ds) b,
@@ -98,7 +99,7 @@ some_answer limits s line =
     elim (text.some_answer line) [
       | inl (given, gives) ↦ (let
           (printed, t, answer) = command_some limits s given in (printed, t, inl (record { command = given; given = gives; answer = answer })))
-      | inr (fault, told, refused) ↦ (refusal_line (Line fault), s, inr (record { fault = fault; told = told; refused = refused; answer = (refl, refl) }))
+      | inr (fault, printable, refused) ↦ (refusal_line (Line fault), s, inr (record { fault = fault; printable = printable; refused = refused; answer = (refl, refl) }))
     ]
 
 perform_some : (limits : Limits) (s : State) (more : List (List ℕ)) → (text : List ℕ) × (t : State) × Perform limits s more text t

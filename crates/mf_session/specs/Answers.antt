@@ -3,17 +3,15 @@ use Rattle.std.specs.Prelude.{◌≡◌, ◌≢◌, ◌⊎◌, ℕ, List, [], �
 use Rattle.std.specs.Fmt.{signed_decimal}
 use Rattle.mf_gf.specs.Keeping.{character}
 use Rattle.mf_rows.specs.Dots.{Dot, total_of}
-use Rattle.mf_ops.specs.declared.op.Op.{Op}
 use Rattle.mf_ops.specs.declared.op.Op.TheVariants as ops
 use Rattle.mf_show.specs.Grid.{IsGridText, IsTooLarge}
 use Rattle.mf_show.specs.RunText.{run_text}
 use Rattle.mf_text.specs.Lines.{Gives, IsRefused}
 use Rattle.mf_text.specs.declared.command.Command.{Command}
 use Rattle.mf_text.specs.declared.command.Command.TheVariants.{Nothing, Turning, Contour, Also, Cull, Clear, Shift, Scale, Quarter, Total, Show, Proof, Ship, Publish}
-use Rattle.mf_text.specs.declared.command.Name.{Name}
 use Rattle.mf_text.specs.declared.fault.TextFault.{TextFault}
 use Rattle.mf_text.specs.declared.fault.TextFault.TheVariants.{OutOfMemory}
-use Rattle.mf_session.specs.Changes.{OperatesOn, PublishesAll}
+use Rattle.mf_session.specs.Changes.{OpOn, OperatesOn, PublishesAll, on}
 use Rattle.mf_session.specs.Pictures.{source_picture}
 use Rattle.mf_session.specs.Refusals.{refusal_line}
 use Rattle.mf_session.specs.Shipments.{Ships}
@@ -30,8 +28,8 @@ pub record KeepsRest (s t : State) : Type 0 where
   pub characters : t.characters ≡ s.characters
 
 -- what an operation on a picture answers
-abbrev pub Operates : Limits → State → Name → Op → List ℕ → State → Type 0
-Operates limits s name op text t = OperatesOn limits.max_ops s.pictures name op text t.pictures × KeepsRest s t
+abbrev pub Operates : Limits → State → OpOn → List ℕ → State → Type 0
+Operates limits s o text t = OperatesOn limits.max_ops s.pictures o text t.pictures × KeepsRest s t
 
 -- shipping changes neither the pictures nor the turning check
 pub record KeepsDrawn (s t : State) : Type 0 where
@@ -60,13 +58,13 @@ ProofAnswers ds text = IsRefusedProof ds text ⊎ IsProof ds text
 abbrev pub AnswersTo : Limits → State → Command → List ℕ → State → Type 0
 AnswersTo limits s Nothing text t = Prints s [] text t
 AnswersTo limits s (Turning check) text t = (text ≡ []) × (t ≡ record s { check = check })
-AnswersTo limits s (Contour name cycle weight) text t = Operates limits s name (ops.Contour cycle weight s.check) text t
-AnswersTo limits s (Also name source sign) text t = Operates limits s name (ops.Also (source_picture s.pictures source) sign) text t
-AnswersTo limits s (Cull name cull) text t = Operates limits s name (ops.Cull cull) text t
-AnswersTo limits s (Clear name) text t = Operates limits s name ops.Clear text t
-AnswersTo limits s (Shift name dx dy) text t = Operates limits s name (ops.Shift dx dy) text t
-AnswersTo limits s (Scale name factors) text t = Operates limits s name (ops.Scale factors) text t
-AnswersTo limits s (Quarter name quarter) text t = Operates limits s name (ops.Quarter quarter) text t
+AnswersTo limits s (Contour name cycle weight) text t = Operates limits s (on name (ops.Contour cycle weight s.check)) text t
+AnswersTo limits s (Also name source sign) text t = Operates limits s (on name (ops.Also (source_picture s.pictures source) sign)) text t
+AnswersTo limits s (Cull name cull) text t = Operates limits s (on name (ops.Cull cull)) text t
+AnswersTo limits s (Clear name) text t = Operates limits s (on name ops.Clear) text t
+AnswersTo limits s (Shift name dx dy) text t = Operates limits s (on name (ops.Shift dx dy)) text t
+AnswersTo limits s (Scale name factors) text t = Operates limits s (on name (ops.Scale factors)) text t
+AnswersTo limits s (Quarter name quarter) text t = Operates limits s (on name (ops.Quarter quarter)) text t
 AnswersTo limits s (Total source) text t = Prints s (total_line (source_picture s.pictures source)) text t
 AnswersTo limits s (Show source) text t = Prints s (run_text (source_picture s.pictures source)) text t
 AnswersTo limits s (Proof source) text t = ProofAnswers (source_picture s.pictures source) text × (t ≡ s)
@@ -83,7 +81,7 @@ pub record IsPerformed (limits : Limits) (s : State) (line : List ℕ) (text : L
 -- a line is refused, and prints why
 pub record IsRefusedLine (s : State) (line : List ℕ) (text : List ℕ) (t : State) : Type 0 where
   pub fault : TextFault
-  pub told : fault ≢ OutOfMemory
+  pub printable : fault ≢ OutOfMemory
   pub refused : IsRefused line fault
   pub answer : Prints s (refusal_line (Line fault)) text t
 

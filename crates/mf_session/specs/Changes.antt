@@ -32,9 +32,18 @@ abbrev pub Becomes : Option Fault → Pictures → Pictures → List ℕ → Pic
 Becomes None s new text t = (text ≡ []) × (t ≡ new)
 Becomes (Some why) s new text t = (text ≡ refusal_line (RefusedOperation why)) × (t ≡ s)
 
+-- an operation, and on which picture
+pub record OpOn : Type 0 where
+  pub name : Name
+  pub op : Op
+
+-- these two, in this order
+abbrev pub on : Name → Op → OpOn
+on name op = record { name = name; op = op }
+
 -- what an operation on a picture answers
-abbrev pub OperatesOn : ℕ → Pictures → Name → Op → List ℕ → Pictures → Type 0
-OperatesOn max_ops s name op text t = Becomes (refusal_of max_ops s name op) s (pictures_after s name op) text t
+abbrev pub OperatesOn : ℕ → Pictures → OpOn → List ℕ → Pictures → Type 0
+OperatesOn max_ops s o text t = Becomes (refusal_of max_ops s o.name o.op) s (pictures_after s o.name o.op) text t
 
 -- everything that was accepted is published, and its revision is printed
 abbrev pub PublishesAll : Pictures → List ℕ → Pictures → Type 0

@@ -32,3 +32,7 @@ most_operations = 1000000
 -- the greatest number of bytes that the programs let a font file have
 abbrev pub most_bytes : ℕ
 most_bytes = 16777216
+
+-- the number of bytes of the shortest font file, a preamble without a comment
+abbrev pub least_bytes : ℕ
+least_bytes = 3

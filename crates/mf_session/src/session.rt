@@ -41,7 +41,7 @@ impl Session {
     ghost use Rattle.mf_session.specs.Endings.{HasEnded, IsHandedBack, IsKept};
     ghost use Rattle.mf_session.specs.Pictures.{picture};
     ghost use Rattle.mf_session.specs.Sessions.{IsAnswered, StandsFor, identity, limits};
-    ghost use Rattle.mf_session.specs.States.{State, limits_of, start};
+    ghost use Rattle.mf_session.specs.States.{State, least_bytes, limits_of, start};
 
     /// Opens a session in which nothing has happened, and the desk for viewers of its `currentpicture`, with at most `places` of
     /// them. The session accepts at most `max_ops` operations on `currentpicture`. Its font file has no comment and at most
@@ -60,7 +60,7 @@ impl Session {
         ensures limits { IfOk result (λ made. limits made.0 ≡ limits_of max_ops max_bytes) }
         ensures identity { IfOk result (λ made. desk_identity made.1 ≡ identity made.0) }
         ensures places { IfOk result (λ made. remaining_viewers made.1 ≤ places) }
-        ensures too_long { (max_bytes < 3) ↔ (result ≡ Err GfFault.FileTooLong) }
+        ensures too_long { (max_bytes < least_bytes) ↔ (result ≡ Err GfFault.FileTooLong) }
         ensures fault { IfErr result (λ fault. (fault ≡ GfFault.FileTooLong) ⊎ (fault ≡ GfFault.OutOfMemory)) }
     {
         let file = GfFile::new(alloc, &[], max_bytes)?;

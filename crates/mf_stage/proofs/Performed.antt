@@ -33,7 +33,7 @@ published-all limits s line text t (inl performed) given =
     let answer = subst (λ command. AnswersTo limits s command text t) (gives_one line performed.command Publish performed.given given) performed.answer in
     let pictures = answer.0.1 in
     ap (λ p. p.published) pictures ∙ sym (ap (λ p. p.accepted) pictures)
-published-all limits s line text t (inr refused) given = absurd (given_or_refused line Publish refused.fault refused.told given refused.refused)
+published-all limits s line text t (inr refused) given = absurd (given_or_refused line Publish refused.fault refused.printable given refused.refused)
 
 module _ (before after : Stage) (s : State) (line text : List ℕ) (held holds : Option (List ℕ)) (publishes : Bool)
     (means : (publishes ≡ true) ↔ Gives line Publish)

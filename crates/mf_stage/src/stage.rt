@@ -3,7 +3,7 @@ ghost use Rattle.std.specs.Prelude.{◌≡◌, ◌⊎◌, ◌<◌, ◌≤◌, �
 ghost use Rattle.mf_live.specs.Desks.{desk_identity, remaining_viewers};
 ghost use Rattle.mf_session.specs.Endings.{HasEnded};
 ghost use Rattle.mf_live.specs.Entries.{pic, rev};
-ghost use Rattle.mf_session.specs.States.{State, limits_of, start};
+ghost use Rattle.mf_session.specs.States.{State, least_bytes, limits_of, start};
 ghost use Rattle.mf_stage.specs.Faults.{BreaksLines, BreaksScript, ConcernsPlate, IsOfImage, IsOfPlate};
 ghost use Rattle.mf_stage.specs.Publications.{IsPlateWhere, IsPublication};
 ghost use Rattle.mf_stage.specs.Scripts.{HasPerformedLine, PerformsLines, PerformsAll, StillStands, act_of};
@@ -53,7 +53,7 @@ impl Stage {
         ensures identity { IfOk result (λ made. desk_identity made.1 ≡ identity made.0) }
         ensures plates { IfOk result (λ made. plates_of made.0 ≡ plates) }
         ensures places { IfOk result (λ made. remaining_viewers made.1 ≤ 1) }
-        ensures too_long { (script_limits.now.max_bytes < 3) ↔ (result ≡ Err StageFault.FileTooLong) }
+        ensures too_long { (script_limits.now.max_bytes < least_bytes) ↔ (result ≡ Err StageFault.FileTooLong) }
         ensures fault { IfErr result (λ fault. (fault ≡ StageFault.FileTooLong) ⊎ (fault ≡ StageFault.OutOfMemory)) }
     {
         match Session::new(rt, alloc, 1, script_limits.max_ops, script_limits.max_bytes) {

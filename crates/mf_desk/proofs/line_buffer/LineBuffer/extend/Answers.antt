@@ -2,6 +2,7 @@ use Rattle.std.proofs.Common.{◌≡◌, ◌+◌, ◌-◌, ◌≤◌, ◌++◌, 
 use Rattle.std.specs.Prelude.{OnOk, is_ok, if◌then◌else◌}
 use Rattle.std.proofs.Math.Seq.{take-append-add}
 use Rattle.std.proofs.lemmas.List.{take_min}
+use Rattle.mf_desk.specs.declared.line_buffer.TheConstants.{MAX_KEPT}
 use Rattle.mf_desk.proofs.line_buffer.LineBuffer.extend.Goals as goal
 
 -- as many more bytes as there is room for
@@ -20,6 +21,6 @@ returns-clause-added c =
     let line = c.self.inside.kept.items in
     let bytes = c.args.bytes.now in
     let kept : c.len-room.result ≡ length line = omega arith in
-    let count_is : c.min-count.result ≡ min (65538 - length line) (length bytes) = c.min-count.ensures ∙ ap (λ n. min (65538 - n) (length bytes)) kept in
+    let count_is : c.min-count.result ≡ min (MAX_KEPT - length line) (length bytes) = c.min-count.ensures ∙ ap (λ n. min (MAX_KEPT - n) (length bytes)) kept in
     added c.extend_from_slice.result _ _ _ _ c.extend_from_slice.ensures.items
-    (ap (λ count. line ++ take count bytes) count_is ∙ kept_more 65538 line bytes c.self.invariant ∙ ap (λ all. take 65538 (all ++ bytes)) c.self.view_is)
+    (ap (λ count. line ++ take count bytes) count_is ∙ kept_more MAX_KEPT line bytes c.self.invariant ∙ ap (λ all. take MAX_KEPT (all ++ bytes)) c.self.view_is)

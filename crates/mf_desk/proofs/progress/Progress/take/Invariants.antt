@@ -1,4 +1,5 @@
-use Rattle.std.proofs.Common.{◌≡◌, ◌+◌, ◌*◌, ◌≤◌, ◌^◌, ◌++◌, Option, List, ℕ, length}
+use Rattle.std.proofs.Common.{◌≡◌, ◌+◌, ◌*◌, ◌≤◌, ◌++◌, Option, List, ℕ, length}
+use Rattle.mf_desk.specs.Performer.{longest_text}
 use Rattle.mf_desk.specs.Progress.{IsAfter}
 use Rattle.mf_session.specs.Sessions.{identity, limits}
 use Rattle.mf_desk.proofs.progress.Progress.take.Given as goal
@@ -7,7 +8,7 @@ abbrev pub invariant-lines : goal.invariant-lines
 invariant-lines g l =
     (done : List ℕ)
     × (l.bytes ≡ done ++ l.rest)
-    × (l.self.performer.written ≤ l.initial.self.performer.written + length done * 2 ^ 64)
+    × (l.self.performer.written ≤ l.initial.self.performer.written + length done * longest_text)
     × ((held : Option (List ℕ)) (read : List ℕ) → IsAfter held read l.initial.self (g.W.Write.contents l.initial.writer)
     → IsAfter held (read ++ done) l.self (g.W.Write.contents l.writer))
     × (limits l.self.performer.session ≡ limits l.initial.self.performer.session)
