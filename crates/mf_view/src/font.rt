@@ -1,8 +1,8 @@
 //! The font file: its numbers, its bytes, and how it is written.
-ghost use Rattle.std.specs.Prelude.{◌≡◌, ◌⊎◌, ◌≤◌, ◌<◌, ◌+◌, ◌*◌, ◌↔◌, [], Err, IfErr, IfOk, IfSome, List, None, ℕ, pos};
+ghost use Rattle.std.specs.Prelude.{◌≡◌, ◌⊎◌, ◌≤◌, ◌↔◌, [], Err, IfErr, IfOk, IfSome, List, None, pos};
 ghost use Rattle.mf_gf.specs.Files.{Character, IsLongFile, file_if_any};
 ghost use Rattle.mf_gf.specs.Keeping.{Keeps, max_bytes_of};
-ghost use Rattle.mf_view.specs.Fonts.{font_words, nearest, pixels_per_point};
+ghost use Rattle.mf_view.specs.Fonts.{font_words, pixels_per_point};
 ghost use Rattle.mf_view_words.specs.Ranges.{greatest_design_size, greatest_resolution};
 
 use crate::fault::ProgramFault;
@@ -37,12 +37,6 @@ fn pixels_per_point(resolution: u32) -> i32
     // The integer nearest to n / d is (2 * n + d) / (2 * d), where n is resolution * 65536 * 100 and d is 7227.
     ((resolution as u64 * 13_107_200 + 7_227) / 14_454) as i32
 }
-
-/// The nearest integer is at most half away from the quotient.
-pub fn nearest_is_at_most_half_away()
-    ensures above { (n d : ℕ) → 0 < d → 2 * n ≤ 2 * (nearest n d * d) + d }
-    ensures below { (n d : ℕ) → 0 < d → 2 * (nearest n d * d) ≤ 2 * n + d }
-{}
 
 /// The font file of the shipped characters, if there are any. Refused with `FileTooLong` where it would have more bytes than it
 /// may have, and with `OutOfMemory` where an allocation fails.

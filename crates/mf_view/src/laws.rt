@@ -1,6 +1,7 @@
-//! A law of the program. It is the contract of a function that does nothing, because the toolchain proves a statement only where
-//! the contract of a function names it.
-ghost use Rattle.std.specs.Prelude.{◌≡◌};
+//! Laws of the program. Each is the contract of a function that does nothing, because the toolchain proves a statement only
+//! where the contract of a function names it.
+ghost use Rattle.std.specs.Prelude.{◌≡◌, ◌≤◌, ◌<◌, ◌+◌, ◌*◌, ℕ};
+ghost use Rattle.mf_view.specs.Fonts.{nearest};
 
 use crate::program::{BAD_WORDS, DONE, STREAM_FAULT, TOO_SMALL, WANTING};
 
@@ -11,4 +12,10 @@ pub fn statuses_are_these()
     ensures stream_fault { STREAM_FAULT ≡ 3 }
     ensures wanting { WANTING ≡ 4 }
     ensures too_small { TOO_SMALL ≡ 5 }
+{}
+
+/// The nearest integer is at most half away from the quotient.
+pub fn nearest_is_at_most_half_away()
+    ensures above { (n d : ℕ) → 0 < d → 2 * n ≤ 2 * (nearest n d * d) + d }
+    ensures below { (n d : ℕ) → 0 < d → 2 * (nearest n d * d) ≤ 2 * n + d }
 {}

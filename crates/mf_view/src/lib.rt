@@ -12,5 +12,5 @@ pub mod program;
 
 pub use fault::ProgramFault;
 pub use font::font_words;
-pub use pace::{Rest, Timed};
+pub use pace::Rest;
 pub use performance::{Showing, perform};

@@ -1,6 +1,6 @@
 //! Tests of command lines: each form that is accepted, and each that is refused.
 use super::words_of;
-use crate::tests::assertions::{assert_holds, assert_same};
+use crate::tests::assertions::assert_same;
 use mf_options::WordsFault;
 use mf_words::{Words, read_words};
 use std::alloc::{AllocError, Global};
