@@ -162,7 +162,7 @@ class Reader:
 
 
 class Painter:
-    """The machine that paints a character. It has a row, a column and a colour."""
+    """The machine that paints a character. It has a row, a column and a color."""
 
     def __init__(self, box: Box) -> None:
         self.left, self.column, self.row, self.is_black = box.min_m, box.min_m, box.max_n, False

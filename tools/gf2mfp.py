@@ -52,7 +52,7 @@ class Borders:
     there."""
 
     def __init__(self, runs: Iterable[gf.Run]) -> None:
-        # The columns of each row at which the colour changes.
+        # The columns of each row at which the color changes.
         self.changes: dict[int, set[int]] = collections.defaultdict(set)
         for run in runs:
             self.changes[run.row] |= {run.left, run.right}
