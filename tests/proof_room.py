@@ -62,7 +62,9 @@ class Room:
             shutil.copytree(self.kept, self.work)
         words = [*self.words, *(word for symbol in only for word in ("--only", symbol))]
         how = {"stdin": subprocess.DEVNULL, "stdout": subprocess.PIPE, "stderr": subprocess.STDOUT}
-        return subprocess.run(words, cwd=self.folder, check=False, encoding="utf-8", errors="replace", **how).stdout
+        said = subprocess.run(words, cwd=self.folder, check=False, encoding="utf-8", errors="replace", **how).stdout
+        # Where a check takes long, it says some things twice: first as news, without the notes that belong to them.
+        return "".join(line for line in said.splitlines(keepends=True) if not line.startswith("so far: "))
 
     def symbols_of(self, functions: set[Function]) -> list[str]:
         """The symbols of these functions and of the closures in them."""
