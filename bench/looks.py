@@ -60,7 +60,7 @@ def ensure_program():
     prover.libraries[NAME] = LIBRARIES
     if PROGRAM.is_file() and STAMP.is_file() and STAMP.read_text() == sum_of_sources(prover):
         return
-    print(f"{NAME}: proving and building the program; this takes some four minutes, and more if libraries have changed", file=sys.stderr)
+    print(f"{NAME}: proving and building the program; this takes some six minutes", file=sys.stderr)
     with tempfile.TemporaryDirectory() as folder:
         try:
             prove_and_build(prover, pathlib.Path(folder))
