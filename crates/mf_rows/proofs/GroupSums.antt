@@ -1,4 +1,4 @@
--- Groups to which rows are added, those of bands or of other groups, one place after another.
+-- Groups to which others are added, one place after another.
 use Rattle.std.proofs.Common.{◌≡◌, ℕ, zero, suc, ◌+◌, ◌≤◌, pos, ◌+ℤ◌, ◌-ℤ◌, ◌≤ℤ◌, ◌<ℤ◌, ℤ, List, [], ◌∷◌, ◌++◌, length, drop, Option, refl, sym, subst, ap, ◌∙◌, arith}
 use Rattle.std.specs.declared.alloc.Global.{Global}
 use Rattle.std.specs.declared.sync.Arc.{Arc}
@@ -8,14 +8,14 @@ use Rattle.std.proofs.lemmas.List.{length-append}
 use Rattle.mf_geom.specs.Coordinates.{last_in_field}
 use Rattle.mf_edges.specs.LawfulWeights.{IsLawfulWeight}
 use Rattle.mf_rows.specs.declared.group.Group.{Group}
-use Rattle.mf_rows.specs.declared.group.TheConstants.{GROUP_COUNT, GROUP_HEIGHT}
+use Rattle.mf_rows.specs.declared.group.TheConstants.{GROUP_HEIGHT}
 use Rattle.mf_rows.specs.Bands.{AreAbove}
 use Rattle.mf_rows.specs.EdgeRows.{EdgeRow, AreRowsFrom, AreRows, weight_in_rows}
 use Rattle.mf_rows.specs.Groups.{rows_at_place, rows_of_groups, IsLayer, AreLayersFrom, AreGroups, top_of_place, IsSplitAtPlace}
 use Rattle.mf_rows.specs.Sums.{weight_in_all, HaveRowWeights, IsUnlawfulSomewhere}
 use Rattle.mf_rows.proofs.EdgeRowsLemmas.{weight_in_rows-append, weight_in_rows-below, rows_from-below}
 use Rattle.mf_rows.proofs.GroupsLemmas.{Groups, rows_in_place, top_of, layer_at, rows_of_layers, sum_is_layer, weight_above_layer, weight_below_layer}
-use Rattle.mf_rows.proofs.GroupsMade.{own_is_layer, others_from, none_left, layers_from-more, rows_of_groups-more}
+use Rattle.mf_rows.proofs.GroupsMade.{own_is_layer, others_from, layers_from-more, rows_of_groups-more}
 
 -- ---- the groups from a place on
 
@@ -147,11 +147,6 @@ all_weights p gs rs sum rest so_far no_group no_row = record {
       let nothing = ap (λ rs. weight_in_rows rs x y) no_row in
       omega (arith, ints);
 }
-
-pub added_all : (p : ℕ) (gs : Groups) (rs : List EdgeRow) (sum : Groups) (rest : List EdgeRow) → AreGroups gs → IsAddedUpTo p gs rs sum rest
-    → GROUP_COUNT ≤ p → HaveRowWeights (weight_in_all (rows_of_groups gs) rs) (rows_of_groups sum)
-added_all p gs rs sum rest groups so_far last =
-    all_weights p gs rs sum rest so_far (none_left p _ last (rows_after gs p groups)) (none_left p rest last so_far.left)
 
 pub added_before : (p : ℕ) (gs : Groups) (rs : List EdgeRow) (sum : Groups) (rest : List EdgeRow) → IsAddedUpTo p gs rs sum rest
     → length gs ≤ p → rest ≡ [] → HaveRowWeights (weight_in_all (rows_of_groups gs) rs) (rows_of_groups sum)

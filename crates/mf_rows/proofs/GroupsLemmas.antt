@@ -75,7 +75,7 @@ weight_below_layer top x y rs layer below =
     (All-weaker (λ r. (top -ℤ GROUP_HEIGHT) <ℤ r.y) (λ r. y <ℤ r.y) (λ r lt. omega (arith, ints)) rs layer.above)
 
 -- and all weight in row y is that of its place
-weight_in_place : (top x y : ℤ) (gs : Groups) (i : ℕ) → AreLayersFrom top gs → IsPlaceOfRow top y i
+pub weight_in_place : (top x y : ℤ) (gs : Groups) (i : ℕ) → AreLayersFrom top gs → IsPlaceOfRow top y i
     → weight_in_rows (rows_of_groups gs) x y ≡ weight_in_rows (rows_in_place gs i) x y
 weight_in_place top x y [] i layers place = refl
 weight_in_place top x y (g ∷ gs) zero layers place =

@@ -1,5 +1,5 @@
 -- Groups that are made of a list of bands, one place after another.
-use Rattle.std.proofs.Common.{◌≡◌, ℕ, ◌+◌, ◌≤◌, ℤ, pos, ◌-ℤ◌, ◌*ℤ◌, ◌≤ℤ◌, List, [], ◌∷◌, ◌++◌, Option, length, refl, sym, subst, ap, ◌∙◌, append-nil, append_assoc, arith}
+use Rattle.std.proofs.Common.{◌≡◌, ℕ, ◌+◌, ◌<◌, ◌≤◌, ℤ, pos, ◌-ℤ◌, ◌*ℤ◌, ◌≤ℤ◌, List, [], ◌∷◌, ◌++◌, Option, length, refl, sym, subst, ap, ◌∙◌, append-nil, append_assoc, arith}
 use Rattle.std.specs.declared.alloc.Global.{Global}
 use Rattle.std.specs.declared.sync.Arc.{Arc}
 use Rattle.std.proofs.lemmas.Int.{ints}
@@ -37,6 +37,13 @@ none_left p [] last rows = refl
 none_left p (r ∷ rest) last rows =
     let top : r.y ≤ℤ top_of_place p = rows.1 in
     absurd (omega (arith, ints, rows.0.bottom))
+
+-- where a row is left there is a place for it
+pub place_of_rest : (p : ℕ) (rest : List EdgeRow) → AreRowsFrom (top_of_place p) rest → (rest ≡ [] → ⊥) → p < GROUP_COUNT
+place_of_rest p [] rows some = absurd (some refl)
+place_of_rest p (r ∷ rest) rows some =
+    let top : r.y ≤ℤ top_of_place p = rows.1 in
+    omega (arith, ints, rows.0.bottom)
 
 -- ---- one more group
 

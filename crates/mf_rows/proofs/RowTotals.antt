@@ -1,11 +1,11 @@
 -- The total weight of rows, row by row and edge by edge.
-use Rattle.std.proofs.Common.{◌≡◌, ℕ, zero, suc, ◌<◌, ◌≤◌, ◌+◌, ◌*◌, Bool, true, false, cond, ℤ, pos, ◌+ℤ◌, ◌-ℤ◌, ◌*ℤ◌, ◌≤ℤ◌, ◌<ℤ◌, List, [], ◌∷◌, FitsSigned, w64, to_z, of_z, refl, sym, ap, subst, ◌∙◌, arith}
+use Rattle.std.proofs.Common.{◌≡◌, ℕ, zero, suc, ◌≤◌, ◌+◌, ◌*◌, Bool, true, false, cond, ℤ, pos, ◌+ℤ◌, ◌-ℤ◌, ◌*ℤ◌, ◌≤ℤ◌, ◌<ℤ◌, List, [], ◌∷◌, FitsSigned, w64, to_z, of_z, refl, sym, subst, ◌∙◌, arith}
 use Rattle.std.specs.Int.RustNames.{int_le, unsigned_abs}
 use Rattle.std.specs.Ordering.{int_eq}
 use Rattle.std.proofs.lemmas.Bool.{cond-true, cond-false, cond_both}
 use Rattle.std.proofs.lemmas.Bool.Decides.{Decides-int_eq, not_from_Decides}
 use Rattle.std.proofs.lemmas.Int.{ints, by_lt_z}
-use Rattle.mf_geom.specs.Coordinates.{least_coordinate, last_in_field, field_size, greatest_coordinate}
+use Rattle.mf_geom.specs.Coordinates.{least_coordinate, last_in_field, field_size}
 use Rattle.mf_geom.specs.Field.{sum_over_field}
 use Rattle.mf_geom.specs.Sum.{sum_below}
 use Rattle.mf_geom.proofs.Products.{mul-add}

@@ -1,19 +1,22 @@
--- Groups that take up what is kept beside them, place by place.
-use Rattle.std.proofs.Common.{◌≡◌, ℕ, zero, suc, ◌+◌, ◌<◌, ◌≤◌, ℤ, pos, ◌+ℤ◌, ◌-ℤ◌, [], ◌∷◌, ◌++◌, length, set, Option, None, refl, ap, sym, subst, ◌∙◌, arith}
-use Rattle.std.proofs.lemmas.Int.{ints}
+-- Groups that are changed place by place: rows are added to them, or they take up what is kept beside them.
+use Rattle.std.proofs.Common.{◌≡◌, ℕ, zero, suc, ◌+◌, ◌<◌, ◌≤◌, ℤ, pos, ◌+ℤ◌, ◌-ℤ◌, ◌<ℤ◌, List, [], ◌∷◌, ◌++◌, length, set, Option, None, refl, ap, sym, subst, ◌∙◌, arith}
+use Rattle.std.proofs.lemmas.Int.{ints, by_lt_z}
 use Rattle.std.proofs.lemmas.List.{length-set}
+use Rattle.std.proofs.lemmas.List.Elements.{All-weaker}
 use Rattle.std.specs.declared.alloc.Global.{Global}
 use Rattle.std.specs.declared.sync.Arc.{Arc}
 use Rattle.mf_geom.specs.Coordinates.{last_in_field}
 use Rattle.mf_rows.specs.declared.group.Group.{Group}
 use Rattle.mf_rows.specs.declared.group.TheConstants.{GROUP_HEIGHT}
-use Rattle.mf_rows.specs.EdgeRows.{AreRows, weight_in_rows}
-use Rattle.mf_rows.specs.Groups.{rows_at_place, rows_of_groups, IsLayer, AreLayersFrom, AreGroups}
+use Rattle.mf_rows.specs.EdgeRows.{EdgeRow, AreRows, AreRowsFrom, weight_in_rows}
+use Rattle.mf_rows.specs.Groups.{rows_at_place, rows_of_groups, IsLayer, AreLayersFrom, AreGroups, AreSameBefore, top_of_place, IsSplitAtPlace}
 use Rattle.mf_rows.specs.Piles.{HaveSameSum, ArePiled}
-use Rattle.mf_rows.specs.Sums.{weight_in_all, HaveRowWeights}
+use Rattle.mf_rows.specs.Sums.{weight_in_all, HaveRowWeights, IsUnlawfulSomewhere}
 use Rattle.mf_rows.proofs.BothRowsLemmas.{weight_in_rows-both}
-use Rattle.mf_rows.proofs.EdgeRowsLemmas.{weight_in_rows-append}
-use Rattle.mf_rows.proofs.GroupsLemmas.{Groups, rows_in_place, top_of, none_is_layer, layer_at, sum_is_layer}
+use Rattle.mf_rows.proofs.EdgeRowsLemmas.{weight_in_rows-append, weight_in_rows-above, weight_in_rows-below, lawful_weight_in_rows}
+use Rattle.mf_rows.proofs.GroupsLemmas.{Groups, rows_in_place, top_of, none_is_layer, layer_at, sum_is_layer, sum_with_none, rows_of_groups_are_rows, weight_above_layer, weight_below_layer, weight_in_place}
+use Rattle.mf_rows.proofs.GroupsMade.{own_is_layer}
+use Rattle.mf_rows.proofs.PictureRows.{unlawful_as}
 use Rattle.mf_rows.proofs.PilesLemmas.{piled}
 
 -- ---- a group at place i is exchanged
@@ -66,6 +69,102 @@ groups_more gs groups = record { layers = layers_more last_in_field gs groups.la
 pub rows_more : (gs : Groups) → rows_of_groups (gs ++ None ∷ []) ≡ rows_of_groups gs
 rows_more [] = refl
 rows_more (g ∷ gs) = ap (λ rs. rows_at_place g ++ rs) (rows_more gs)
+
+place_more : (gs : Groups) (k : ℕ) → rows_in_place (gs ++ None ∷ []) k ≡ rows_in_place gs k
+place_more [] zero = refl
+place_more [] (suc k) = refl
+place_more (g ∷ gs) zero = refl
+place_more (g ∷ gs) (suc k) = place_more gs k
+
+pub none_before : (i : ℕ) (gs : Groups) → AreSameBefore i gs gs
+none_before i gs = record { rows = λ k less. refl }
+
+pub before_more : (i : ℕ) (gs gs' : Groups) → AreSameBefore i gs gs' → AreSameBefore i gs (gs' ++ None ∷ [])
+before_more i gs gs' same = record { rows = λ k less. place_more gs' k ∙ same.rows k less }
+
+-- ---- rows are added at place i and at later ones
+
+pub record AreAddedFrom (i : ℕ) (gs : Groups) (rs : List EdgeRow) (gs' : Groups) : Type 0 where
+  pub groups : AreGroups gs'
+  pub before : AreSameBefore i gs gs'
+  pub count : i ≤ length gs'
+  pub weights : HaveRowWeights (weight_in_all (rows_of_groups gs) rs) (rows_of_groups gs')
+
+module _ (i : ℕ) (gs : Groups) (rs own others : List EdgeRow)
+    (groups : AreGroups gs) (from : AreRowsFrom (top_of_place i) rs) (split : IsSplitAtPlace i rs own others) where
+  weight_parted : (x y : ℤ) → weight_in_rows rs x y ≡ (weight_in_rows own x y +ℤ weight_in_rows others x y)
+  weight_parted x y = ap (λ rs. weight_in_rows rs x y) split.all ∙ weight_in_rows-append own others x y
+
+  pub added_in_place : (later : Groups) (g : Option (Arc Group Global)) → AreRows (rows_at_place g)
+      → HaveRowWeights (weight_in_all (rows_in_place gs i) own) (rows_at_place g) → AreAddedFrom (i + 1) gs others later
+      → AreAddedFrom i gs rs (set later i g)
+  unfolding weight_in_all
+  added_in_place later g rows weights added =
+      let layer = sum_is_layer (top_of last_in_field i) (rows_in_place gs i) own (rows_at_place g) (layer_at last_in_field gs i groups.layers)
+      (own_is_layer i rs own others from split) rows weights in
+      record {
+        groups = record { layers = layers_set last_in_field later i g added.groups.layers layer };
+        before = record { rows = λ k less. place_kept later i k g less ∙ added.before.rows k (omega arith) };
+        count = omega (arith, length-set later i g, added.count);
+        weights = record {
+          weights = λ x y.
+              let here : weight_in_rows (rows_in_place later i) x y ≡ weight_in_rows (rows_in_place gs i) x y =
+              ap (λ rs. weight_in_rows rs x y) (added.before.rows i (omega arith)) in
+              omega (
+                arith,
+                ints,
+                weight_set later i g x y (omega (arith, added.count)),
+                here,
+                weight_parted x y,
+                weights.weights x y,
+                added.weights.weights x y,
+              );
+        };
+      }
+
+  -- a weight that is too large at this place is so in all groups and rows
+  pub unlawful_here : IsUnlawfulSomewhere (weight_in_all (rows_in_place gs i) own) → IsUnlawfulSomewhere (weight_in_all (rows_of_groups gs) rs)
+  unfolding weight_in_all
+  unlawful_here found =
+      let x = found.x in
+      let y = found.y in
+      let top = top_of_place i in
+      let group = layer_at last_in_field gs i groups.layers in
+      let added = own_is_layer i rs own others from split in
+      let lawful : weight_in_rows (rows_in_place gs i) x y ≡ pos 0 → weight_in_rows own x y ≡ pos 0 → ⊥ =
+      λ none_left none_right. found.unlawful (record { least = omega (arith, ints); greatest = omega (arith, ints) }) in
+      unlawful_as found (λ inside.
+      by_lt_z top y
+      (λ above. absurd (lawful (weight_above_layer top x y _ group above) (weight_above_layer top x y _ added above)))
+      (λ up_to.
+      by_lt_z (top -ℤ GROUP_HEIGHT) y
+      (λ within.
+      let there = weight_in_place last_in_field x y gs i groups.layers (record { top = up_to; bottom = within }) in
+      let none = weight_in_rows-below others x y (All-weaker (λ r. r.y <ℤ (top_of_place (i + 1) +ℤ pos 1)) (λ r. r.y <ℤ y) (λ r lt. omega (arith, ints, within)) others split.below) in
+      omega (arith, ints, there, none, weight_parted x y))
+      (λ below. absurd (lawful (weight_below_layer top x y _ group below) (weight_below_layer top x y _ added below)))))
+
+  -- and so is one at a later place
+  pub unlawful_later : IsUnlawfulSomewhere (weight_in_all (rows_of_groups gs) others) → IsUnlawfulSomewhere (weight_in_all (rows_of_groups gs) rs)
+  unfolding weight_in_all
+  unlawful_later found =
+      let x = found.x in
+      let y = found.y in
+      let next = top_of_place (i + 1) in
+      unlawful_as found (λ inside.
+      by_lt_z next y
+      (λ above.
+      let none = weight_in_rows-below others x y (All-weaker (λ r. r.y <ℤ (next +ℤ pos 1)) (λ r. r.y <ℤ y) (λ r lt. omega (arith, ints, above)) others split.below) in
+      let lawful = lawful_weight_in_rows last_in_field (rows_of_groups gs) x y (rows_of_groups_are_rows gs groups).rows in
+      absurd (found.unlawful (record { least = omega (arith, ints, lawful.least, none); greatest = omega (arith, ints, lawful.greatest, none) })))
+      (λ up_to.
+      let none = weight_in_rows-above own x y (All-weaker (λ r. next <ℤ r.y) (λ r. y <ℤ r.y) (λ r lt. omega (arith, ints)) own split.above) in
+      omega (arith, ints, none, weight_parted x y)))
+
+-- where no row is left, nothing is added
+pub added_nothing : (gs gs' : Groups) (rs : List EdgeRow) → rs ≡ [] → rows_of_groups gs' ≡ rows_of_groups gs
+    → HaveRowWeights (weight_in_all (rows_of_groups gs) rs) (rows_of_groups gs')
+added_nothing gs gs' rs none same = rw (none, same) (sum_with_none (rows_of_groups gs))
 
 -- ---- what was beside the groups up to place i is in the groups
 
@@ -136,6 +235,14 @@ piled_same gs hs gs' hs' reach pile groups recent same = record {
     greatest = λ x y. omega (arith, ints, same.weights x y, pile.reached.greatest x y);
   };
 }
+
+-- what is beside the groups keeps its rows
+pub same_beside : (gs hs hs' : Groups) → rows_of_groups hs' ≡ rows_of_groups hs → HaveSameSum gs hs gs hs'
+same_beside gs hs hs' same = record { weights = λ x y. ap (λ rs. weight_in_all (rows_of_groups gs) rs x y) same }
+
+-- and so do the groups
+pub same_among : (gs hs gs' hs' gs'' : Groups) → HaveSameSum gs hs gs' hs' → rows_of_groups gs'' ≡ rows_of_groups gs' → HaveSameSum gs hs gs'' hs'
+same_among gs hs gs' hs' gs'' sum same = record { weights = λ x y. ap (λ rs. weight_in_all rs (rows_of_groups hs') x y) same ∙ sum.weights x y }
 
 pub rows_same : (gs hs gs' hs' : Groups) → HaveSameSum gs hs gs' hs' → HaveRowWeights (weight_in_rows (piled gs hs)) (piled gs' hs')
 unfolding weight_in_all

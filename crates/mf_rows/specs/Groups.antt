@@ -1,5 +1,5 @@
--- Groups of bands: the field has a place for each, and a group has the bands of 512 rows of the field.
-use Rattle.std.specs.Prelude.{◌≡◌, ℕ, ◌+◌, ℤ, pos, ◌+ℤ◌, ◌-ℤ◌, ◌*ℤ◌, List, [], ◌∷◌, ◌++◌, Option, Some, None, flat_map}
+-- Groups of bands: the field has a place for each, and a group has the bands of 256 rows of the field.
+use Rattle.std.specs.Prelude.{◌≡◌, ℕ, ◌+◌, ◌<◌, ℤ, pos, ◌+ℤ◌, ◌-ℤ◌, ◌*ℤ◌, List, [], ◌∷◌, ◌++◌, Option, Some, None, flat_map, slice_index_or}
 use Rattle.std.specs.Arc.{arc_value}
 use Rattle.std.specs.Borrow.{Bor}
 use Rattle.std.specs.declared.alloc.Global.{Global}
@@ -47,3 +47,7 @@ pub record IsSplitAtPlace (i : ℕ) (rs own others : List EdgeRow) : Type 0 wher
   pub all : rs ≡ own ++ others
   pub above : AreAbove (top_of_place (i + 1)) own
   pub below : AreBelow (top_of_place (i + 1) +ℤ pos 1) others
+
+-- at each place before place i, groups have the rows that others have
+pub record AreSameBefore (i : ℕ) (gs gs' : List (Option (Arc Group Global))) : Type 0 where
+  pub rows : (k : ℕ) → k < i → rows_at_place (slice_index_or gs' k None) ≡ rows_at_place (slice_index_or gs k None)

@@ -1,4 +1,4 @@
-//! The sum of groups, their difference, and the sum of groups and rows.
+//! The sum of groups, their difference, and the sum of a group and of what is added to it.
 ghost use Rattle.std.specs.Prelude.{◌≡◌, ◌≢◌, IfOk, IfErr, pos};
 ghost use Rattle.mf_rows.specs.Addends.{IsAddedFrom, addend_rows};
 ghost use Rattle.mf_rows.specs.BandNumbers.{HaveRisingNumbers};
@@ -11,10 +11,9 @@ ghost use Rattle.mf_rows.specs.Sums.{weight_in_all, HaveRowWeights, IsUnlawfulSo
 use crate::addend::Addend;
 use crate::band::Band;
 use crate::band_sum::sum_of_bands;
-use crate::group::{GROUP_COUNT, Group};
-use crate::groups::{group_at, group_of, share_group, split_rows_at_place};
+use crate::group::Group;
+use crate::groups::{group_at, group_of, share_group};
 use crate::sign::Sign;
-use crate::slice::RowSlice;
 use mf_edges::AddFault;
 use std::alloc::Global;
 use std::sync::Arc;
@@ -64,37 +63,8 @@ pub(crate) fn sum_of_two(
     }
 }
 
-/// The groups of the sum of groups and rows. A group, or a band, that no row reaches is shared. Refused with `WeightTooLarge` where a
-/// weight would exceed 32767 in absolute value, and with `OutOfMemory` where an allocation fails.
-pub(crate) fn sum_with_rows(
-    alloc: Global,
-    groups: &[Option<Arc<Group>>],
-    rows: RowSlice<'_>,
-) -> Result<Vec<Option<Arc<Group>>>, AddFault>
-    requires groups { AreGroups groups.now }
-    requires rows { AreRows (slice_rows rows) }
-    ensures groups { IfOk result (λ sum. AreGroups sum.items) }
-    ensures weights { IfOk result (λ sum. HaveRowWeights (weight_in_all (rows_of_groups groups.now) (slice_rows rows.entry)) (rows_of_groups sum.items)) }
-    ensures too_large { IfErr result (λ fault. fault ≢ AddFault.OutOfMemory
-        → IsUnlawfulSomewhere (weight_in_all (rows_of_groups groups.now) (slice_rows rows.entry))) }
-{
-    let mut sum = Vec::new(alloc);
-    sum.reserve(GROUP_COUNT)?;
-    let mut rest = rows;
-    for place in 0..GROUP_COUNT {
-        if rest.is_empty() && groups.len() <= place {
-            break;
-        }
-        let (own, others) = split_rows_at_place(rest, place);
-        sum.push(sum_with(alloc, group_at(groups, place), Addend::Rows(own))?)?;
-        rest = others;
-    }
-    Ok(sum)
-}
-
 /// The sum of the group at a place, where there is one, and of what is added to it, which is mostly nothing.
-#[inline(always)]
-fn sum_with(
+pub(crate) fn sum_with(
     alloc: Global,
     group: Option<&Arc<Group>>,
     added: Addend<'_>,

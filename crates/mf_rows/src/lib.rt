@@ -11,6 +11,8 @@ mod bounds;
 mod builder;
 mod corner;
 mod group;
+mod group_change;
+mod group_measure;
 mod group_sum;
 mod groups;
 pub mod laws;

@@ -17,26 +17,21 @@ ghost use Rattle.mf_rows.specs.Sums.{weight_in_all, HaveRowWeights, IsUnlawfulSo
 use crate::both_rows::BothRows;
 use crate::bounds::{Box4, Pixels, bounds_of};
 use crate::group::Group;
-use crate::group_sum::{sum_of_groups, sum_of_two, sum_with_rows};
-use crate::groups::{find_row, group_at, share};
-use crate::rows::Rows;
+use crate::group_change::{add_rows, take_up};
+use crate::group_measure::{
+    reach_of_groups, reach_of_sum, size_of, total_of_groups, weight_in_groups,
+};
+use crate::group_sum::sum_of_groups;
+use crate::groups::share;
 use crate::runs::Runs;
 use crate::sign::Sign;
 use crate::slice::RowSlice;
 use mf_base::OutOfMemory;
-use mf_edges::{AddFault, MAX_WEIGHT, total_of_edges, weight_at_column};
+use mf_edges::{AddFault, MAX_WEIGHT};
 use std::alloc::Global;
 use std::marker::Model;
+use std::mem::replace;
 use std::sync::Arc;
-
-/// Where there are more edges than this for each row, and some more where rows are few, they are kept apart from the newest contours. A
-/// contour that is added to shorter rows copies few edges, too, and then nobody has to add up two lists of groups to read the picture.
-const LONG_ROWS: usize = 128;
-
-/// The newest contours are added to the long rows when they have so many edges for each of these, and a fourth of the edges of these. A
-/// contour copies the rows of the newest ones that it reaches, so these must be short. Adding them to the long rows copies all rows
-/// that they reach, so it must come seldom.
-const NEWEST_EDGES: usize = 64;
 
 /// The rows of a picture, as two lists of groups. The weight of a pixel is the sum of its weights in both.
 #[derive(Debug, Drop)]
@@ -223,9 +218,8 @@ impl Pile {
         if reach > MAX_WEIGHT || edges > self.room {
             return self.add_and_measure(alloc, rows);
         }
-        match sum_with_rows(alloc, &self.groups, rows) {
-            Ok(groups) => {
-                self.groups = groups;
+        match add_rows(alloc, &mut self.groups, rows) {
+            Ok(()) => {
                 self.reach = reach;
                 self.room -= edges;
                 Ok(())
@@ -244,7 +238,8 @@ impl Pile {
         ensures too_large { IfErr result (λ fault. fault ≢ AddFault.OutOfMemory → IsUnlawfulSomewhere (weight_in_all self.old (slice_rows rows.entry))) }
     {
         take_up(alloc, &mut self.older, &mut self.groups)?;
-        let sum = sum_with_rows(alloc, &self.older, rows)?;
+        add_rows(alloc, &mut self.older, rows)?;
+        let sum = replace(&mut self.older, Vec::new(alloc));
         let (reach, size) = (reach_of_groups(&sum), size_of(&sum));
         let (older, groups) = keep_apart(alloc, sum, size.has_long_rows());
         self.older = older;
@@ -271,126 +266,4 @@ fn keep_apart(
         return (groups, Vec::new(alloc));
     }
     (Vec::new(alloc), groups)
-}
-
-/// Adds what is kept beside groups to these, one after another, so that little is kept twice. Where that is refused, the weights of both
-/// together have not changed.
-#[tactic(auto, using(crate::proofs::GroupsLemmas::rows_in_place_are_rows, crate::proofs::SettledGroups::all_settled))]
-fn take_up(
-    alloc: Global,
-    groups: &mut Vec<Option<Arc<Group>>>,
-    recent: &mut Vec<Option<Arc<Group>>>,
-) -> Result<(), OutOfMemory>
-    requires groups { AreGroups groups.old.items }
-    requires recent { AreGroups recent.old.items }
-    ensures groups { AreGroups groups.new.items }
-    ensures recent { AreGroups recent.new.items }
-    ensures weights { HaveSameSum groups.old.items recent.old.items groups.new.items recent.new.items }
-    ensures none { IsOk result → rows_of_groups recent.new.items ≡ [] }
-{
-    lengthen(groups, recent.len())?;
-    for place in 0..recent.len() {
-        // The weights are lawful as they are, so only memory can be wanting.
-        let Ok(sum) = sum_of_two(
-            alloc,
-            group_at(groups, place),
-            group_at(recent, place),
-            Sign::Plus,
-        ) else {
-            return Err(OutOfMemory);
-        };
-        groups[place] = sum;
-        recent[place] = None;
-    }
-    Ok(())
-}
-
-/// Makes a list of groups as long as this, with no groups at the further places.
-#[tactic(auto, using(crate::proofs::SettledGroups::groups_more, crate::proofs::SettledGroups::rows_more))]
-fn lengthen(groups: &mut Vec<Option<Arc<Group>>>, count: usize) -> Result<(), OutOfMemory>
-    requires { AreGroups groups.old.items }
-    ensures groups { AreGroups groups.new.items }
-    ensures rows { rows_of_groups groups.new.items ≡ rows_of_groups groups.old.items }
-    ensures count { IsOk result → count ≤ length groups.new.items }
-{
-    for _ in groups.len()..count {
-        groups.push(None)?;
-    }
-    Ok(())
-}
-
-/// The weight of the pixel (x, y) in groups, 0 outside the field.
-fn weight_in_groups(groups: &[Option<Arc<Group>>], x: i32, y: i32) -> i32
-    requires { AreGroups groups.now }
-    ensures weight { result ≡ weight_in_rows (rows_of_groups groups.now) x y }
-    ensures lawful { IsLawfulWeight result }
-{
-    match find_row(groups, y) {
-        Some(row) => weight_at_column(row.edges, x),
-        None => 0,
-    }
-}
-
-/// The sum of the weights of all pixels of groups.
-fn total_of_groups(groups: &[Option<Arc<Group>>]) -> i64
-    requires { AreGroups groups.now }
-    ensures { result ≡ total_of (picture_of_rows (rows_of_groups groups.now)) }
-{
-    let mut total = 0i64;
-    for row in Rows::over(groups) {
-        total += total_of_edges(row.edges);
-    }
-    total
-}
-
-/// A reach of weights that are sums of two, with these reaches.
-fn reach_of_sum(left: i32, right: i32) -> i32
-    requires left { pos 0 ≤ℤ left × left ≤ℤ greatest_weight }
-    requires right { pos 0 ≤ℤ right × right ≤ℤ greatest_weight }
-    ensures { IsReachOfSum left right result }
-{
-    let sum = left + right;
-    if sum <= MAX_WEIGHT { sum } else { MAX_WEIGHT }
-}
-
-/// A reach of groups.
-#[tactic(auto, using(crate::proofs::GroupsLemmas::rows_of_groups_are_rows, crate::proofs::PilesLemmas::reach_start))]
-fn reach_of_groups(groups: &[Option<Arc<Group>>]) -> i32
-    requires { AreGroups groups.now }
-    ensures { StayInReach result (weight_in_rows (rows_of_groups groups.now)) }
-{
-    let mut reach = 0;
-    for row in Rows::over(groups) {
-        reach = reach.max(row.reach);
-    }
-    reach
-}
-
-/// The numbers of rows and edges of groups.
-#[derive(Clone, Copy, Debug)]
-struct Size {
-    rows: usize,
-    edges: usize,
-}
-
-impl Size {
-    /// Whether the rows are long.
-    fn has_long_rows(self) -> bool {
-        self.edges / LONG_ROWS > self.rows
-    }
-
-    /// How many edges may be added before the size is looked at again.
-    fn room(self) -> usize {
-        self.rows.saturating_mul(NEWEST_EDGES).max(self.edges / 4)
-    }
-}
-
-/// The size of groups.
-fn size_of(groups: &[Option<Arc<Group>>]) -> Size {
-    let mut size = Size { rows: 0, edges: 0 };
-    for row in Rows::over(groups) {
-        size.rows = size.rows.saturating_add(1);
-        size.edges = size.edges.saturating_add(row.edges.len());
-    }
-    size
 }

@@ -5,7 +5,7 @@ use Rattle.mf_rows.specs.Groups.{rows_of_groups}
 use Rattle.mf_rows.specs.Rest.{remaining_rows}
 use Rattle.mf_rows.proofs.GroupsLemmas.{rows_of_groups_are_rows}
 use Rattle.mf_rows.proofs.RowTotals.{IsNextTotal, total_start, total_next, total_all}
-use Rattle.mf_rows.proofs.pile.total_of_groups.Goals as goal
+use Rattle.mf_rows.proofs.group_measure.total_of_groups.Goals as goal
 
 pub loop-row-init : goal.loop-row-init
 loop-row-init c = rw (c.into_iter-row-iterator.ensures.into_iter_gives, c.over-row-items.ensures) (total_start _ (rows_of_groups_are_rows _ c.requires))

@@ -1,6 +1,6 @@
 use Rattle.std.proofs.Common.{refl, arith}
 use Rattle.mf_rows.proofs.SettledGroups.{settled_more, settled_none}
-use Rattle.mf_rows.proofs.pile.take_up.Goals as goal
+use Rattle.mf_rows.proofs.group_change.take_up.Goals as goal
 
 pub loop-place-init : goal.loop-place-init
 loop-place-init c =

@@ -1,7 +1,7 @@
 use Rattle.mf_rows.specs.Bands.{edge_row}
 use Rattle.mf_rows.proofs.GroupsLemmas.{rows_of_groups_are_rows}
 use Rattle.mf_rows.proofs.PilesLemmas.{reach_next, reach_all, row_fits}
-use Rattle.mf_rows.proofs.pile.reach_of_groups.Goals as goal
+use Rattle.mf_rows.proofs.group_measure.reach_of_groups.Goals as goal
 
 pub returns : goal.returns
 returns c = reach_all _ _ _ c.in-None.ensures.steps.0 (rows_of_groups_are_rows _ c.requires) c.loop-row.invariant
