@@ -295,7 +295,8 @@ fn reach_of_sum(left: &Row<'_>, right: &Row<'_>, sum: &[Edge]) -> Result<i32, Ad
     requires right { AreEdges right.now.edges.now }
     requires sum { IsEdgeSum left.now.edges.now right.now.edges.now sum.now }
     ensures reach { IfOk result (λ reach. StaysInReach reach sum.now) }
-    ensures too_large { IfErr result (λ fault. fault ≢ AddFault.OutOfMemory → IsUnlawfulColumn (weight_in_both left.now.edges.now right.now.edges.now)) }
+    ensures refusal { IfErr result (λ fault. fault ≡ AddFault.WeightTooLarge) }
+    ensures too_large { OnErr result (IsUnlawfulColumn (weight_in_both left.now.edges.now right.now.edges.now)) }
 {
     let reach = left.reach + right.reach;
     if reach <= MAX_WEIGHT {

@@ -22,8 +22,8 @@ reach_of_sum-requires-clause-sum c =
 pub returns-in_err-reach-clause-too_large : goal.returns-in_err-reach-clause-too_large
 returns-in_err-reach-clause-too_large c =
     let p = err_from_is_err_and c.from_residual-in_err-reach.result c.from_residual-in_err-reach.ensures.1 in
-    rw (p.1, p.2) (λ fault. unlawful_in_row c.args.right.now.y (edge_row c.args.left.now) (edge_row c.args.right.now)
-    c.requires.left c.requires.right (c.in_err-reach.ensures.too_large fault))
+    rw (p.1, p.2) (λ _. unlawful_in_row c.args.right.now.y (edge_row c.args.left.now) (edge_row c.args.right.now)
+    c.requires.left c.requires.right c.in_err-reach.ensures.too_large)
 
 pub returns-then-is_empty-clause-pushed : goal.returns-then-is_empty-clause-pushed
 returns-then-is_empty-clause-pushed c =
