@@ -1,5 +1,6 @@
 -- Edges after one of them is changed, removed or inserted.
-use Rattle.std.proofs.Common.{◌≡◌, ◌≢◌, ℕ, zero, suc, ◌<◌, ◌≤◌, ℤ, pos, negsuc, ◌+ℤ◌, ◌-ℤ◌, ◌≤ℤ◌, ◌<ℤ◌, int_le, List, [], ◌∷◌, length, get_or, add-one, All, Ok, Err, Bool, true, false, refl, sym, ap, ◌∙◌, arith, if◌then◌else◌}
+use Rattle.std.proofs.Common.{◌≡◌, ◌≢◌, ℕ, zero, suc, ◌<◌, ◌≤◌, ℤ, pos, ◌+ℤ◌, ◌-ℤ◌, ◌≤ℤ◌, ◌<ℤ◌}
+use Rattle.std.proofs.Common.{int_le, List, [], ◌∷◌, length, get_or, add-one, All, Ok, Err, Bool, true, false, refl, sym, ap, ◌∙◌, arith, if◌then◌else◌}
 use Rattle.std.specs.List.{HoldsAt, insert, remove}
 use Rattle.std.specs.List.Sorted.{IsBinarySearchResult, IsSortedBy}
 use Rattle.std.specs.Ordering.{int_cmp, is_lt}
@@ -11,6 +12,7 @@ use Rattle.std.proofs.lemmas.List.Sorted.{searchable_from_sorted}
 use Rattle.mf_geom.specs.Coordinates.{least_coordinate, greatest_coordinate}
 use Rattle.mf_edges.specs.declared.edge.Edge.{Edge}
 use Rattle.mf_edges.specs.Edges.{weight_in, IsEdge, AreEdgesFrom, AreOpenEdges}
+use Rattle.mf_edges.specs.Merging.{IsChange}
 use Rattle.mf_edges.specs.Sums.{HaveWeights, with_edge_in}
 use Rattle.mf_edges.proofs.EdgesAt.{edges_from-at, step_at_edge}
 use Rattle.mf_edges.proofs.EdgesLemmas.{edges_from-lower}
@@ -72,7 +74,7 @@ edges_from-insert low (f ∷ es) (suc at) e from le edge right before behind =
 
 -- it is the difference of two lawful weights, so it fits, and a lawful weight may be added to it
 pub edge_is_small : (es : List Edge) (at : ℕ) (d : Edge) → AreOpenEdges es → at < length es → d ≡ get_or es at d
-    → record { least : negsuc 65533 ≤ℤ d.weight; greatest : d.weight ≤ℤ pos 65534 }
+    → IsChange d.weight
 edge_is_small es at d edges lt read =
     let here = get_or es at d in
     let step = step_at_edge _ es at d edges.sorted lt in

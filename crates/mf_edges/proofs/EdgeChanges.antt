@@ -1,5 +1,6 @@
 -- The edges of a row after its columns are reflected, or stretched.
-use Rattle.std.proofs.Common.{◌≡◌, ◌≤◌, ℤ, pos, negsuc, neg_ℤ, ◌+ℤ◌, ◌-ℤ◌, ◌*ℤ◌, ◌≤ℤ◌, ◌<ℤ◌, FitsSigned, unsigned_abs, w32, to_z, of_z, mul-le-mul, List, [], ◌∷◌, ◌++◌, length, map, refl, sym, subst, ap, ◌∙◌, append_assoc, append-nil, arith}
+use Rattle.std.proofs.Common.{◌≡◌, ◌≤◌, ◌*◌, ℕ, ℤ, pos, neg_ℤ, ◌+ℤ◌, ◌-ℤ◌, ◌*ℤ◌, ◌≤ℤ◌, ◌<ℤ◌, FitsSigned, unsigned_abs, w32, to_z, of_z}
+use Rattle.std.proofs.Common.{mul-le-mul, List, [], ◌∷◌, ◌++◌, length, map, refl, sym, subst, ap, ◌∙◌, append_assoc, append-nil, arith}
 use Rattle.std.specs.List.{All}
 use Rattle.std.proofs.lemmas.Int.{ints, by_lt_z, to_z-of_z, unsigned_abs-mul, fits_signed_from_abs}
 use Rattle.std.proofs.lemmas.List.Elements.{All-nil, All-head, All-tail, All-push}
@@ -207,16 +208,20 @@ stretched_of s es row stretch inside = record {
 pub size-at_most : (z : ℤ) → least_coordinate ≤ℤ z → z ≤ℤ greatest_coordinate → unsigned_abs z ≤ unsigned_abs greatest_coordinate
 size-at_most z least greatest = omega (arith, ints)
 
-offset_is-small : (p o : ℤ) → unsigned_abs p ≤ 16769025 → IsCoordinate (p +ℤ o) → to_z w32 (of_z w32 o) ≡ o
+-- the greatest size of a product of two coordinates
+abbrev greatest_product : ℕ
+greatest_product = unsigned_abs greatest_coordinate * unsigned_abs greatest_coordinate
+
+offset_is-small : (p o : ℤ) → unsigned_abs p ≤ greatest_product → IsCoordinate (p +ℤ o) → to_z w32 (of_z w32 o) ≡ o
 offset_is-small p o small in_range =
-    let bounds : (negsuc 16769024 ≤ℤ p) × (p ≤ℤ pos 16769025) = (omega (arith, ints), omega (arith, ints)) in
+    let bounds : (neg_ℤ (pos greatest_product) ≤ℤ p) × (p ≤ℤ pos greatest_product) = (omega (arith, ints), omega (arith, ints)) in
     omega (arith, ints)
 
 coordinate_fits : (x : ℤ) → IsCoordinate x → FitsSigned w32 x
 coordinate_fits x in_range = omega (arith, ints)
 
 module _ (s : Stretch) (e : Edge) (stretch : IsStretch s) (edge : IsEdge e) where
-  product_size : unsigned_abs (e.x *ℤ s.factor) ≤ 16769025
+  product_size : unsigned_abs (e.x *ℤ s.factor) ≤ greatest_product
   product_size =
       rw unsigned_abs-mul
       (mul-le-mul (size-at_most e.x edge.left edge.right) (size-at_most s.factor (omega (arith, ints, stretch.least)) stretch.greatest))

@@ -1,5 +1,6 @@
 -- The sum of two rows of edges, column by column.
-use Rattle.std.proofs.Common.{◌≡◌, ◌≢◌, ℕ, Bool, true, false, cond, ℤ, pos, ◌+ℤ◌, ◌-ℤ◌, ◌≤ℤ◌, ◌<ℤ◌, FitsSigned, to_z, of_z, w32, List, [], ◌∷◌, ◌++◌, get_or, take, drop, refl, ap, sym, subst, ◌∙◌, arith}
+use Rattle.std.proofs.Common.{◌≡◌, ◌≢◌, ℕ, Bool, true, false, cond, ℤ, pos, ◌+ℤ◌, ◌-ℤ◌, ◌≤ℤ◌, ◌<ℤ◌, FitsSigned}
+use Rattle.std.proofs.Common.{to_z, of_z, w32, List, [], ◌∷◌, ◌++◌, get_or, take, drop, refl, ap, sym, subst, ◌∙◌, arith}
 use Rattle.std.specs.List.{All}
 use Rattle.std.specs.Int.RustNames.{int_le}
 use Rattle.std.specs.Ordering.{int_eq}
@@ -15,7 +16,8 @@ use Rattle.mf_edges.specs.Edges.{weight_in, AreEdgesFrom, AreEdges}
 use Rattle.mf_edges.specs.Merging.{IsDifference, AreChanges, AreEdgesLeft, BeginAt, BeginFrom, IsSplitAt, unless_zero}
 use Rattle.mf_edges.specs.Sums.{with_edge_in, weight_in_both, HasEdgeSum, HasMoreEdges}
 use Rattle.mf_edges.proofs.EdgesAt.{step_at_edge}
-use Rattle.mf_edges.proofs.EdgesLemmas.{weight_in-append, weight_in-left, weight_in-right, weight_in-parts, edges_from-append, edges_from-drop, edges_from-lower, edges_from-take}
+use Rattle.mf_edges.proofs.EdgesLemmas.{weight_in-append, weight_in-left, weight_in-right, weight_in-parts}
+use Rattle.mf_edges.proofs.EdgesLemmas.{edges_from-append, edges_from-drop, edges_from-lower, edges_from-take}
 
 -- ---- one edge more
 
@@ -236,7 +238,7 @@ module _ (before whole_left whole_right after es changes : List Edge) (n : ℕ) 
         left = split.left;
         right = record { sorted = right_left.sorted.2; differences = All-tail (λ e. IsDifference e.weight) f fs right_left.differences };
         weights = λ x.
-            let old = subst (λ fs. weight_in so_far.more x +ℤ weight_in_both es fs x ≡ weight_in_both whole_left whole_right x) is_next.next (so_far.weights x) in
+            let old = rw is_next.next at (so_far.weights x) in
             let parts = weight_in-parts n es x in
             let pushed = weight_in-push kept f.x (v +ℤ f.weight) x in
             let joined = weight_in-append so_far.more (take n es) x in

@@ -1,5 +1,6 @@
 -- The reach of edges, and of the sum of two rows.
-use Rattle.std.proofs.Common.{◌≡◌, ◌<◌, ◌≤◌, ◌+◌, cond, nat_abs, ℕ, ℤ, get_or, take, length, FitsSigned, to_z, of_z, w32, pos, ◌+ℤ◌, ◌-ℤ◌, ◌≤ℤ◌, ◌<ℤ◌, List, refl, sym, ap, subst, ◌∙◌, arith}
+use Rattle.std.proofs.Common.{◌≡◌, ◌<◌, ◌≤◌, ◌+◌, cond, nat_abs, ℕ, ℤ, get_or, take, length, to_z}
+use Rattle.std.proofs.Common.{of_z, w32, pos, ◌+ℤ◌, ◌-ℤ◌, ◌≤ℤ◌, List, refl, sym, ap, subst, ◌∙◌, arith}
 use Rattle.std.specs.Ordering.{int_cmp, is_lt, ord_max}
 use Rattle.std.proofs.lemmas.Cmp.{by_ranked, int_ranked}
 use Rattle.std.proofs.lemmas.Int.{ints, by_lt_z}
@@ -114,26 +115,10 @@ module _ (es : List Edge) (count : ℕ) (d : Edge) (w reach : ℤ) (changes : Ar
 
 pub reach_all : (es : List Edge) (w reach : ℤ) (count : ℕ) → IsReachSoFar es count w reach → length es ≤ count → IsLeastReach reach es
 reach_all es w reach count so_far end =
-    let all = subst (λ fs. (x : ℤ) → (pos 0 ≤ℤ (weight_in fs x +ℤ reach)) × (weight_in fs x ≤ℤ reach)) (take_all count es end) (λ x. (so_far.least x, so_far.greatest x)) in
-    record { least = λ x. (all x).0; greatest = λ x. (all x).1; x = so_far.x; here = so_far.here }
+    let all : take count es ≡ es = take_all count es end in
+    record { least = rw all at so_far.least; greatest = rw all at so_far.greatest; x = so_far.x; here = so_far.here }
 
--- ---- numbers that fit
-
--- the weight before an edge and the weight after it are lawful
-pub record IsNextWeight (w change : ℤ) : Type 0 where
-  pub least : least_weight ≤ℤ w
-  pub greatest : w ≤ℤ greatest_weight
-  pub next_least : least_weight ≤ℤ (w +ℤ change)
-  pub next_greatest : (w +ℤ change) ≤ℤ greatest_weight
-
-pub change_is : (w change : ℤ) → IsNextWeight w change → to_z w32 (of_z w32 change) ≡ change
-change_is w change next = omega (arith, ints, next.least, next.greatest, next.next_least, next.next_greatest)
-
-pub next_fits : (w change : ℤ) → IsNextWeight w change → FitsSigned w32 (w +ℤ change)
-next_fits w change next = omega (arith, ints, next.next_least, next.next_greatest)
-
-pub next_is : (w change : ℤ) → IsNextWeight w change → to_z w32 (of_z w32 (w +ℤ change)) ≡ w +ℤ change
-next_is w change next = omega (arith, ints, next.next_least, next.next_greatest)
+-- ---- reaches that fit
 
 pub reach_bounds : (reach : ℤ) (es : List Edge) → StaysInReach reach es → (pos 0 ≤ℤ reach) × (reach ≤ℤ greatest_weight)
 reach_bounds reach es stays =
@@ -212,16 +197,6 @@ module _ (es fs sum : List Edge) (is_sum : IsEdgeSum es fs sum) where
   pub row_unless_unlawful : AreEdges es → AreChanges fs → (IsUnlawfulColumn (weight_in_both es fs) → ⊥) → AreEdges sum
   row_unless_unlawful left right none =
       sum_is_row left right (λ x. lawful_unless (weight_in_both es fs x) (λ unlawful. none (record { x = x; unlawful = unlawful })))
-
-  -- a column is, where the least reach is too great
-  pub unlawful_beyond : (reach : ℤ) → IsLeastReach reach sum → greatest_weight <ℤ reach → IsUnlawfulColumn (weight_in_both es fs)
-  unlawful_beyond reach least too_great = record {
-    x = least.x;
-    unlawful = λ lawful.
-        let all = is_sum.weights.weights least.x in
-        let here = least.here in
-        omega (arith, ints);
-  }
 
   -- the sum of two reaches is a reach of the sum
   pub reach_of_sum : (a b : ℤ) → StaysInReach a es → StaysInReach b fs → (a +ℤ b) ≤ℤ greatest_weight → StaysInReach (a +ℤ b) sum

@@ -1,29 +1,38 @@
 -- The total weight of a row, edge by edge.
-use Rattle.std.proofs.Common.{◌≡◌, ℕ, zero, suc, ◌<◌, ◌≤◌, ◌+◌, ◌*◌, ℤ, pos, ◌+ℤ◌, ◌-ℤ◌, ◌*ℤ◌, ◌≤ℤ◌, List, [], ◌∷◌, ◌++◌, length, get_or, take, ap, ◌∙◌, arith}
+use Rattle.std.proofs.Common.{◌≡◌, ℕ, ◌<◌, ◌≤◌, ◌+◌, ◌*◌, ℤ, pos, ◌+ℤ◌, ◌-ℤ◌, ◌*ℤ◌, ◌≤ℤ◌, List, [], ◌∷◌, ◌++◌, length, get_or, take, ap, ◌∙◌, arith}
 use Rattle.std.specs.Int.RustNames.{unsigned_abs}
 use Rattle.std.proofs.Math.Nat.{mul-le-mul_left, mul-le-mul_right}
 use Rattle.std.proofs.lemmas.Int.{ints, unsigned_abs-mul}
 use Rattle.std.proofs.lemmas.List.{take_more}
-use Rattle.mf_geom.specs.Coordinates.{least_coordinate, greatest_coordinate}
+use Rattle.mf_geom.specs.Coordinates.{least_coordinate, greatest_coordinate, field_size}
 use Rattle.mf_edges.specs.declared.edge.Edge.{Edge}
 use Rattle.mf_edges.specs.Edges.{AreEdgesFrom, AreEdges}
+use Rattle.mf_edges.specs.Merging.{greatest_change}
 use Rattle.mf_edges.specs.Totals.{edges_total}
 use Rattle.mf_edges.proofs.EdgesAt.{edges_from-at, step_at_edge}
 
+-- one past the last column at which an edge may be
+abbrev end_of_edges : ℤ
+end_of_edges = greatest_coordinate +ℤ pos 1
+
 -- a row has at most one edge at each column
-length-edges : (low : ℤ) (es : List Edge) → AreEdgesFrom low es → low ≤ℤ pos 4096 → (low +ℤ pos (length es)) ≤ℤ pos 4096
+length-edges : (low : ℤ) (es : List Edge) → AreEdgesFrom low es → low ≤ℤ end_of_edges → (low +ℤ pos (length es)) ≤ℤ end_of_edges
 length-edges low [] from room = omega (arith, ints)
 length-edges low (e ∷ es) from room =
     let right = from.0.right in
     let others = length-edges (e.x +ℤ pos 1) es from.2 (omega (arith, ints)) in
     omega (arith, ints, from.1)
 
+-- the most that an edge can add to the total weight
+abbrev pub greatest_part : ℕ
+greatest_part = unsigned_abs greatest_change * field_size
+
 -- what an edge adds to the total weight
 pub record IsPart (e : Edge) (n : ℕ) : Type 0 where
-  pub weight : unsigned_abs e.weight ≤ 65534
-  pub columns : unsigned_abs (greatest_coordinate -ℤ e.x) ≤ 8190
-  pub product : unsigned_abs (e.weight *ℤ (greatest_coordinate -ℤ e.x)) ≤ 1073741824
-  pub few : n ≤ 8191
+  pub weight : unsigned_abs e.weight ≤ unsigned_abs greatest_change
+  pub columns : unsigned_abs (greatest_coordinate -ℤ e.x) ≤ field_size
+  pub product : unsigned_abs (e.weight *ℤ (greatest_coordinate -ℤ e.x)) ≤ greatest_part
+  pub few : n ≤ field_size + 1
 
 product-le : (a b m n : ℕ) → a ≤ m → b ≤ n → a * b ≤ m * n
 product-le a b m n first second = omega (arith, mul-le-mul_left a second, mul-le-mul_right n first)
@@ -35,13 +44,13 @@ part_at es at d edges lt =
     let step = step_at_edge least_coordinate es at d edges.sorted lt in
     let upper = edges.lawful e.x in
     let lower = edges.lawful (e.x -ℤ pos 1) in
-    let weight : unsigned_abs e.weight ≤ 65534 =
+    let weight : unsigned_abs e.weight ≤ unsigned_abs greatest_change =
     omega (arith, ints, step, upper.least, upper.greatest, lower.least, lower.greatest) in
-    let columns : unsigned_abs (greatest_coordinate -ℤ e.x) ≤ 8190 = omega (arith, ints, here.0.right, here.0.left) in
+    let columns : unsigned_abs (greatest_coordinate -ℤ e.x) ≤ field_size = omega (arith, ints, here.0.right, here.0.left) in
     record {
       weight = weight;
       columns = columns;
-      product = omega (arith, unsigned_abs-mul e.weight (greatest_coordinate -ℤ e.x), product-le (unsigned_abs e.weight) _ 65534 8190 weight columns);
+      product = omega (arith, unsigned_abs-mul e.weight (greatest_coordinate -ℤ e.x), product-le (unsigned_abs e.weight) _ _ _ weight columns);
       few = omega (arith, ints, length-edges least_coordinate es edges.sorted (omega (arith, ints)));
     }
 

@@ -1,5 +1,6 @@
 -- What is added to bands, which is split at its first band.
-use Rattle.std.proofs.Common.{◌≡◌, ℤ, pos, ◌+ℤ◌, ◌-ℤ◌, ◌≤ℤ◌, ◌<ℤ◌, ◌<◌, List, [], ◌∷◌, Some, None, length, refl, sym, subst, ap, ◌∙◌, append-nil, to_z, of_z, w32, arith}
+use Rattle.std.proofs.Common.{◌≡◌, ℤ, pos, ◌+ℤ◌, ◌-ℤ◌, ◌≤ℤ◌, ◌<ℤ◌, ◌<◌, List, [], ◌∷◌, Some, None}
+use Rattle.std.proofs.Common.{length, refl, sym, subst, ap, ◌∙◌, append-nil, to_z, of_z, w32, arith}
 use Rattle.std.specs.Arc.{arc_value}
 use Rattle.std.specs.Borrow.{Bor}
 use Rattle.std.proofs.lemmas.Int.{ints}
@@ -11,7 +12,7 @@ use Rattle.mf_geom.specs.Coordinates.{last_in_field}
 use Rattle.mf_rows.specs.declared.addend.Addend.{Addend}
 use Rattle.mf_rows.specs.declared.addend.Addend.TheVariants.{Bands, Rows}
 use Rattle.mf_rows.specs.declared.band.Band.{Band}
-use Rattle.mf_rows.specs.declared.bands.TheConstants.{BAND_COUNT}
+use Rattle.mf_rows.specs.declared.bands.TheConstants.{BAND_COUNT, BAND_HEIGHT}
 use Rattle.mf_rows.specs.declared.sign.Sign.{Sign}
 use Rattle.mf_rows.specs.declared.sign.Sign.TheVariants.{Plus}
 use Rattle.mf_rows.specs.declared.slice.RowSlice.{RowSlice}
@@ -85,7 +86,7 @@ pub first_rows : (number : ℤ) (rows own rest : RowSlice) (r : EdgeRow) (below 
     → IsSplitAtFirst (Rows rows) (record { number = to_z w32 (of_z w32 number); rows = own; sign = Plus; band = None }) (Rows rest)
 first_rows number rows own rest r below lawful first of_number split =
     let n = to_z w32 (of_z w32 number) in
-    let end = lowest_of n +ℤ pos 16 in
+    let end = lowest_of n +ℤ BAND_HEIGHT in
     let all : AreRowsFrom last_in_field (r ∷ below) = subst (AreRowsFrom last_in_field) first lawful.rows in
     let band = own_band all.0.bottom all.0.top of_number in
     let of_band : IsOfBand n r.y = band.of_band in

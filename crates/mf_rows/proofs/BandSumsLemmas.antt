@@ -9,7 +9,8 @@ use Rattle.mf_rows.specs.BandSums.{lowest_of, AreUpTo, AreBehind, AreSplitAtBand
 use Rattle.mf_edges.specs.LawfulWeights.{IsLawfulWeight}
 use Rattle.mf_rows.specs.EdgeRows.{EdgeRow, AreRowsFrom, AreRows, weight_in_rows}
 use Rattle.mf_rows.specs.Sums.{weight_in_all, IsUnlawfulSomewhere}
-use Rattle.mf_rows.proofs.EdgeRowsLemmas.{weight_in_rows-append, weight_in_rows-above, weight_in_rows-below, rows_from-below, rows_from-front, rows_from-back, rows_from-append}
+use Rattle.mf_rows.proofs.EdgeRowsLemmas.{weight_in_rows-append, weight_in_rows-above, weight_in_rows-below}
+use Rattle.mf_rows.proofs.EdgeRowsLemmas.{rows_from-below, rows_from-front, rows_from-back, rows_from-append}
 use Rattle.mf_rows.proofs.RowSums.{IsRowSumSoFar}
 
 -- ---- rows that only one of two lists has

@@ -70,11 +70,10 @@ edges_from-with low e (f ∷ fs) edge from edges =
     (λ gt. (edges.0, start, edges_from-with (f.x +ℤ pos 1) e fs edge (omega (arith, ints)) edges.2))
     (λ same. cond_both (int_eq (e.weight +ℤ f.weight) (pos 0)) [] (record { x = e.x; weight = e.weight +ℤ f.weight } ∷ []) (λ es. AreEdgesFrom low (es ++ fs))
     (λ _. edges_from-lower low (f.x +ℤ pos 1) fs (omega (arith, ints)) edges.2)
-    (λ test. (
-      record { left = edge.left; right = edge.right; nonzero = not_from_Decides (int_eq (e.weight +ℤ f.weight) (pos 0)) (Decides-int_eq (e.weight +ℤ f.weight) (pos 0)) test },
-      from,
-      rw same edges.2,
-    )))
+    (λ test.
+    let sum = e.weight +ℤ f.weight in
+    let nonzero = not_from_Decides (int_eq sum (pos 0)) (Decides-int_eq sum (pos 0)) test in
+    (record { left = edge.left; right = edge.right; nonzero = nonzero }, from, rw same edges.2)))
 
 -- an edge among edges is not among those behind it
 with_edge-append : (e : Edge) (fs gs : List Edge) → BeginFrom (e.x +ℤ pos 1) gs → with_edge e (fs ++ gs) ≡ with_edge e fs ++ gs

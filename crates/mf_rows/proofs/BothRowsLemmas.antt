@@ -1,5 +1,6 @@
 -- Two lists of rows together.
-use Rattle.std.proofs.Common.{◌≡◌, ℤ, pos, ◌+ℤ◌, ◌-ℤ◌, ◌≤ℤ◌, ◌<ℤ◌, int_lt, Bool, true, false, List, [], ◌∷◌, ◌++◌, length, Option, Some, None, if◌then◌else◌, refl, sym, ap, subst, ◌∙◌, arith}
+use Rattle.std.proofs.Common.{◌≡◌, ℤ, pos, ◌+ℤ◌, ◌-ℤ◌, ◌≤ℤ◌, ◌<ℤ◌}
+use Rattle.std.proofs.Common.{int_lt, Bool, true, false, List, [], ◌∷◌, ◌++◌, length, Option, Some, None, if◌then◌else◌, refl, sym, ap, subst, ◌∙◌, arith}
 use Rattle.std.specs.Iterator.{YieldsFirstBy}
 use Rattle.std.specs.List.{All}
 use Rattle.std.specs.Ordering.{int_eq}
@@ -16,14 +17,15 @@ use Rattle.mf_rows.specs.Bands.{edge_row, AreBelow}
 use Rattle.mf_rows.specs.BlankRows.{unless_blank}
 use Rattle.mf_rows.specs.BothEdges.{edges_of_both}
 use Rattle.mf_rows.specs.BothRest.{BeginsAbove}
-use Rattle.mf_rows.specs.BothRows.{row_of_both, with_row, rows_of_both, AreRowsOfBoth}
+use Rattle.mf_rows.specs.BothRows.{row_of_both, with_row, rows_of_both}
 use Rattle.mf_rows.specs.EdgeRows.{EdgeRow, IsEdgeRow, AreRowsFrom, AreRows, weight_in_rows}
 use Rattle.mf_rows.specs.Merging.{row_found}
 use Rattle.mf_rows.specs.Rest.{remaining_rows}
 use Rattle.mf_rows.specs.Sums.{weight_in_all}
 use Rattle.mf_rows.proofs.BlankRowsLemmas.{weight_in_rows-unless_blank, rows_from-unless_blank, All-unless_blank}
 use Rattle.mf_rows.proofs.BothEdgesLemmas.{weight_in-both, edges_from-both}
-use Rattle.mf_rows.proofs.EdgeRowsLemmas.{weight_in_rows-append, weight_in_rows-here, weight_in_rows-elsewhere, weight_in_rows-below, lawful_weight_in_rows, rows_from-below, rows_from-higher, rows_from-back}
+use Rattle.mf_rows.proofs.EdgeRowsLemmas.{weight_in_rows-append, weight_in_rows-here, weight_in_rows-elsewhere, weight_in_rows-below}
+use Rattle.mf_rows.proofs.EdgeRowsLemmas.{lawful_weight_in_rows, rows_from-below, rows_from-higher, rows_from-back}
 use Rattle.mf_rows.proofs.RowSums.{by_same}
 
 -- ---- a row among others
@@ -188,9 +190,6 @@ none_from top (r ∷ rs) rows =
 -- no row is added to the others
 pub rows_both-none : (rs : List EdgeRow) → AreRows rs → rows_of_both rs [] ≡ rs
 rows_both-none rs rows = none_from last_in_field rs rows.rows
-
-pub rows_alone : (rs : List EdgeRow) → AreRows rs → AreRowsOfBoth rs []
-rows_alone rs rows = record { left = rows; right = record { rows = tt }; both = rw (rows_both-none rs rows) rows }
 
 -- ---- as a walk over both lists finds them
 

@@ -1,5 +1,6 @@
 -- Rows that are built from their runs, one after another.
-use Rattle.std.proofs.Common.{◌≡◌, ◌≢◌, ℕ, ◌+◌, ◌-◌, ◌<◌, ℤ, pos, ◌+ℤ◌, ◌≤ℤ◌, ◌<ℤ◌, List, [], ◌∷◌, ◌++◌, length, get_or, set, take, drop, refl, sym, ap, ◌∙◌, subst, arith}
+use Rattle.std.proofs.Common.{◌≡◌, ◌≢◌, ℕ, ◌+◌, ◌-◌, ◌<◌, ℤ, pos, ◌+ℤ◌, ◌≤ℤ◌, ◌<ℤ◌, List, [], ◌∷◌, ◌++◌}
+use Rattle.std.proofs.Common.{length, get_or, set, take, drop, refl, sym, ap, ◌∙◌, subst, arith}
 use Rattle.std.proofs.lemmas.Int.{ints, by_lt_z}
 use Rattle.std.proofs.lemmas.List.{drop_more, take_all, map_more, map_push, take_more_set, get_or_default, length-set}
 use Rattle.std.proofs.lemmas.List.Elements.{All-nil, All-cons, All-push, All-head, All-weaker}
@@ -16,7 +17,9 @@ use Rattle.mf_rows.specs.Order.{IsRun, Fits}
 use Rattle.mf_rows.specs.Places.{AreBefore}
 use Rattle.mf_rows.specs.Runs.{dots_of}
 use Rattle.mf_rows.proofs.DotsLemmas.{dots_from-lawful, weight_at-dot, weight_at-after}
-use Rattle.mf_rows.proofs.EdgeRowsLemmas.{weight_in_rows-append, weight_in_rows-here, weight_in_rows-elsewhere, weight_in_rows-above, rows_from-front, rows_from-back, rows_from-append, rows_from-apart, lawful_picture_of_rows, weight_at-picture_of_rows, picture_of_rows-from_weights}
+use Rattle.mf_rows.proofs.EdgeRowsLemmas.{weight_in_rows-append, weight_in_rows-here, weight_in_rows-elsewhere, weight_in_rows-above}
+use Rattle.mf_rows.proofs.EdgeRowsLemmas.{rows_from-front, rows_from-back, rows_from-append, rows_from-apart}
+use Rattle.mf_rows.proofs.EdgeRowsLemmas.{lawful_picture_of_rows, weight_at-picture_of_rows, picture_of_rows-from_weights}
 use Rattle.mf_rows.proofs.RunEdges.{EndAt-from_constant, weight_in-end, some_weight, some_edge, by_columns}
 use Rattle.mf_rows.proofs.RunDots.{IsOnRun, picture-push, weight_at-on_run, weight_at-off_run}
 use Rattle.mf_rows.proofs.RowSums.{by_same}

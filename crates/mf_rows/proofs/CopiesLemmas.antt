@@ -1,5 +1,6 @@
 -- Copies of edges: a part of a part, places that have moved, and the rows that have them.
-use Rattle.std.proofs.Common.{◌≡◌, ℕ, get_or, ◌-◌, ◌+◌, ◌≤◌, ◌<◌, ◌^◌, List, [], ◌∷◌, ◌++◌, length, take, drop, sym, ap, subst, ◌∙◌, length-append, append-nil, append_assoc, arith}
+use Rattle.std.proofs.Common.{◌≡◌, ℕ, get_or, ◌-◌, ◌+◌, ◌≤◌, ◌<◌, ◌^◌, List, [], ◌∷◌, ◌++◌, length, take}
+use Rattle.std.proofs.Common.{drop, sym, ap, subst, ◌∙◌, length-append, append-nil, append_assoc, arith}
 use Rattle.std.proofs.Math.Seq.{drop-append_seam}
 use Rattle.std.specs.List.{All}
 use Rattle.std.proofs.lemmas.List.{drop-take, drop-drop, take-take, take_more, take_all, map_push}

@@ -1,5 +1,6 @@
 -- Corners from the top down, and the edges and rows that they make.
-use Rattle.std.proofs.Common.{◌≡◌, ℕ, suc, ◌+◌, ◌*◌, ◌<◌, ℤ, pos, negsuc, ◌+ℤ◌, ◌-ℤ◌, ◌≤ℤ◌, ◌<ℤ◌, int_le, Bool, true, false, List, [], ◌∷◌, length, get_or, drop, to_z, of_z, w32, add-one, refl, sym, ◌∙◌, arith, if◌then◌else◌}
+use Rattle.std.proofs.Common.{◌≡◌, ℕ, suc, ◌+◌, ◌*◌, ◌<◌, ℤ, pos, negsuc, ◌+ℤ◌, ◌-ℤ◌, ◌≤ℤ◌, ◌<ℤ◌, neg_ℤ, unsigned_abs}
+use Rattle.std.proofs.Common.{int_le, Bool, true, false, List, [], ◌∷◌, length, get_or, drop, to_z, of_z, w32, add-one, refl, sym, ◌∙◌, arith, if◌then◌else◌}
 use Rattle.std.specs.List.{All, sum_by}
 use Rattle.std.specs.List.Sorted.{IsPermutation, IsSortedBy}
 use Rattle.std.specs.Ordering.{int_cmp, is_lt}
@@ -11,9 +12,10 @@ use Rattle.std.proofs.lemmas.List.Sorted.{sum_by-IsPermutation, length_permutati
 use Rattle.std.proofs.lemmas.List.Sums.{sum_by-cons}
 use Rattle.mf_geom.specs.Coordinates.{least_coordinate, greatest_coordinate}
 use Rattle.mf_geom.specs.Field.{IsInField}
+use Rattle.mf_geom.specs.Lawful.{most_points}
 use Rattle.mf_rows.specs.declared.corner.Corner.{Corner}
 use Rattle.mf_edges.specs.declared.edge.Edge.{Edge}
-use Rattle.mf_rows.specs.Corners.{added_by, added_by_all, IsCorner, IsCornerWeight, AreCorners}
+use Rattle.mf_rows.specs.Corners.{added_by, added_by_all, IsCorner, IsCornerWeight, AreCorners, greatest_corner_weight}
 use Rattle.mf_edges.specs.LawfulWeights.{IsLawfulWeight}
 use Rattle.mf_edges.specs.Edges.{weight_in, AreEdgesFrom, AreOpenEdges, AreEdges}
 use Rattle.mf_rows.specs.EdgeRows.{EdgeRow, AreRows, weight_in_rows}
@@ -126,6 +128,10 @@ added_above_first top (k ∷ ks) x y falling above = added_falling k.y (k ∷ ks
 
 -- ---- a sweep over the corners from the top
 
+-- the most that corners can add to a pixel
+abbrev most_added : ℤ
+most_added = pos (unsigned_abs greatest_corner_weight * (2 * most_points))
+
 -- the corners before those that are left have been added: the rows down to the first corner that is left are made, and
 -- the edges are those of the rows below it, as long as the corners that are left add nothing
 pub record IsSwept (all left : List Corner) (es : List Edge) (rs : List EdgeRow) : Type 0 where
@@ -136,8 +142,8 @@ pub record IsSwept (all left : List Corner) (es : List Edge) (rs : List EdgeRow)
   pub above : (x y : ℤ) → IsInField x y → first_height_of left ≤ℤ y → weight_in_rows rs x y ≡ added_by_all all x y
   pub below : (x y : ℤ) → y <ℤ first_height_of left → added_by_all all x y ≡ weight_in es x +ℤ added_by_all left x y
   pub sorted : AreEdgesFrom least_coordinate es
-  pub least : (x : ℤ) → negsuc 24575 ≤ℤ (weight_in es x -ℤ pos (3 * length left))
-  pub greatest : (x : ℤ) → (weight_in es x +ℤ pos (3 * length left)) ≤ℤ pos 24576
+  pub least : (x : ℤ) → neg_ℤ most_added ≤ℤ (weight_in es x -ℤ pos (unsigned_abs greatest_corner_weight * length left))
+  pub greatest : (x : ℤ) → (weight_in es x +ℤ pos (unsigned_abs greatest_corner_weight * length left)) ≤ℤ most_added
 
 pub swept_none : (all : List Corner) → AreCorners all → AreFalling greatest_coordinate all → IsSwept all all [] []
 unfolding weight_in weight_in_rows
@@ -211,8 +217,8 @@ module _ (all : List Corner) (place : ℕ) (any : Corner) (es : List Edge) (rs :
     below_corner x y below = omega (arith, ints, swept.below x y below, added_below here x y below, weight_added x)
 
     small : (x : ℤ) → record {
-      least : negsuc 24575 ≤ℤ (weight_in fs x -ℤ pos (3 * length left));
-      greatest : (weight_in fs x +ℤ pos (3 * length left)) ≤ℤ pos 24576;
+      least : neg_ℤ most_added ≤ℤ (weight_in fs x -ℤ pos (unsigned_abs greatest_corner_weight * length left));
+      greatest : (weight_in fs x +ℤ pos (unsigned_abs greatest_corner_weight * length left)) ≤ℤ most_added;
     }
     small x =
         let part = part_is_small (int_le here.x x) here.weight corner_here.weight in

@@ -80,10 +80,6 @@ dots_from-append low middle (d ∷ ds) es le front before back =
       dots_from-append (place d.x d.y +ℤ pos 1) middle ds es (omega (arith, ints)) front.2 (All-tail (λ d. place d.x d.y <ℤ middle) d ds before) back,
     )
 
-pub dots_from-front : (low : ℤ) (ds es : List Dot) → AreDotsFrom low (ds ++ es) → AreDotsFrom low ds
-dots_from-front low [] es dots = tt
-dots_from-front low (d ∷ ds) es dots = (dots.0, dots.1, dots_from-front (place d.x d.y +ℤ pos 1) ds es dots.2)
-
 -- the pixel of each dot has its weight
 pub weight_at-dot : (low : ℤ) (ds : List Dot) → AreDotsFrom low ds → (k : ℕ) (d : Dot) → k < length ds
     → weight_at ds (get_or ds k d).x (get_or ds k d).y ≡ (get_or ds k d).weight

@@ -1,5 +1,5 @@
 -- What is left of a row as a walk over its edges moves on, and the runs between its edges.
-use Rattle.std.proofs.Common.{◌≡◌, ◌≢◌, ℤ, pos, ◌+ℤ◌, ◌-ℤ◌, ◌≤ℤ◌, ◌<ℤ◌, List, [], ◌∷◌, ◌++◌, refl, sym, ◌∙◌, subst, arith, negsuc, FitsSigned, to_z, of_z, w32}
+use Rattle.std.proofs.Common.{◌≡◌, ◌≢◌, ℤ, pos, ◌+ℤ◌, ◌-ℤ◌, ◌≤ℤ◌, ◌<ℤ◌, List, [], ◌∷◌, ◌++◌, refl, sym, ◌∙◌, subst, arith, FitsSigned, to_z, of_z, w32}
 use Rattle.std.specs.Int.RustNames.{unsigned_abs}
 use Rattle.std.specs.List.{flat_map}
 use Rattle.std.specs.Ordering.{int_eq}
@@ -80,8 +80,8 @@ edge_taken w e es fs first whole =
     let all = subst (IsRestOfRow least_coordinate w) first whole in
     let edge = all.sorted.0 in
     let next = rest_next least_coordinate w e fs all in
-    let before = all.lawful (negsuc 4095) in
-    let none = weight_in-before least_coordinate (e ∷ fs) (negsuc 4095) all.sorted (omega (arith, ints)) in
+    let before = all.lawful (least_coordinate -ℤ pos 1) in
+    let none = weight_in-before least_coordinate (e ∷ fs) (least_coordinate -ℤ pos 1) all.sorted (omega (arith, ints)) in
     let behind = rest_lawful least_coordinate w e fs all in
     record {
       fits = omega (arith, ints, before.least, before.greatest, behind.least, behind.greatest);

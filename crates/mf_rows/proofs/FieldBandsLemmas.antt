@@ -1,5 +1,6 @@
 -- Bands of the field, and the bands up to a number, which are found by binary search.
-use Rattle.std.proofs.Common.{◌≡◌, ℕ, ◌≤◌, ℤ, pos, ◌+ℤ◌, ◌-ℤ◌, ◌≤ℤ◌, ◌<ℤ◌, List, [], ◌∷◌, ◌++◌, Bool, true, false, length, take, drop, append-nil, sym, ap, subst, to_z, of_z, w32, Option, Some, None, IfSome, IsNone, arith, ◌∙◌}
+use Rattle.std.proofs.Common.{◌≡◌, ℕ, ◌≤◌, ℤ, pos, ◌+ℤ◌, ◌-ℤ◌, ◌≤ℤ◌, ◌<ℤ◌, List, [], ◌∷◌, ◌++◌, Bool, true, false}
+use Rattle.std.proofs.Common.{length, take, drop, append-nil, sym, ap, subst, to_z, of_z, w32, Option, Some, None, IfSome, IsNone, arith, ◌∙◌}
 use Rattle.std.specs.List.{All, AllWithin}
 use Rattle.std.specs.List.Sorted.{IsPartitionedBy}
 use Rattle.std.proofs.lemmas.Bool.{false≢true}
@@ -11,7 +12,7 @@ use Rattle.std.specs.Borrow.{Bor}
 use Rattle.std.specs.declared.alloc.Global.{Global}
 use Rattle.std.specs.declared.sync.Arc.{Arc}
 use lib.Signed.{le_z}
-use Rattle.mf_rows.specs.declared.bands.TheConstants.{BAND_COUNT}
+use Rattle.mf_rows.specs.declared.bands.TheConstants.{BAND_COUNT, BAND_HEIGHT}
 use Rattle.mf_rows.specs.declared.band.Band.{Band}
 use Rattle.mf_rows.specs.BandNumbers.{number_of, numbers_of, HaveRisingNumbers, IsOnlyBand, IsSplitAtBand, band_found}
 use Rattle.mf_rows.specs.Bands.{AreAbove, AreBelow, HasNoRow, HasSameRow, rows_in, rows_of_bands}
@@ -42,14 +43,14 @@ All-rows_of_bands N P holds (b ∷ bs) all =
     (All-rows_of_bands N P holds bs (All-tail (λ (c : Arc Band Global). N (arc_value c).number) b bs all))
 
 -- the rows between the ends of a band belong to it
-pub between_ends : (n : ℤ) (rs : List EdgeRow) → AreAbove (lowest_of n -ℤ pos 1) rs → AreBelow (lowest_of n +ℤ pos 16) rs → AreOfBand n rs
+pub between_ends : (n : ℤ) (rs : List EdgeRow) → AreAbove (lowest_of n -ℤ pos 1) rs → AreBelow (lowest_of n +ℤ BAND_HEIGHT) rs → AreOfBand n rs
 between_ends n [] above below = All-nil (λ r. IsOfBand n r.y)
 between_ends n (r ∷ rs) above below =
     let bottom = All-head (λ r. (lowest_of n -ℤ pos 1) <ℤ r.y) r rs above in
-    let top = All-head (λ r. r.y <ℤ (lowest_of n +ℤ pos 16)) r rs below in
+    let top = All-head (λ r. r.y <ℤ (lowest_of n +ℤ BAND_HEIGHT)) r rs below in
     All-cons (λ r. IsOfBand n r.y) r rs
     (record { top = omega (arith, ints, top); bottom = omega (arith, ints, bottom) })
-    (between_ends n rs (All-tail (λ r. (lowest_of n -ℤ pos 1) <ℤ r.y) r rs above) (All-tail (λ r. r.y <ℤ (lowest_of n +ℤ pos 16)) r rs below))
+    (between_ends n rs (All-tail (λ r. (lowest_of n -ℤ pos 1) <ℤ r.y) r rs above) (All-tail (λ r. r.y <ℤ (lowest_of n +ℤ BAND_HEIGHT)) r rs below))
 
 -- what holds of the heights of a band holds of its rows
 pub All-of_band : (n : ℤ) (P : ℤ → Type 0) → ((y : ℤ) → IsOfBand n y → P y) → (rs : List EdgeRow) → AreOfBand n rs → All (λ r. P r.y) rs
@@ -59,9 +60,9 @@ All-of_band n P holds rs of_band = All-weaker (λ r. IsOfBand n r.y) (λ r. P r.
 pub sum_is_of_band : (n : ℤ) (rs ss sum : List EdgeRow) → AreOfBand n rs → AreOfBand n ss → StayWithin rs ss sum → AreOfBand n sum
 sum_is_of_band n rs ss sum left right within =
     let above = All-of_band n (λ y. (lowest_of n -ℤ pos 1) <ℤ y) (λ y own. omega (arith, ints, own.bottom)) in
-    let below = All-of_band n (λ y. y <ℤ (lowest_of n +ℤ pos 16)) (λ y own. omega (arith, ints, own.top)) in
+    let below = All-of_band n (λ y. y <ℤ (lowest_of n +ℤ BAND_HEIGHT)) (λ y own. omega (arith, ints, own.top)) in
     between_ends n sum (within.above (lowest_of n -ℤ pos 1) (above rs left) (above ss right))
-    (within.below (lowest_of n +ℤ pos 16) (below rs left) (below ss right))
+    (within.below (lowest_of n +ℤ BAND_HEIGHT) (below rs left) (below ss right))
 
 -- ---- the place at which bands are split
 

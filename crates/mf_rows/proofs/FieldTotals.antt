@@ -1,10 +1,10 @@
 -- The total weight of a picture is the sum of its weights over the field.
-use Rattle.std.proofs.Common.{◌≡◌, ℕ, zero, suc, ◌+◌, ℤ, pos, negsuc, ◌+ℤ◌, ◌-ℤ◌, List, [], ◌∷◌, ◌++◌, refl, ap, ◌∙◌, arith}
+use Rattle.std.proofs.Common.{◌≡◌, ℕ, zero, suc, ◌+◌, ℤ, pos, ◌+ℤ◌, ◌-ℤ◌, List, [], ◌∷◌, ◌++◌, refl, ap, ◌∙◌, arith}
 use Rattle.std.specs.Ordering.{int_eq}
 use Rattle.std.proofs.lemmas.Bool.{cond_both}
 use Rattle.std.proofs.lemmas.Bool.Decides.{Decides-int_eq}
 use Rattle.std.proofs.lemmas.Int.{ints}
-use Rattle.mf_geom.specs.Coordinates.{least_coordinate}
+use Rattle.mf_geom.specs.Coordinates.{least_coordinate, field_size}
 use Rattle.mf_geom.specs.Field.{sum_over_field}
 use Rattle.mf_geom.specs.Sum.{sum_below}
 use Rattle.mf_geom.proofs.Sums.{sum_below-next}
@@ -35,23 +35,23 @@ total_of-row f y x (suc n) =
 
 -- n rows, from the top down to the one above `bottom`, add up like the same rows from the lowest up
 total_of-rows : (f : ℤ → ℤ → ℤ) (bottom : ℤ) (n : ℕ)
-    → total_of (rows_of f (bottom +ℤ pos n) n) ≡ sum_below n (λ j. total_of (row_of f (bottom +ℤ pos (suc j)) least_coordinate 8190))
+    → total_of (rows_of f (bottom +ℤ pos n) n) ≡ sum_below n (λ j. total_of (row_of f (bottom +ℤ pos (suc j)) least_coordinate field_size))
 unfolding rows_of total_of sum_below
 total_of-rows f bottom zero = refl
 total_of-rows f bottom (suc n) =
-    let top = row_of f (bottom +ℤ pos (suc n)) least_coordinate 8190 in
+    let top = row_of f (bottom +ℤ pos (suc n)) least_coordinate field_size in
     let next : (bottom +ℤ pos (suc n)) -ℤ pos 1 ≡ bottom +ℤ pos n = omega (arith, ints) in
     let others : total_of (rows_of f ((bottom +ℤ pos (suc n)) -ℤ pos 1) n) ≡ sum_below n
-    (λ j. total_of (row_of f (bottom +ℤ pos (suc j)) least_coordinate 8190)) = (λ t. total_of (rows_of f (next t) n)) ∙ total_of-rows f bottom n in
+    (λ j. total_of (row_of f (bottom +ℤ pos (suc j)) least_coordinate field_size)) = (λ t. total_of (rows_of f (next t) n)) ∙ total_of-rows f bottom n in
     total_of-append top (rows_of f ((bottom +ℤ pos (suc n)) -ℤ pos 1) n) ∙ omega (arith, ints, others)
 
 pub total_of-picture_of : (f : ℤ → ℤ → ℤ) → total_of (picture_of f) ≡ sum_over_field f
 unfolding picture_of sum_over_field
 total_of-picture_of f =
-    let height : (j : ℕ) → negsuc 4095 +ℤ pos (suc j) ≡ least_coordinate +ℤ pos j = λ j. omega (arith, ints) in
-    total_of-rows f (negsuc 4095) 8190
-    ∙ (λ t. sum_below 8190 (λ j. (total_of-row f (negsuc 4095 +ℤ pos (suc j)) least_coordinate 8190 ∙
-    ap (λ y. sum_below 8190 (λ i. f (least_coordinate +ℤ pos i) y)) (height j)) t))
+    let height : (j : ℕ) → least_coordinate -ℤ pos 1 +ℤ pos (suc j) ≡ least_coordinate +ℤ pos j = λ j. omega (arith, ints) in
+    total_of-rows f (least_coordinate -ℤ pos 1) field_size
+    ∙ (λ t. sum_below field_size (λ j. (total_of-row f (least_coordinate -ℤ pos 1 +ℤ pos (suc j)) least_coordinate field_size ∙
+    ap (λ y. sum_below field_size (λ i. f (least_coordinate +ℤ pos i) y)) (height j)) t))
 
 -- a picture is the picture of its own weights
 pub total_of-picture : (ds : List Dot) → IsPicture ds → total_of ds ≡ sum_over_field (weight_at ds)

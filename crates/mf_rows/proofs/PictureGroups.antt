@@ -12,9 +12,6 @@ use Rattle.mf_rows.specs.Groups.{rows_at_place, rows_of_groups, IsLayer, AreLaye
 use Rattle.mf_rows.specs.Sums.{HaveRowWeights}
 use Rattle.mf_rows.proofs.EdgeRowsLemmas.{lawful_picture_of_rows, weight_at-picture_of_rows, picture_of_rows-from_weights}
 
-pub no_rows_are_rows : AreRows []
-no_rows_are_rows = record { rows = tt }
-
 -- the picture of the rows of groups, as a list
 pub pictured : (rs : List EdgeRow) (gs : List (Option (Arc Group Global))) (ds : List Dot) → rs ≡ rows_of_groups gs
     → picture_of_rows (rows_of_groups gs) ≡ ds → picture_of_rows rs ≡ ds

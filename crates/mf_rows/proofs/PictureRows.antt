@@ -7,11 +7,9 @@ use Rattle.std.proofs.lemmas.Int.{ints}
 use Rattle.mf_geom.specs.Coordinates.{last_in_field}
 use Rattle.mf_geom.specs.Field.{IsInField}
 use Rattle.mf_rows.specs.declared.corner.Corner.{Corner}
-use Rattle.mf_edges.specs.declared.edge.Edge.{Edge}
 use Rattle.mf_edges.specs.declared.row_change.RowChange.TheVariants as change
 use Rattle.mf_edges.specs.declared.stretch.Stretch.{Stretch}
 use Rattle.mf_edges.specs.declared.weight_map.WeightMap.{WeightMap}
-use Rattle.mf_rows.specs.Bands.{HasRow, HasNoRow}
 use Rattle.mf_rows.specs.Corners.{added_by_all, with_corners_at}
 use Rattle.mf_edges.specs.LawfulWeights.{IsLawfulWeight}
 use Rattle.mf_rows.specs.Dots.{Dot, weight_at}
@@ -24,7 +22,8 @@ use Rattle.mf_rows.specs.Signs.{negated_rows}
 use Rattle.mf_rows.specs.Sums.{HasWeights, IsUnlawfulSomewhere, weight_in_all, difference_at, sum_at, HaveFieldWeights, HaveRowWeights}
 use Rattle.mf_edges.specs.WeightMaps.{mapped_weight}
 use Rattle.mf_rows.specs.WeightMaps.{mapped_weight_at}
-use Rattle.mf_rows.proofs.EdgeRowsLemmas.{weight_in_rows-here, weight_in_rows-elsewhere, weight_in_rows-none, weight_in_rows-below, rows_from-below, lawful_picture_of_rows, weight_at-picture_of_rows}
+use Rattle.mf_rows.proofs.EdgeRowsLemmas.{weight_in_rows-here, weight_in_rows-elsewhere, weight_in_rows-none, weight_in_rows-below, rows_from-below}
+use Rattle.mf_rows.proofs.EdgeRowsLemmas.{lawful_picture_of_rows, weight_at-picture_of_rows}
 use Rattle.mf_rows.proofs.SignsLemmas.{weight_in_rows-negated}
 
 -- ---- one row among rows
@@ -49,12 +48,6 @@ weight_at-row rs r x rows there =
 
 pub weight_at-other_rows : (rs : List EdgeRow) (x y : ℤ) → AreRows rs → All (λ r. r.y ≢ y) rs → weight_at (picture_of_rows rs) x y ≡ pos 0
 weight_at-other_rows rs x y rows others = weight_at-picture_of_rows rs x y rows ∙ weight_in_rows-none rs x y others
-
-pub weight_at-found : {rs : List EdgeRow} {y : ℤ} {es : List Edge} (x : ℤ) → AreRows rs → HasRow rs y es → weight_at (picture_of_rows rs) x y ≡ weight_in es x
-weight_at-found {rs = rs} {y = y} x rows row = weight_at-picture_of_rows rs x y rows ∙ row.weights x
-
-pub weight_at-blank : {rs : List EdgeRow} {y : ℤ} (x : ℤ) → AreRows rs → HasNoRow rs y → weight_at (picture_of_rows rs) x y ≡ pos 0
-weight_at-blank {rs = rs} {y = y} x rows row = weight_at-picture_of_rows rs x y rows ∙ row.weights x
 
 -- ---- two pictures together
 

@@ -1,5 +1,6 @@
 -- The least box of pixels of some kind, grown row by row downwards.
-use Rattle.std.proofs.Common.{◌≡◌, ◌≢◌, Bool, true, false, ℤ, ◌≤ℤ◌, ◌<ℤ◌, List, [], ◌∷◌, ◌++◌, Option, None, Some, to_z, of_z, w32, refl, sym, ap, subst, ◌∙◌, append-nil, append_assoc, arith}
+use Rattle.std.proofs.Common.{◌≡◌, ◌≢◌, Bool, true, false, ℤ, ◌≤ℤ◌, ◌<ℤ◌, List, [], ◌∷◌, ◌++◌, Option, None, Some}
+use Rattle.std.proofs.Common.{to_z, of_z, w32, refl, sym, ap, subst, ◌∙◌, append-nil, append_assoc, arith}
 use Rattle.std.proofs.lemmas.Bool.{false≢true}
 use Rattle.std.proofs.lemmas.Int.{ints, clamps, by_lt_z}
 use Rattle.std.proofs.lemmas.List.Elements.{All-nil, All-head, All-weaker}
@@ -12,7 +13,8 @@ use Rattle.mf_rows.specs.Bands.{AreAbove, AreBelow}
 use Rattle.mf_rows.specs.Bounds.{AreBounds, IsBoxRound, is_among, with_columns}
 use Rattle.mf_rows.specs.EdgeRows.{EdgeRow, AreRows, AreRowsFrom, weight_in_rows}
 use Rattle.mf_rows.specs.PixelsOfRows.{AreColumns, HasNone, among_rows}
-use Rattle.mf_rows.proofs.EdgeRowsLemmas.{weight_in_rows-append, weight_in_rows-here, weight_in_rows-elsewhere, weight_in_rows-above, rows_from-apart, rows_from-back}
+use Rattle.mf_rows.proofs.EdgeRowsLemmas.{weight_in_rows-append, weight_in_rows-here, weight_in_rows-elsewhere}
+use Rattle.mf_rows.proofs.EdgeRowsLemmas.{weight_in_rows-above, rows_from-apart, rows_from-back}
 use Rattle.mf_rows.proofs.LeastBoxes.{same_bounds}
 use Rattle.mf_rows.proofs.PixelColumns.{zero_is_none}
 use Rattle.mf_rows.proofs.RowSums.{by_same}

@@ -1,5 +1,5 @@
 -- Places in reading order.
-use Rattle.std.proofs.Common.{◌≡◌, ℕ, suc, ℤ, pos, ◌+ℤ◌, ◌-ℤ◌, ◌≤ℤ◌, ◌<ℤ◌, arith}
+use Rattle.std.proofs.Common.{◌≡◌, ℕ, suc, ℤ, pos, ◌+ℤ◌, ◌-ℤ◌, ◌≤ℤ◌, arith}
 use Rattle.std.proofs.lemmas.Int.{ints}
 use Rattle.mf_geom.specs.Coordinates.{least_coordinate, greatest_coordinate, last_in_field}
 use Rattle.mf_geom.specs.Field.{IsInField}
@@ -28,11 +28,6 @@ column_from_place x y u v here there same = omega (arith, ints, row_from_place x
 pub start_of_field-le : (x y : ℤ) → IsInField x y → start_of_field ≤ℤ place x y
 unfolding place start_of_field
 start_of_field-le x y inside = omega (arith, ints)
-
--- and there are 8190 times 8190 of them
-pub place-lt : (x y : ℤ) → IsInField x y → place x y <ℤ (start_of_field +ℤ pos 67076100)
-unfolding place start_of_field
-place-lt x y inside = omega (arith, ints)
 
 -- the n columns from x on lie in the field, in row y
 pub record AreFieldColumns (x y : ℤ) (n : ℕ) : Type 0 where

@@ -12,7 +12,8 @@ use Rattle.mf_edges.specs.Axes.{opposite}
 use Rattle.mf_rows.specs.RowChanges.{mirror_in_rows}
 use Rattle.mf_rows.specs.Strips.{ReachDownTo}
 use Rattle.mf_rows.specs.Sums.{HaveRowWeights}
-use Rattle.mf_rows.proofs.EdgeRowsLemmas.{weight_in_rows-append, weight_in_rows-here, weight_in_rows-elsewhere, rows_from-front, rows_from-back, rows_from-apart}
+use Rattle.mf_rows.proofs.EdgeRowsLemmas.{weight_in_rows-append, weight_in_rows-here, weight_in_rows-elsewhere}
+use Rattle.mf_rows.proofs.EdgeRowsLemmas.{rows_from-front, rows_from-back, rows_from-apart}
 use Rattle.mf_rows.proofs.RowChangesLemmas.{strip_of_row, strip_weights}
 use Rattle.mf_rows.proofs.RowRuns.{edge_rows_from}
 

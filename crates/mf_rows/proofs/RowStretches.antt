@@ -1,5 +1,5 @@
 -- Rows that are stretched: each becomes a strip of rows.
-use Rattle.std.proofs.Common.{◌≡◌, ℤ, pos, ◌+ℤ◌, ◌-ℤ◌, ◌*ℤ◌, ◌≤ℤ◌, ◌<ℤ◌, List, [], ◌∷◌, refl, sym, subst, FitsSigned, to_z, of_z, w32, arith}
+use Rattle.std.proofs.Common.{◌≡◌, ℤ, pos, ◌+ℤ◌, ◌-ℤ◌, ◌*ℤ◌, ◌≤ℤ◌, ◌<ℤ◌, List, [], ◌∷◌, refl, sym, subst, FitsSigned, unsigned_abs, to_z, of_z, w32, arith}
 use Rattle.std.proofs.lemmas.Int.{ints, to_z-of_z, fits_signed_mul, by_lt_z}
 use Rattle.std.proofs.lemmas.List.Elements.{All-head}
 use Rattle.mf_geom.specs.Coordinates.{least_coordinate, greatest_coordinate, last_in_field}
@@ -31,7 +31,7 @@ pub strip_place : {s : Stretch} {y : ℤ} → to_z w32 (of_z w32 s.offset) ≡ s
 strip_place {s = s} {y = y} offset stretch bottom top inside =
     let y_is : to_z w32 (of_z w32 y) ≡ y = omega (arith, ints) in
     let factor_is : to_z w32 (of_z w32 s.factor) ≡ s.factor = omega (arith, ints) in
-    let fits = fits_signed_mul w32 y s.factor 4095 4095 (omega (arith, ints)) (omega (arith, ints)) (omega arith) in
+    let fits = fits_signed_mul w32 y s.factor (unsigned_abs greatest_coordinate) (unsigned_abs greatest_coordinate) (omega (arith, ints)) (omega (arith, ints)) (omega arith) in
     record {
       fits = rw (y_is, factor_is) fits;
       product = rw (y_is, factor_is) (to_z-of_z w32 _ fits);

@@ -12,7 +12,8 @@ use Rattle.mf_rows.specs.EdgeRows.{EdgeRow, AreRowsFrom, AreRows, weight_in_rows
 use Rattle.mf_rows.specs.Merging.{IsSplitAtHeight, HasRowSum, IsUnlawfulInRow}
 use Rattle.mf_rows.specs.Sums.{weight_in_all, HaveRowWeights, IsUnlawfulSomewhere, StayWithin}
 use Rattle.mf_edges.proofs.EdgesLemmas.{weight_in-left, weight_in-before}
-use Rattle.mf_rows.proofs.EdgeRowsLemmas.{weight_in_rows-append, weight_in_rows-here, weight_in_rows-elsewhere, weight_in_rows-above, weight_in_rows-below, rows_from-higher, rows_from-below, rows_from-append}
+use Rattle.mf_rows.proofs.EdgeRowsLemmas.{weight_in_rows-append, weight_in_rows-here, weight_in_rows-elsewhere, weight_in_rows-above}
+use Rattle.mf_rows.proofs.EdgeRowsLemmas.{weight_in_rows-below, rows_from-higher, rows_from-below, rows_from-append}
 use Rattle.mf_rows.proofs.RowSums.{IsRowSumSoFar, rows_behind, IsRowSumAbove}
 
 -- ---- the next row that is added

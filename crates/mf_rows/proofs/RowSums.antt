@@ -17,7 +17,8 @@ use Rattle.mf_rows.specs.Sums.{weight_in_all}
 use Rattle.mf_edges.proofs.EdgesLemmas.{weight_in-outside}
 use Rattle.mf_edges.proofs.EdgeSums.{changes_of_edges}
 use Rattle.mf_edges.proofs.ReachesLemmas.{row_in_reach}
-use Rattle.mf_rows.proofs.EdgeRowsLemmas.{weight_in_rows-append, weight_in_rows-here, weight_in_rows-above, weight_in_rows-below, rows_from-higher, rows_from-below, rows_from-front, rows_from-back, rows_from-append, by_field}
+use Rattle.mf_rows.proofs.EdgeRowsLemmas.{weight_in_rows-append, weight_in_rows-here, weight_in_rows-above, weight_in_rows-below}
+use Rattle.mf_rows.proofs.EdgeRowsLemmas.{rows_from-higher, rows_from-below, rows_from-front, rows_from-back, rows_from-append, by_field}
 
 -- ---- what a sum has in one row
 
@@ -150,9 +151,6 @@ sum_none rs ss left right = record {
 module _ (whole_left whole_right sum rs ss : List EdgeRow) (so_far : IsRowSumSoFar whole_left whole_right sum rs ss) where
   pub rows_left : AreRows rs
   rows_left = record { rows = rows_from-higher last_in_field so_far.top rs so_far.in_field so_far.left }
-
-  pub rows_right : AreRows ss
-  rows_right = record { rows = rows_from-higher last_in_field so_far.top ss so_far.in_field so_far.right }
 
   pub rows_behind : (others : List EdgeRow) → AreRowsFrom so_far.top others → AreRows (sum ++ others)
   rows_behind others rows = record {

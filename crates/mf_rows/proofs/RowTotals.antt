@@ -1,5 +1,6 @@
 -- The total weight of rows, row by row and edge by edge.
-use Rattle.std.proofs.Common.{◌≡◌, ℕ, zero, suc, ◌≤◌, ◌+◌, ◌*◌, Bool, true, false, cond, ℤ, pos, ◌+ℤ◌, ◌-ℤ◌, ◌*ℤ◌, ◌≤ℤ◌, ◌<ℤ◌, List, [], ◌∷◌, FitsSigned, w64, to_z, of_z, refl, sym, subst, ◌∙◌, arith}
+use Rattle.std.proofs.Common.{◌≡◌, ℕ, zero, suc, ◌≤◌, ◌+◌, ◌*◌, Bool, true, false, cond, ℤ, pos, ◌+ℤ◌, ◌-ℤ◌, ◌*ℤ◌, ◌≤ℤ◌, ◌<ℤ◌, List, [], ◌∷◌, FitsSigned}
+use Rattle.std.proofs.Common.{w64, to_z, of_z, refl, sym, subst, ◌∙◌, arith}
 use Rattle.std.specs.Int.RustNames.{int_le, unsigned_abs}
 use Rattle.std.specs.Ordering.{int_eq}
 use Rattle.std.proofs.lemmas.Bool.{cond-true, cond-false, cond_both}
@@ -12,7 +13,7 @@ use Rattle.mf_geom.proofs.Products.{mul-add}
 use Rattle.mf_geom.proofs.Sums.{sum_below-add, sum_below-zero}
 use Rattle.mf_edges.specs.declared.edge.Edge.{Edge}
 use Rattle.mf_edges.specs.Edges.{weight_in, AreEdgesFrom, AreEdges}
-use Rattle.mf_edges.specs.LawfulWeights.{IsLawfulWeight}
+use Rattle.mf_edges.specs.LawfulWeights.{IsLawfulWeight, greatest_weight}
 use Rattle.mf_edges.specs.Totals.{edges_total}
 use Rattle.mf_rows.specs.BothRows.{rows_of_both}
 use Rattle.mf_rows.specs.Dots.{total_of}
@@ -60,8 +61,8 @@ sum_of_columns low (e ∷ es) from =
 
 -- a sum of n lawful weights
 record IsSumOf (n : ℕ) (sum : ℤ) : Type 0 where
-  least : pos 0 ≤ℤ (sum +ℤ pos (32767 * n))
-  greatest : sum ≤ℤ pos (32767 * n)
+  least : pos 0 ≤ℤ (sum +ℤ pos (unsigned_abs greatest_weight * n))
+  greatest : sum ≤ℤ pos (unsigned_abs greatest_weight * n)
 
 lawful_sum : (n : ℕ) (f : ℕ → ℤ) → ((i : ℕ) → IsLawfulWeight (f i)) → IsSumOf n (sum_below n f)
 unfolding sum_below
@@ -71,7 +72,11 @@ lawful_sum (suc n) f lawful =
     let last = lawful n in
     record { least = omega (arith, ints, before.least, last.least); greatest = omega (arith, ints, before.greatest, last.greatest) }
 
-row_bound : (es : List Edge) → AreEdges es → unsigned_abs (edges_total es) ≤ 268361730
+-- the greatest total weight of a row
+abbrev greatest_row_total : ℕ
+greatest_row_total = unsigned_abs greatest_weight * field_size
+
+row_bound : (es : List Edge) → AreEdges es → unsigned_abs (edges_total es) ≤ greatest_row_total
 row_bound es edges =
     let all = lawful_sum field_size (λ i. weight_in es (least_coordinate +ℤ pos i)) (λ i. edges.lawful (least_coordinate +ℤ pos i)) in
     omega (arith, ints, all.least, all.greatest, sum_of_columns least_coordinate es edges.sorted)
@@ -100,7 +105,8 @@ unfolding sum_below
 heights_without y s zero above = refl
 heights_without y s (suc n) above =
     let others = heights_without y s n (omega (arith, ints, above)) in
-    cond_both (int_eq y (least_coordinate +ℤ pos n)) s (pos 0) (λ last. sum_below n (λ j. cond (int_eq y (least_coordinate +ℤ pos j)) s (pos 0)) +ℤ last ≡ pos 0)
+    cond_both (int_eq y (least_coordinate +ℤ pos n)) s (pos 0)
+    (λ last. sum_below n (λ j. cond (int_eq y (least_coordinate +ℤ pos j)) s (pos 0)) +ℤ last ≡ pos 0)
     (λ same. let is = (Decides-int_eq y (least_coordinate +ℤ pos n)).0 same in absurd (omega (arith, ints, is, above)))
     (λ apart. omega (arith, ints, others))
 
@@ -144,9 +150,10 @@ total_of-rows rs rows = total_of-picture_of (weight_in_rows rs) ∙ sum_of_rows 
 
 -- rows_total stays far within the range of an i64
 pub record IsSmall (n : ℕ) (total : ℤ) : Type 0 where
-  pub bound : unsigned_abs total ≤ n * 268361730
+  pub bound : unsigned_abs total ≤ n * greatest_row_total
 
-rows_bound : (top : ℤ) (n : ℕ) (rs : List EdgeRow) → AreRowsFrom top rs → top ≡ least_coordinate -ℤ pos 1 +ℤ pos n → unsigned_abs (rows_total rs) ≤ n * 268361730
+rows_bound : (top : ℤ) (n : ℕ) (rs : List EdgeRow) → AreRowsFrom top rs → top ≡ least_coordinate -ℤ pos 1 +ℤ pos n
+    → unsigned_abs (rows_total rs) ≤ n * greatest_row_total
 rows_bound top n [] rows is = omega arith
 rows_bound top zero (r ∷ rs) rows is = absurd (omega (arith, ints, rows.0.bottom, rows.1, is))
 rows_bound top (suc n) (r ∷ rs) rows is =
@@ -160,7 +167,7 @@ pub record IsTotalSoFar (all rest : List EdgeRow) (total : ℤ) : Type 0 where
   pub passed : ℕ
   pub room : (top +ℤ pos passed) ≤ℤ last_in_field
   pub value : total +ℤ rows_total rest ≡ rows_total all
-  pub bound : unsigned_abs total ≤ passed * 268361730
+  pub bound : unsigned_abs total ≤ passed * greatest_row_total
 
 pub total_start : (rs : List EdgeRow) → AreRows rs → IsTotalSoFar rs rs (pos 0)
 total_start rs rows = record { top = last_in_field; rows = rows.rows; passed = 0; room = omega (arith, ints); value = omega (arith, ints); bound = omega arith }
@@ -178,7 +185,7 @@ total_next all before rest r total step so_far =
     let rows = subst (AreRowsFrom so_far.top) step so_far.rows in
     let own = row_bound r.edges rows.0.edges in
     let value = subst (λ rs. total +ℤ rows_total rs ≡ rows_total all) step so_far.value in
-    let few : so_far.passed ≤ 8190 = omega (arith, ints, so_far.room, rows.1, rows.0.bottom) in
+    let few : so_far.passed ≤ field_size = omega (arith, ints, so_far.room, rows.1, rows.0.bottom) in
     record {
       row_is = omega (arith, ints, own);
       fits = omega (arith, ints, own, so_far.bound, few);
@@ -208,8 +215,8 @@ total_of_both rs ss =
     ∙ sum_over_field-add (weight_in_rows rs) (weight_in_rows ss)
     ∙ (λ t. sym (total_of-picture_of (weight_in_rows rs)) t +ℤ sym (total_of-picture_of (weight_in_rows ss)) t)
 
-total_bound : (rs : List EdgeRow) → AreRows rs → unsigned_abs (total_of (picture_of_rows rs)) ≤ 2197882568700
-total_bound rs rows = omega (arith, ints, total_of-rows rs rows, rows_bound last_in_field 8190 rs rows.rows refl)
+total_bound : (rs : List EdgeRow) → AreRows rs → unsigned_abs (total_of (picture_of_rows rs)) ≤ field_size * greatest_row_total
+total_bound rs rows = omega (arith, ints, total_of-rows rs rows, rows_bound last_in_field field_size rs rows.rows refl)
 
 -- the sum of the totals of two lists, as the code computes it
 pub record IsTotalOfBoth (rs ss : List EdgeRow) (a b : ℤ) : Type 0 where

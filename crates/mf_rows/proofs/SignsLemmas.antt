@@ -45,7 +45,8 @@ edges-negated es edges = record {
   sorted = edges_from-negated least_coordinate es edges.sorted;
   lawful = λ x.
       let lawful = edges.lawful x in
-      record { least = omega (arith, ints, lawful.least, lawful.greatest, weight_in-negated es x); greatest = omega (arith, ints, lawful.least, lawful.greatest, weight_in-negated es x) };
+      let negated = weight_in-negated es x in
+      record { least = omega (arith, ints); greatest = omega (arith, ints) };
   closed = omega (arith, ints, edges.closed, weight_in-negated es greatest_coordinate);
 }
 
@@ -70,7 +71,7 @@ changes_from low w (e ∷ es) edges start lawful =
     (λ before. subst IsLawfulWeight (omega (arith, ints, weight_in-before (e.x +ℤ pos 1) es x edges.2 (omega (arith, ints)))) after)
     (λ behind. subst IsLawfulWeight (omega (arith, ints, weight_in-left e es x behind)) (lawful x)) in
     All-cons IsChange e es
-    (record { least = omega (arith, ints, start.least, start.greatest, after.least, after.greatest); greatest = omega (arith, ints, start.least, start.greatest, after.least, after.greatest) })
+    (record { least = omega (arith, ints); greatest = omega (arith, ints) })
     (changes_from (e.x +ℤ pos 1) next es edges.2 after others)
 
 pub are_changes : (es : List Edge) → AreEdges es → All IsChange es

@@ -21,7 +21,8 @@ use Rattle.mf_rows.proofs.DotsLemmas.{weight_at-outside}
 use Rattle.mf_edges.proofs.EdgesAt.{edges_from-at, step_at_edge}
 use Rattle.mf_edges.proofs.EdgesLemmas.{weight_in-left, weight_in-before}
 use Rattle.mf_edges.proofs.Sources.{source_of-is}
-use Rattle.mf_rows.proofs.EdgeRowsLemmas.{weight_in_rows-here, weight_in_rows-elsewhere, weight_in_rows-below, weight_in_rows-outside, rows_from-below, by_field, weight_at-picture_of_rows}
+use Rattle.mf_rows.proofs.EdgeRowsLemmas.{weight_in_rows-here, weight_in_rows-elsewhere, weight_in_rows-below, weight_in_rows-outside, rows_from-below}
+use Rattle.mf_rows.proofs.EdgeRowsLemmas.{by_field, weight_at-picture_of_rows}
 use Rattle.mf_rows.proofs.RowSums.{by_same}
 
 -- ---- pixels that are not 0

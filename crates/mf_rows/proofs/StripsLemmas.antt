@@ -11,7 +11,8 @@ use Rattle.mf_edges.specs.Edges.{weight_in, AreEdges}
 use Rattle.mf_rows.specs.EdgeRows.{EdgeRow, AreRowsFrom, weight_in_rows}
 use Rattle.mf_rows.specs.RowMoves.{strip}
 use Rattle.mf_rows.specs.Strips.{ReachDownTo, HasStrip}
-use Rattle.mf_rows.proofs.EdgeRowsLemmas.{weight_in_rows-append, weight_in_rows-here, weight_in_rows-elsewhere, weight_in_rows-none, weight_in_rows-above, rows_from-append}
+use Rattle.mf_rows.proofs.EdgeRowsLemmas.{weight_in_rows-append, weight_in_rows-here, weight_in_rows-elsewhere}
+use Rattle.mf_rows.proofs.EdgeRowsLemmas.{weight_in_rows-none, weight_in_rows-above, rows_from-append}
 use Rattle.mf_rows.proofs.RowSums.{by_same}
 
 -- rows have no weight below the height down to which they reach

@@ -1,5 +1,6 @@
 -- The first and the last edge of two rows together.
-use Rattle.std.proofs.Common.{◌≡◌, ◌≢◌, ℕ, ℤ, pos, ◌+ℤ◌, ◌<ℤ◌, List, [], ◌∷◌, ◌++◌, length, Some, FitsSigned, to_z, of_z, to_z-of_z, w32, refl, sym, ap, ◌∙◌, arith}
+use Rattle.std.proofs.Common.{◌≡◌, ◌≢◌, ℕ, ℤ, pos, ◌+ℤ◌, ◌<ℤ◌, List, [], ◌∷◌, ◌++◌}
+use Rattle.std.proofs.Common.{length, Some, FitsSigned, to_z, of_z, to_z-of_z, w32, refl, sym, ap, ◌∙◌, arith}
 use Rattle.std.specs.List.{All}
 use Rattle.std.specs.Ordering.{int_eq}
 use Rattle.std.proofs.lemmas.Bool.{cond-true, cond-false, false_from_ne_true}
@@ -23,9 +24,6 @@ left_of_none = record { sorted = tt; differences = All-nil (λ e. IsDifference e
 -- the edges of two rows are left of them at first
 pub left_of_rows : (es fs : List Edge) → AreEdges es → AreEdges fs → AreLeftOfBoth es fs
 left_of_rows es fs left right = record { left = changes_left es (changes_of_edges es left); right = changes_left fs (changes_of_edges fs right) }
-
-pub left_of_row : (es : List Edge) → AreEdges es → AreLeftOfBoth es []
-left_of_row es edges = record { left = changes_left es (changes_of_edges es edges); right = left_of_none }
 
 -- edges that cancel are none, others are one
 joined-none : (e f : Edge) → e.weight +ℤ f.weight ≡ pos 0 → joined e f ≡ []

@@ -1,12 +1,12 @@
 -- Pictures are determined by their weights.
-use Rattle.std.proofs.Common.{◌≡◌, ℕ, zero, suc, ℤ, pos, negsuc, ◌+ℤ◌, ◌-ℤ◌, ◌≤ℤ◌, ◌<ℤ◌, List, [], ◌∷◌, ◌++◌, refl, sym, ap, ◌∙◌, subst, arith}
+use Rattle.std.proofs.Common.{◌≡◌, ℕ, zero, suc, ℤ, pos, ◌+ℤ◌, ◌-ℤ◌, ◌≤ℤ◌, ◌<ℤ◌, List, [], ◌∷◌, ◌++◌, refl, sym, ap, ◌∙◌, subst, arith}
 use Rattle.std.specs.List.{All}
 use Rattle.std.specs.Ordering.{int_eq}
 use Rattle.std.proofs.lemmas.Bool.{cond_both}
 use Rattle.std.proofs.lemmas.Bool.Decides.{Decides-int_eq, not_from_Decides}
 use Rattle.std.proofs.lemmas.Int.{ints, by_lt_z}
 use Rattle.std.proofs.lemmas.List.Elements.{All-nil, All-cons, All-append, All-head, All-tail}
-use Rattle.mf_geom.specs.Coordinates.{least_coordinate, last_in_field}
+use Rattle.mf_geom.specs.Coordinates.{least_coordinate, last_in_field, field_size}
 use Rattle.mf_geom.specs.Field.{IsInField}
 use Rattle.mf_edges.specs.LawfulWeights.{IsLawfulWeight}
 use Rattle.mf_rows.specs.Dots.{Dot, IsDot, IsPicture, AreDotsFrom, place, start_of_field, weight_at}
@@ -92,19 +92,19 @@ row_from f y x (suc n) es columns lawful later =
       behind,
     ))
 
-rows_from : (f : ℤ → ℤ → ℤ) (y : ℤ) (n : ℕ) → (negsuc 4095 +ℤ pos n) ≤ℤ y → y ≤ℤ last_in_field
+rows_from : (f : ℤ → ℤ → ℤ) (y : ℤ) (n : ℕ) → (least_coordinate -ℤ pos 1 +ℤ pos n) ≤ℤ y → y ≤ℤ last_in_field
     → ((u v : ℤ) → IsInField u v → IsLawfulWeight (f u v)) → AreDotsFrom (place least_coordinate y) (rows_of f y n)
 unfolding rows_of
 rows_from f y zero bottom top lawful = tt
 rows_from f y (suc n) bottom top lawful =
-    row_from f y least_coordinate 8190 (rows_of f (y -ℤ pos 1) n)
+    row_from f y least_coordinate field_size (rows_of f (y -ℤ pos 1) n)
     (record { left = omega (arith, ints); right = omega (arith, ints); bottom = omega (arith, ints); top = top }) lawful
     (subst (λ p. AreDotsFrom p (rows_of f (y -ℤ pos 1) n)) (sym (place-below y))
     (rows_from f (y -ℤ pos 1) n (omega (arith, ints)) (omega (arith, ints)) lawful))
 
 pub lawful_picture_of : (f : ℤ → ℤ → ℤ) → ((x y : ℤ) → IsInField x y → IsLawfulWeight (f x y)) → IsPicture (picture_of f)
 unfolding picture_of start_of_field
-lawful_picture_of f lawful = record { dots = rows_from f last_in_field 8190 (omega (arith, ints)) (omega (arith, ints)) lawful }
+lawful_picture_of f lawful = record { dots = rows_from f last_in_field field_size (omega (arith, ints)) (omega (arith, ints)) lawful }
 
 -- ---- and has these weights
 
@@ -146,7 +146,7 @@ weight_at-above : (f : ℤ → ℤ → ℤ) (y : ℤ) (n : ℕ) (u v : ℤ) → 
 unfolding rows_of weight_at
 weight_at-above f y zero u v above = refl
 weight_at-above f y (suc n) u v above =
-    weight_at-off_row f y least_coordinate 8190 (rows_of f (y -ℤ pos 1) n) u v (λ row left. omega (arith, ints, row))
+    weight_at-off_row f y least_coordinate field_size (rows_of f (y -ℤ pos 1) n) u v (λ row left. omega (arith, ints, row))
     ∙ weight_at-above f (y -ℤ pos 1) n u v (omega (arith, ints))
 
 weight_at-rows : (f : ℤ → ℤ → ℤ) (y : ℤ) (n : ℕ) (u v : ℤ) → least_coordinate ≤ℤ u → u ≤ℤ last_in_field → v ≤ℤ y
@@ -156,16 +156,16 @@ weight_at-rows f y zero u v left right top bottom = absurd (omega (arith, ints))
 weight_at-rows f y (suc n) u v left right top bottom =
     let below = rows_of f (y -ℤ pos 1) n in
     by_lt_z v y
-    (λ lower. weight_at-off_row f y least_coordinate 8190 below u v (λ row left. omega (arith, ints, row))
+    (λ lower. weight_at-off_row f y least_coordinate field_size below u v (λ row left. omega (arith, ints, row))
     ∙ weight_at-rows f (y -ℤ pos 1) n u v left right (omega (arith, ints)) (omega (arith, ints)))
     (λ no_lower.
     let here : y ≡ v = omega (arith, ints) in
-    subst (λ row. weight_at (row_of f y least_coordinate 8190 ++ below) u row ≡ f u row) here
-    (weight_at-row f y least_coordinate 8190 below u (weight_at-above f (y -ℤ pos 1) n u y (omega (arith, ints))) left (omega (arith, ints))))
+    subst (λ row. weight_at (row_of f y least_coordinate field_size ++ below) u row ≡ f u row) here
+    (weight_at-row f y least_coordinate field_size below u (weight_at-above f (y -ℤ pos 1) n u y (omega (arith, ints))) left (omega (arith, ints))))
 
 pub weight_at-picture_of : (f : ℤ → ℤ → ℤ) (x y : ℤ) → IsInField x y → weight_at (picture_of f) x y ≡ f x y
 unfolding picture_of
-weight_at-picture_of f x y inside = weight_at-rows f last_in_field 8190 x y inside.left inside.right inside.top (omega (arith, ints, inside.bottom))
+weight_at-picture_of f x y inside = weight_at-rows f last_in_field field_size x y inside.left inside.right inside.top (omega (arith, ints, inside.bottom))
 
 -- ---- a lawful picture with given weights is the picture of these weights
 
@@ -202,14 +202,14 @@ row_of-dots f y x (suc n) columns =
     (λ blank. others_are)
     (λ dotted. All-cons (IsDotOf f) first others first_is others_are)
 
-rows_of-dots : (f : ℤ → ℤ → ℤ) (y : ℤ) (n : ℕ) → (negsuc 4095 +ℤ pos n) ≤ℤ y → y ≤ℤ last_in_field → All (IsDotOf f) (rows_of f y n)
+rows_of-dots : (f : ℤ → ℤ → ℤ) (y : ℤ) (n : ℕ) → (least_coordinate -ℤ pos 1 +ℤ pos n) ≤ℤ y → y ≤ℤ last_in_field → All (IsDotOf f) (rows_of f y n)
 unfolding rows_of
 rows_of-dots f y zero bottom top = All-nil (IsDotOf f)
 rows_of-dots f y (suc n) bottom top =
-    All-append (IsDotOf f) (row_of f y least_coordinate 8190) (rows_of f (y -ℤ pos 1) n)
-    (row_of-dots f y least_coordinate 8190 (record { left = omega (arith, ints); right = omega (arith, ints); bottom = omega (arith, ints); top = top }))
+    All-append (IsDotOf f) (row_of f y least_coordinate field_size) (rows_of f (y -ℤ pos 1) n)
+    (row_of-dots f y least_coordinate field_size (record { left = omega (arith, ints); right = omega (arith, ints); bottom = omega (arith, ints); top = top }))
     (rows_of-dots f (y -ℤ pos 1) n (omega (arith, ints)) (omega (arith, ints)))
 
 pub picture_of-dots : (f : ℤ → ℤ → ℤ) → All (IsDotOf f) (picture_of f)
 unfolding picture_of
-picture_of-dots f = rows_of-dots f last_in_field 8190 (omega (arith, ints)) (omega (arith, ints))
+picture_of-dots f = rows_of-dots f last_in_field field_size (omega (arith, ints)) (omega (arith, ints))

@@ -1,10 +1,11 @@
-use Rattle.std.proofs.Common.{◌≡◌, ◌+◌, ◌*◌, ◌≤◌, ℕ, ℤ, pos, get_or, ◌-ℤ◌, ◌+ℤ◌, ◌*ℤ◌, FitsSigned, to_z, of_z, w32, w64, refl, sym, ap, ◌∙◌, arith}
+use Rattle.std.proofs.Common.{◌≡◌, ◌+◌, ◌*◌, ◌≤◌, ℕ, ℤ, pos, get_or, ◌-ℤ◌, ◌+ℤ◌, ◌*ℤ◌, FitsSigned, to_z, of_z, w64, refl, ap, arith}
 use Rattle.std.specs.Int.RustNames.{unsigned_abs}
 use Rattle.std.proofs.lemmas.Int.{ints, fits_signed_mul, to_z-of_z}
-use Rattle.mf_geom.specs.Coordinates.{greatest_coordinate}
+use Rattle.mf_geom.specs.Coordinates.{greatest_coordinate, field_size}
 use Rattle.mf_edges.specs.declared.edge.Edge.{Edge}
+use Rattle.mf_edges.specs.Merging.{greatest_change}
 use Rattle.mf_edges.specs.Totals.{edges_total}
-use Rattle.mf_edges.proofs.TotalsLemmas.{IsPart, part_at, edges_total-more}
+use Rattle.mf_edges.proofs.TotalsLemmas.{greatest_part, part_at, edges_total-more}
 use Rattle.mf_edges.proofs.edge.total_of_edges.Goals as goal
 
 abbrev none : Edge
@@ -29,8 +30,9 @@ step c =
     let e : Edge = get_or c.args.edges.now c.loop-edge.edge-index none in
     let part = part_at c.args.edges.now _ none c.requires c.loop-edge-test.true in
     let weight : to_z w64 (of_z w64 c.from.result) ≡ e.weight = omega (arith, ints, part.weight, c.from.ensures) in
-    let columns : to_z w64 (of_z w64 c.from-in-loop-edge.result) ≡ greatest_coordinate -ℤ e.x = omega (arith, ints, part.columns, c.from-in-loop-edge.ensures) in
-    let fits = fits_signed_mul w64 e.weight (greatest_coordinate -ℤ e.x) 65534 8190 part.weight part.columns (omega arith) in
+    let columns : to_z w64 (of_z w64 c.from-in-loop-edge.result) ≡ greatest_coordinate -ℤ e.x =
+    omega (arith, ints, part.columns, c.from-in-loop-edge.ensures) in
+    let fits = fits_signed_mul w64 e.weight (greatest_coordinate -ℤ e.x) (unsigned_abs greatest_change) field_size part.weight part.columns (omega arith) in
     record { product_fits = rw (weight, columns) fits; product_is = rw (weight, columns) (to_z-of_z w64 _ fits) }
 
 pub overflow_mul-total : goal.overflow_mul-total
@@ -40,9 +42,10 @@ overflow_mul-total c = (step c).product_fits
 record IsNext (total product : ℤ) (n : ℕ) : Type 0 where
   fits : FitsSigned w64 (total +ℤ product)
   is : to_z w64 (of_z w64 (total +ℤ product)) ≡ total +ℤ product
-  bound : unsigned_abs (total +ℤ product) ≤ (n + 1) * 1073741824
+  bound : unsigned_abs (total +ℤ product) ≤ (n + 1) * greatest_part
 
-more_fits : (total product : ℤ) (n : ℕ) → unsigned_abs total ≤ n * 1073741824 → unsigned_abs product ≤ 1073741824 → n ≤ 8191 → IsNext total product n
+more_fits : (total product : ℤ) (n : ℕ) → unsigned_abs total ≤ n * greatest_part → unsigned_abs product ≤ greatest_part → n ≤ field_size + 1
+    → IsNext total product n
 more_fits total product n before more few = record { fits = omega (arith, ints); is = omega (arith, ints); bound = omega (arith, ints) }
 
 next : (c : goal.After-from-in-loop-edge) → let e : Edge = get_or c.args.edges.now c.loop-edge.edge-index none in

@@ -1,10 +1,11 @@
 use Rattle.std.proofs.Common.{◌≡◌, ◌≤◌, ◌*◌, take}
 use Rattle.std.specs.Int.RustNames.{unsigned_abs}
 use Rattle.mf_edges.specs.Totals.{edges_total}
+use Rattle.mf_edges.proofs.TotalsLemmas.{greatest_part}
 use Rattle.mf_edges.proofs.edge.total_of_edges.Given as goal
 
 abbrev pub invariant-loop-edge : goal.invariant-loop-edge
 invariant-loop-edge l = record {
   value : l.total ≡ edges_total (take l.edge-index l.edges);
-  bound : unsigned_abs l.total ≤ l.edge-index * 1073741824;
+  bound : unsigned_abs l.total ≤ l.edge-index * greatest_part;
 }

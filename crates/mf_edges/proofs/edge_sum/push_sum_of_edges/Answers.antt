@@ -2,7 +2,8 @@ use Rattle.std.proofs.Common.{◌≡◌, to_z, of_z, to_z-of_z, w32, arith}
 use Rattle.std.proofs.lemmas.Int.{ints}
 use Rattle.std.proofs.lemmas.List.{nil_from_length}
 use Rattle.std.proofs.lemmas.Result.{err_from_is_err_and}
-use Rattle.mf_edges.proofs.EdgeSums.{IsNextChange, sum_kept, difference_is, more_fits, sum_none, left_sorted, left_of_change, change_difference, sum_more, sum_all}
+use Rattle.mf_edges.proofs.EdgeSums.{IsNextChange, sum_kept, difference_is, more_fits, sum_none}
+use Rattle.mf_edges.proofs.EdgeSums.{left_sorted, left_of_change, change_difference, sum_more, sum_all}
 use Rattle.mf_edges.proofs.edge_sum.push_sum_of_edges.Goals as goal
 use Rattle.mf_edges.proofs.edge_sum.push_sum_of_edges.Goals.{After-count_left_of}
 

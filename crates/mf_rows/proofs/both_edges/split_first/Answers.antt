@@ -3,7 +3,8 @@ use Rattle.std.proofs.lemmas.Int.{ints}
 use Rattle.std.proofs.lemmas.List.{nil_from_length}
 use Rattle.mf_rows.proofs.TakenEdges.{first_alone, first_of_right, first_taken, none_over}
 use Rattle.mf_rows.proofs.both_edges.split_first.Goals as goal
-use Rattle.mf_rows.proofs.both_edges.split_first.Goals.{in_default-split_first-via-in-Some-split_first+else-first-edge, in_default-split_first-via-in_default-split_first}
+use Rattle.mf_rows.proofs.both_edges.split_first.Goals.{in_default-split_first-via-in-Some-split_first+else-first-edge}
+use Rattle.mf_rows.proofs.both_edges.split_first.Goals.{in_default-split_first-via-in_default-split_first}
 
 pub returns-then-first-edge-2-clause-some : goal.returns-then-first-edge-2-clause-some
 returns-then-first-edge-2-clause-some c =
@@ -27,7 +28,8 @@ returns-in_default-split_first-clause-some c =
       | in_default-split_first-via-in-Some-split_first+else-first-edge w ↦
           (first_taken c.loop-edge.invariant w.in-Some-split_first.ensures.cases.0 c.in-Some.ensures.cases.0).right
           (omega (arith, ints, w.if-first-edge.false))
-      | in_default-split_first-via-in_default-split_first w ↦ first_of_right c.loop-edge.invariant (nil_from_length _ w.in_default-split_first.ensures.cases) c.in-Some.ensures.cases.0
+      | in_default-split_first-via-in_default-split_first w ↦
+          first_of_right c.loop-edge.invariant (nil_from_length _ w.in_default-split_first.ensures.cases) c.in-Some.ensures.cases.0
     ]
 
 pub returns-in_err-edge-clause-none : goal.returns-in_err-edge-clause-none

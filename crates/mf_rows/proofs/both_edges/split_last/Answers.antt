@@ -3,7 +3,8 @@ use Rattle.std.proofs.lemmas.Int.{ints}
 use Rattle.std.proofs.lemmas.List.{nil_from_length}
 use Rattle.mf_rows.proofs.TakenEdges.{last_alone, last_of_right, last_taken, none_over}
 use Rattle.mf_rows.proofs.both_edges.split_last.Goals as goal
-use Rattle.mf_rows.proofs.both_edges.split_last.Goals.{in_default-split_last-via-in-Some-split_last+else-edge-last, in_default-split_last-via-in_default-split_last}
+use Rattle.mf_rows.proofs.both_edges.split_last.Goals.{in_default-split_last-via-in-Some-split_last+else-edge-last}
+use Rattle.mf_rows.proofs.both_edges.split_last.Goals.{in_default-split_last-via-in_default-split_last}
 
 pub returns-then-edge-last-2-clause-some : goal.returns-then-edge-last-2-clause-some
 returns-then-edge-last-2-clause-some c =
@@ -27,7 +28,8 @@ returns-in_default-split_last-clause-some c =
       | in_default-split_last-via-in-Some-split_last+else-edge-last w ↦
           (last_taken c.loop-edge.invariant w.in-Some-split_last.ensures.cases.0 c.in-Some.ensures.cases.0).right
           (omega (arith, ints, w.if-edge-last.false))
-      | in_default-split_last-via-in_default-split_last w ↦ last_of_right c.loop-edge.invariant (nil_from_length _ w.in_default-split_last.ensures.cases) c.in-Some.ensures.cases.0
+      | in_default-split_last-via-in_default-split_last w ↦
+          last_of_right c.loop-edge.invariant (nil_from_length _ w.in_default-split_last.ensures.cases) c.in-Some.ensures.cases.0
     ]
 
 pub returns-in_err-edge-clause-none : goal.returns-in_err-edge-clause-none

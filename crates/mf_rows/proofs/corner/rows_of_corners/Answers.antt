@@ -4,7 +4,8 @@ use Rattle.std.specs.Ordering.{int_cmp, is_lt}
 use Rattle.std.proofs.lemmas.List.{drop_all}
 use Rattle.std.proofs.lemmas.List.Sorted.{answers_always}
 use Rattle.mf_rows.specs.declared.corner.Corner.{Corner}
-use Rattle.mf_rows.proofs.CornersLemmas.{swept_none, swept_edges, swept_all, corner_read, corner_weight_is_lawful, level, corners_permuted, added_by_permuted, falling_from_sorted}
+use Rattle.mf_rows.proofs.CornersLemmas.{swept_none, swept_edges, swept_all, corner_read, corner_weight_is_lawful}
+use Rattle.mf_rows.proofs.CornersLemmas.{level, corners_permuted, added_by_permuted, falling_from_sorted}
 use Rattle.mf_rows.proofs.corner.rows_of_corners.Goals as goal
 
 -- a corner in place of one outside the list

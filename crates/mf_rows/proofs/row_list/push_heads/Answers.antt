@@ -23,8 +23,7 @@ loop-down-preserved c =
     let so_far = rw (top, bottom, reach) at c.loop-down.invariant.copies in
     record {
       copies = rw (top, bottom, reach, place.more, c.in_ok-push.ensures.items, top, place.row, reach)
-          (heads_more c.args.heads.now.items (record { reach = c.args.reach; place = c.args.place.now; bottom = c.args.bottom; top = c.args.top }) down c.loop-down.heads.items bound so_far
-          c.in_ok-share.field-0 c.in_ok-share.ensures);
+          (heads_more c.args.heads.now.items _ down c.loop-down.heads.items bound so_far c.in_ok-share.field-0 c.in_ok-share.ensures);
       least = rw place.more place.least;
       greatest = rw (place.more, top, bottom) bound;
     }
@@ -46,4 +45,4 @@ returns-clause-rows c =
     let reach : to_z w32 (of_z w32 c.args.reach) ≡ c.args.reach = omega (arith, ints) in
     let end : c.args.top -ℤ c.args.bottom ≡ to_z w32 c.loop-down.down-bits =
     omega (arith, ints, c.loop-down-test.false, c.loop-down.invariant.greatest, c.requires) in
-    heads_all _ (record { reach = c.args.reach; place = c.args.place.now; bottom = c.args.bottom; top = c.args.top }) (to_z w32 c.loop-down.down-bits) _ end (rw (top, bottom, reach) at c.loop-down.invariant.copies)
+    heads_all _ _ (to_z w32 c.loop-down.down-bits) _ end (rw (top, bottom, reach) at c.loop-down.invariant.copies)

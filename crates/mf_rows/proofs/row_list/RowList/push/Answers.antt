@@ -14,8 +14,10 @@ pub invariant_of-self-in_err-push : goal.invariant_of-self-in_err-push
 invariant_of-self-in_err-push c = rw c.in_err-push.ensures.items (heads_kept _ _ c.place_of.ensures.kept _ c.self.invariant)
 
 pub invariant_of-self-2 : goal.invariant_of-self-2
-invariant_of-self-2 c = rw (c.in_ok-push.ensures.items, reach_is _ _ c.args.row.now.reached) (heads_push _ _ c.place_of.ensures.kept _ c.self.invariant _ c.args.row.now.edges.now
-    c.in_ok-place.ensures.place c.args.row.now.reached)
+invariant_of-self-2 c =
+    let row = c.args.row.now in
+    rw (c.in_ok-push.ensures.items, reach_is _ _ row.reached)
+    (heads_push _ _ c.place_of.ensures.kept _ c.self.invariant _ row.edges.now c.in_ok-place.ensures.place row.reached)
 
 pub returns-clause-pushed : goal.returns-clause-pushed
 returns-clause-pushed c =

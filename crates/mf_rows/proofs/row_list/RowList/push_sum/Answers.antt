@@ -46,7 +46,8 @@ returns-clause-pushed c =
     let reached = rw (c.deref.ensures.value, placed.edges) at c.in_ok-reach.ensures.reach in
     let some : pushed.more ≢ [] = some_more _ _ kept c.len-start.result c.len-end.result (omega arith) (omega arith) c.if-start-end.false in
     let y_is : to_z w32 (of_z w32 c.args.right.now.y) ≡ c.args.right.now.y = omega (arith, ints) in
-    let head : Head = record { y = c.args.right.now.y; reach = to_z w32 (of_z w32 c.in_ok-reach.reach); place = place.Among c.len-start.result c.len-end.result } in
+    let among = place.Among c.len-start.result c.len-end.result in
+    let head : Head = record { y = c.args.right.now.y; reach = to_z w32 (of_z w32 c.in_ok-reach.reach); place = among } in
     rw (c.in_ok-push.ensures.items, y_is, rows_push _ _ kept c.self.inside.heads.items c.self.invariant head pushed.more placed, c.self.view_is)
     (sum_of_both-some c.args.right.now.y (edge_row c.args.left.now) (edge_row c.args.right.now)
     c.requires.left c.requires.right c.args.self.now pushed.more c.in_ok-reach.reach some pushed.sum reached)

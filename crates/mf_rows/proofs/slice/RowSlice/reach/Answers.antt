@@ -10,9 +10,9 @@ loop-head-init c = reach_start _ c.requires
 
 pub loop-head-preserved : goal.loop-head-preserved
 loop-head-preserved c =
-    let step = reach_read _ c.args.self.edges.now c.args.self.heads.now _ _ (edge_row c.row_of_head.result) _ c.loop-head-test.true c.head-item.is c.row_of_head.ensures
-    c.loop-head.invariant in
     let row = c.row_of_head.result in
+    let step = reach_read _ c.args.self.edges.now c.args.self.heads.now _ _ (edge_row row) _ c.loop-head-test.true c.head-item.is c.row_of_head.ensures
+    c.loop-head.invariant in
     let next = reach_next _ _ _ (edge_row row) _ row.reach c.max-reach.result step c.loop-head.invariant row.reached
     (rw (row_fits _ _ row.reached) at c.max-reach.ensures) in
     rw next.1 next.0

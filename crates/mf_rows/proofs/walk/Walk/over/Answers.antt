@@ -7,7 +7,10 @@ use Rattle.mf_rows.proofs.RowRuns.{edge_rows_from, runs_of-picture_of_rows}
 use Rattle.mf_rows.proofs.walk.Walk.over.Goals as goal
 
 pub invariant_of-result : goal.invariant_of-result
-invariant_of-result c = record { rest = rw c.none.ensures (rest_of_none _); others = subst AreEdgeRows (sym c.over.ensures) (edge_rows_from last_in_field _ c.requires.both.rows) }
+invariant_of-result c = record {
+  rest = rw c.none.ensures (rest_of_none _);
+  others = subst AreEdgeRows (sym c.over.ensures) (edge_rows_from last_in_field _ c.requires.both.rows);
+}
 
 pub returns : goal.returns
 unfolding runs_of_edges
