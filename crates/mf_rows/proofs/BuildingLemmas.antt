@@ -183,7 +183,7 @@ pushed all rs old new r lawful fits rows above row has weights =
 
 pub rows-kept_last : (rows : List OpenRow) (last new : OpenRow) → IsLastRow rows last → open_row new ≡ open_row last
     → open_rows (set rows (length rows - 1) new) ≡ open_rows rows
-rows-kept_last rows last new is_last same = is_last.changed new ∙ ap (λ row. is_last.front ++ row ∷ []) same ∙ sym is_last.all
+rows-kept_last rows _ new is_last same = is_last.changed new ∙ ap (λ row. is_last.front ++ row ∷ []) same ∙ sym is_last.all
 
 pub pushed_on_last : (rows : List OpenRow) (last new : OpenRow) (r : Run) → AreRows (open_rows rows)
     → Fits (picture_of_rows (open_rows rows)) r → IsLastRow rows last → last.y ≡ r.y

@@ -1,5 +1,5 @@
 //! Pictures.
-ghost use Rattle.std.specs.Prelude.{◌≡◌, ◌≢◌, [], IsNone, IsOk, IfSome, IfOk, IfErr, OnOk, OnErr, IsTrue, slice_get, ◌↔◌, All};
+ghost use Rattle.std.specs.Prelude.{◌≡◌, ◌≢◌, [], IsNone, IsOk, IfSome, IfOk, IfErr, OnOk, OnErr, IsTrue, slice_get, ◌↔◌};
 ghost use Rattle.mf_rows.specs.EdgeRows.{AreRows};
 
 use crate::bounds::{Box4, Pixels};
@@ -8,18 +8,18 @@ use crate::group::Group;
 use crate::groups::{groups_of, list_rows};
 use crate::pile::Pile;
 use crate::row_change::changed_rows;
-use crate::row_move::{mirrored_rows, stretched_rows};
 use crate::run::Run;
 use crate::runs::Runs;
 use crate::sign::Sign;
 use crate::slice::RowSlice;
-use crate::turn::turned_rows;
 use crate::writer::RowWriter;
 use mf_base::OutOfMemory;
-use mf_edges::{AddFault, RowChange, Stretch, WeightMap};
+use mf_edges::{AddFault, RowChange, WeightMap};
 use std::alloc::Global;
 use std::marker::Model;
 use std::sync::Arc;
+
+mod moves;
 
 /// A picture: a weight in -32767..=32767 for each pixel of the field, whose columns and rows are -4095..=4094; pixels
 /// elsewhere have weight 0 (The METAFONTbook, chapter 13).
@@ -52,8 +52,6 @@ impl Picture {
     ghost use Rattle.mf_rows.specs.Dots.{IsPicture, weight_at, total_of};
     ghost use Rattle.mf_rows.specs.EdgeRows.{picture_of_rows};
     ghost use Rattle.mf_rows.specs.Groups.{rows_of_groups, AreGroups};
-    ghost use Rattle.mf_edges.specs.Axes.{IsStretch, PlaceStaysInside};
-    ghost use Rattle.mf_rows.specs.Moves.{PixelsStayInside, column_mirror_at, column_stretch_at, row_mirror_at, stretch_at, quarter_turn_at};
     ghost use Rattle.mf_rows.specs.Runs.{runs_of};
     ghost use Rattle.mf_rows.specs.Sums.{HasWeights, IsUnlawfulSomewhere, difference_at, sum_at};
     ghost use Rattle.mf_edges.specs.WeightMaps.{IsWeightMap};
@@ -226,63 +224,6 @@ impl Picture {
         Picture::from_rows(alloc, changed)
     }
 
-    /// The picture reflected in the line between columns -1 and 0: column x becomes column -x - 1 (mf.web:
-    /// `x_reflect_edges`). This one is unchanged. Refused with `OutOfMemory` where an allocation fails.
-    pub fn mirror_columns(&self, alloc: Global) -> Result<Picture, OutOfMemory>
-        ensures weights { IfOk result (HasWeights (column_mirror_at self.now)) }
-        ensures lawful { IfOk result IsPicture }
-    {
-        let groups = self.groups(alloc)?;
-        let rows = list_rows(alloc, &groups)?;
-        let changed = changed_rows(alloc, &rows, &RowChange::Mirror)?;
-        Picture::from_rows(alloc, changed)
-    }
-
-    /// The picture reflected in the line between rows -1 and 0: row y becomes row -y - 1 (mf.web: `y_reflect_edges`).
-    /// This one is unchanged. Refused with `OutOfMemory` where an allocation fails.
-    pub fn mirror_rows(&self, alloc: Global) -> Result<Picture, OutOfMemory>
-        ensures weights { IfOk result (HasWeights (row_mirror_at self.now)) }
-        ensures lawful { IfOk result IsPicture }
-    {
-        let groups = self.groups(alloc)?;
-        let rows = list_rows(alloc, &groups)?;
-        Picture::from_rows(alloc, mirrored_rows(alloc, &rows)?)
-    }
-
-    /// The picture after its columns and rows are stretched, so that each pixel becomes a rectangle of its weight
-    /// (mf.web: `x_scale_edges`, `y_scale_edges`). This one is unchanged. Rows of a band that come from one row share
-    /// their edges. Requires factors in 1..=4095, and that all of these rectangles lie in the field. Refused with
-    /// `OutOfMemory` where an allocation fails.
-    pub fn stretch(
-        &self,
-        alloc: Global,
-        columns: &Stretch,
-        rows: &Stretch,
-    ) -> Result<Picture, OutOfMemory>
-        requires columns { IsStretch columns.now }
-        requires rows { IsStretch rows.now }
-        requires inside { PixelsStayInside columns.now rows.now self.now }
-        ensures weights { IfOk result (HasWeights (stretch_at columns.now rows.now self.now)) }
-        ensures lawful { IfOk result IsPicture }
-    {
-        let wide = self.with_columns_stretched(alloc, columns)?;
-        let groups = wide.groups(alloc)?;
-        let changed = list_rows(alloc, &groups)?;
-        Picture::from_rows(alloc, stretched_rows(alloc, &changed, rows)?)
-    }
-
-    /// The picture turned by 90 degrees counterclockwise round the point (0, 0): the pixel (x, y) becomes the pixel (-y
-    /// - 1, x) (mf.web: `xy_swap_edges` and a reflection). This one is unchanged. Refused with `OutOfMemory` where an
-    /// allocation fails.
-    pub fn turn(&self, alloc: Global) -> Result<Picture, OutOfMemory>
-        ensures weights { IfOk result (HasWeights (quarter_turn_at self.now)) }
-        ensures lawful { IfOk result IsPicture }
-    {
-        let groups = self.groups(alloc)?;
-        let rows = list_rows(alloc, &groups)?;
-        Picture::from_rows(alloc, turned_rows(alloc, &rows)?)
-    }
-
     /// Adds corners to the picture. Bands that no corner reaches stay as they are. Requires at most 8192 corners, with
     /// coordinates in -4095..=4095 and weights in -3..=3, which together add nothing to the right of the field; what
     /// they add below the field is left out. Refused with `WeightTooLarge` where a weight would exceed 32767 in absolute
@@ -298,26 +239,6 @@ impl Picture {
         let rows = rows_of_corners(alloc, corners)?;
         self.pile.add_rows(alloc, RowSlice::of(&rows))?;
         Ok(())
-    }
-
-    /// The picture after its columns are stretched. Where all of them stay in place, it shares the groups of this one.
-    fn with_columns_stretched(
-        &self,
-        alloc: Global,
-        columns: &Stretch,
-    ) -> Result<Picture, OutOfMemory>
-        requires columns { IsStretch columns.now }
-        requires inside { All (λ dot. PlaceStaysInside columns.now dot.x) self.now }
-        ensures weights { IfOk result (HasWeights (column_stretch_at columns.now self.now)) }
-        ensures lawful { IsPicture self.now }
-    {
-        if columns.factor == 1 && columns.offset == 0 {
-            return self.copy(alloc);
-        }
-        let groups = self.groups(alloc)?;
-        let rows = list_rows(alloc, &groups)?;
-        let changed = changed_rows(alloc, &rows, &RowChange::Columns(*columns))?;
-        Picture::from_rows(alloc, changed)
     }
 
     /// Whether the picture is blank.

@@ -1,0 +1,95 @@
+//! What moves a picture: reflections, stretches and turns.
+ghost use Rattle.std.specs.Prelude.{All, IfOk};
+ghost use Rattle.mf_edges.specs.Axes.{IsStretch, PlaceStaysInside};
+ghost use Rattle.mf_rows.specs.Dots.{IsPicture};
+ghost use Rattle.mf_rows.specs.Moves.{PixelsStayInside, column_mirror_at, column_stretch_at, row_mirror_at, stretch_at, quarter_turn_at};
+ghost use Rattle.mf_rows.specs.Sums.{HasWeights};
+
+use super::Picture;
+use crate::groups::list_rows;
+use crate::row_change::changed_rows;
+use crate::row_move::{mirrored_rows, stretched_rows};
+use crate::turn::turned_rows;
+use mf_base::OutOfMemory;
+use mf_edges::{RowChange, Stretch};
+use std::alloc::Global;
+
+#[tactic(auto, using(crate::proofs::EdgeRowsLemmas::lawful_picture_of_rows))]
+impl Picture {
+    /// The picture reflected in the line between columns -1 and 0: column x becomes column -x - 1 (mf.web:
+    /// `x_reflect_edges`). This one is unchanged. Refused with `OutOfMemory` where an allocation fails.
+    pub fn mirror_columns(&self, alloc: Global) -> Result<Picture, OutOfMemory>
+        ensures weights { IfOk result (HasWeights (column_mirror_at self.now)) }
+        ensures lawful { IfOk result IsPicture }
+    {
+        let groups = self.groups(alloc)?;
+        let rows = list_rows(alloc, &groups)?;
+        let changed = changed_rows(alloc, &rows, &RowChange::Mirror)?;
+        Picture::from_rows(alloc, changed)
+    }
+
+    /// The picture reflected in the line between rows -1 and 0: row y becomes row -y - 1 (mf.web: `y_reflect_edges`).
+    /// This one is unchanged. Refused with `OutOfMemory` where an allocation fails.
+    pub fn mirror_rows(&self, alloc: Global) -> Result<Picture, OutOfMemory>
+        ensures weights { IfOk result (HasWeights (row_mirror_at self.now)) }
+        ensures lawful { IfOk result IsPicture }
+    {
+        let groups = self.groups(alloc)?;
+        let rows = list_rows(alloc, &groups)?;
+        Picture::from_rows(alloc, mirrored_rows(alloc, &rows)?)
+    }
+
+    /// The picture after its columns and rows are stretched, so that each pixel becomes a rectangle of its weight
+    /// (mf.web: `x_scale_edges`, `y_scale_edges`). This one is unchanged. Rows of a band that come from one row share
+    /// their edges. Requires factors in 1..=4095, and that all of these rectangles lie in the field. Refused with
+    /// `OutOfMemory` where an allocation fails.
+    pub fn stretch(
+        &self,
+        alloc: Global,
+        columns: &Stretch,
+        rows: &Stretch,
+    ) -> Result<Picture, OutOfMemory>
+        requires columns { IsStretch columns.now }
+        requires rows { IsStretch rows.now }
+        requires inside { PixelsStayInside columns.now rows.now self.now }
+        ensures weights { IfOk result (HasWeights (stretch_at columns.now rows.now self.now)) }
+        ensures lawful { IfOk result IsPicture }
+    {
+        let wide = self.with_columns_stretched(alloc, columns)?;
+        let groups = wide.groups(alloc)?;
+        let changed = list_rows(alloc, &groups)?;
+        Picture::from_rows(alloc, stretched_rows(alloc, &changed, rows)?)
+    }
+
+    /// The picture turned by 90 degrees counterclockwise round the point (0, 0): the pixel (x, y) becomes the pixel (-y
+    /// - 1, x) (mf.web: `xy_swap_edges` and a reflection). This one is unchanged. Refused with `OutOfMemory` where an
+    /// allocation fails.
+    pub fn turn(&self, alloc: Global) -> Result<Picture, OutOfMemory>
+        ensures weights { IfOk result (HasWeights (quarter_turn_at self.now)) }
+        ensures lawful { IfOk result IsPicture }
+    {
+        let groups = self.groups(alloc)?;
+        let rows = list_rows(alloc, &groups)?;
+        Picture::from_rows(alloc, turned_rows(alloc, &rows)?)
+    }
+
+    /// The picture after its columns are stretched. Where all of them stay in place, it shares the groups of this one.
+    fn with_columns_stretched(
+        &self,
+        alloc: Global,
+        columns: &Stretch,
+    ) -> Result<Picture, OutOfMemory>
+        requires columns { IsStretch columns.now }
+        requires inside { All (λ dot. PlaceStaysInside columns.now dot.x) self.now }
+        ensures weights { IfOk result (HasWeights (column_stretch_at columns.now self.now)) }
+        ensures lawful { IsPicture self.now }
+    {
+        if columns.factor == 1 && columns.offset == 0 {
+            return self.copy(alloc);
+        }
+        let groups = self.groups(alloc)?;
+        let rows = list_rows(alloc, &groups)?;
+        let changed = changed_rows(alloc, &rows, &RowChange::Columns(*columns))?;
+        Picture::from_rows(alloc, changed)
+    }
+}
