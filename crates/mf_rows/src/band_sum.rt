@@ -46,7 +46,7 @@ pub(crate) fn sum_of_bands(
         let (before, others) = split_bands(bands, part.number - 1);
         push_shared(&mut sum, before)?;
         let (own, rest_bands) = split_first_band(others, part.number);
-        push_sum(alloc, &mut sum, own, part)?;
+        push_band_sum(alloc, &mut sum, own, part)?;
         (bands, added) = (rest_bands, rest_added);
     }
     push_shared(&mut sum, bands)?;
@@ -54,7 +54,7 @@ pub(crate) fn sum_of_bands(
 }
 
 /// Appends the sum of a band, where there is one, and of what is added to it, to a list of bands with lesser numbers.
-fn push_sum(
+fn push_band_sum(
     alloc: Global,
     sum: &mut Vec<Arc<Band>>,
     own: Option<&Arc<Band>>,

@@ -40,7 +40,7 @@ pub(crate) fn sum_of_rows(
         let (above, others) = left.split_above(added.y);
         push_rows(&mut sum, above)?;
         let (row, rest_left) = others.split_at_height(added.y);
-        push_sum(alloc, &mut sum, row, added)?;
+        push_row_sum(alloc, &mut sum, row, added)?;
         (left, right) = (rest_left, rest_right);
     }
     push_rows(&mut sum, left)?;
@@ -60,7 +60,7 @@ pub(crate) fn push_rows(list: &mut RowList, rows: RowSlice<'_>) -> Result<(), Ou
 
 /// Appends the sum of a row and of the row of the same height, if there is one, to a list of rows, unless the sum is
 /// blank.
-fn push_sum(
+fn push_row_sum(
     alloc: Global,
     sum: &mut RowList,
     left: Option<Row<'_>>,

@@ -2,7 +2,8 @@ use Rattle.std.proofs.Common.{refl, arith}
 use Rattle.std.proofs.lemmas.Int.{ints}
 use Rattle.std.proofs.lemmas.Result.{err_from_is_err_and}
 use Rattle.mf_rows.proofs.RowSumSteps.{sum_all_rows, sum_all_weights}
-use Rattle.mf_rows.proofs.BandSumSteps.{nothing_added, left_rise, added_left, all_rise, reached, least, others_rise, only_own, own_rows, rise_with_before, unlawful_in_band, added_more}
+use Rattle.mf_rows.proofs.BandSumSteps.{nothing_added, left_rise, added_left, all_rise, reached, least, others_rise}
+use Rattle.mf_rows.proofs.BandSumSteps.{only_own, own_rows, rise_with_before, unlawful_in_band, added_more}
 use Rattle.mf_rows.proofs.band_sum.sum_of_bands.Goals as goal
 
 pub loop-part-init : goal.loop-part-init
@@ -23,25 +24,25 @@ split_bands-requires c = left_rise c.loop-part.invariant
 pub split_first_band-requires : goal.split_first_band-requires
 split_first_band-requires c = others_rise c.loop-part.invariant c.in-Some.ensures.first c.split_bands.ensures
 
-pub push_sum-requires-clause-own : goal.push_sum-requires-clause-own
-push_sum-requires-clause-own c = own_rows c.loop-part.invariant c.in-Some.ensures.first c.split_bands.ensures c.split_first_band.ensures
+pub push_band_sum-requires-clause-own : goal.push_band_sum-requires-clause-own
+push_band_sum-requires-clause-own c = own_rows c.loop-part.invariant c.in-Some.ensures.first c.split_bands.ensures c.split_first_band.ensures
 
-pub push_sum-requires-clause-number : goal.push_sum-requires-clause-number
-push_sum-requires-clause-number c = only_own c.loop-part.invariant c.in-Some.ensures.first c.split_bands.ensures c.split_first_band.ensures
+pub push_band_sum-requires-clause-number : goal.push_band_sum-requires-clause-number
+push_band_sum-requires-clause-number c = only_own c.loop-part.invariant c.in-Some.ensures.first c.split_bands.ensures c.split_first_band.ensures
 
-pub push_sum-requires-clause-before : goal.push_sum-requires-clause-before
-push_sum-requires-clause-before c = rise_with_before c.loop-part.invariant c.in-Some.ensures.first c.split_bands.ensures c.in_ok-push_shared.ensures.numbers
+pub push_band_sum-requires-clause-before : goal.push_band_sum-requires-clause-before
+push_band_sum-requires-clause-before c = rise_with_before c.loop-part.invariant c.in-Some.ensures.first c.split_bands.ensures c.in_ok-push_shared.ensures.numbers
 
-pub returns-in_err-push_sum-clause-too_large : goal.returns-in_err-push_sum-clause-too_large
-returns-in_err-push_sum-clause-too_large c =
-    let p = err_from_is_err_and c.from_residual-in_err-push_sum.result c.from_residual-in_err-push_sum.ensures.1 in
+pub returns-in_err-push_band_sum-clause-too_large : goal.returns-in_err-push_band_sum-clause-too_large
+returns-in_err-push_band_sum-clause-too_large c =
+    let p = err_from_is_err_and c.from_residual-in_err-push_band_sum.result c.from_residual-in_err-push_band_sum.ensures.1 in
     rw (p.1, p.2) (λ fault. unlawful_in_band c.loop-part.invariant c.in-Some.ensures.first c.split_bands.ensures c.split_first_band.ensures
-    c.in_ok-push_shared.ensures.rows (c.in_err-push_sum.ensures.too_large fault))
+    c.in_ok-push_shared.ensures.rows (c.in_err-push_band_sum.ensures.too_large fault))
 
 pub loop-part-preserved : goal.loop-part-preserved
 loop-part-preserved c =
     added_more c.loop-part.invariant c.in-Some.ensures.first c.split_bands.ensures c.split_first_band.ensures c.in_ok-push_shared.ensures.rows
-    c.in_ok-push_sum.ensures.pushed c.in_ok-push_sum.ensures.rising
+    c.in_ok-push_band_sum.ensures.pushed c.in_ok-push_band_sum.ensures.rising
 
 pub returns-clause-rows : goal.returns-clause-rows
 returns-clause-rows c =

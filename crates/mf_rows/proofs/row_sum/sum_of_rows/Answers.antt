@@ -22,15 +22,15 @@ split_at_height-requires c =
     let below = rw y_is at c.split_above.ensures.others in
     rw y_is (rest_from _ _ _ _ _ c.loop-added.invariant r _ c.in-Some.ensures.first _ _ c.split_above.ensures.all above below)
 
-pub push_sum-requires-clause-left : goal.push_sum-requires-clause-left
-push_sum-requires-clause-left c =
+pub push_row_sum-requires-clause-left : goal.push_row_sum-requires-clause-left
+push_row_sum-requires-clause-left c =
     let r = edge_row c.in-Some.added in
     let y_is : to_z w32 (of_z w32 r.y) ≡ r.y = to_z-of_z w32 r.y (search rules) in
     let left = rw y_is at c.split_at_height.ensures in
     left.here
 
-pub push_sum-requires-clause-right : goal.push_sum-requires-clause-right
-push_sum-requires-clause-right c =
+pub push_row_sum-requires-clause-right : goal.push_row_sum-requires-clause-right
+push_row_sum-requires-clause-right c =
     let r = edge_row c.in-Some.added in
     let y_is : to_z w32 (of_z w32 r.y) ≡ r.y = to_z-of_z w32 r.y (search rules) in
     let above = rw y_is at c.split_above.ensures.above in
@@ -38,8 +38,8 @@ push_sum-requires-clause-right c =
     let right = added_split _ _ _ _ _ c.loop-added.invariant r _ c.in-Some.ensures.first _ _ c.split_above.ensures.all above below in
     right.here
 
-pub returns-in_err-push_sum-clause-too_large : goal.returns-in_err-push_sum-clause-too_large
-returns-in_err-push_sum-clause-too_large c =
+pub returns-in_err-push_row_sum-clause-too_large : goal.returns-in_err-push_row_sum-clause-too_large
+returns-in_err-push_row_sum-clause-too_large c =
     let r = edge_row c.in-Some.added in
     let y_is : to_z w32 (of_z w32 r.y) ≡ r.y = to_z-of_z w32 r.y (search rules) in
     let above = rw y_is at c.split_above.ensures.above in
@@ -47,8 +47,8 @@ returns-in_err-push_sum-clause-too_large c =
     let left = rw y_is at c.split_at_height.ensures in
     let right = added_split _ _ _ _ _ c.loop-added.invariant r _ c.in-Some.ensures.first _ _ c.split_above.ensures.all above below in
     let so_far = sum_with_above _ _ _ _ _ c.loop-added.invariant r _ c.in-Some.ensures.first _ _ c.split_above.ensures.all above below in
-    let p = err_from_is_err_and c.from_residual-in_err-push_sum.result c.from_residual-in_err-push_sum.ensures.1 in
-    rw (p.1, p.2) (λ fault. unlawful_somewhere _ _ _ _ _ r.y so_far _ _ _ _ left right (c.in_err-push_sum.ensures.too_large fault))
+    let p = err_from_is_err_and c.from_residual-in_err-push_row_sum.result c.from_residual-in_err-push_row_sum.ensures.1 in
+    rw (p.1, p.2) (λ fault. unlawful_somewhere _ _ _ _ _ r.y so_far _ _ _ _ left right (c.in_err-push_row_sum.ensures.too_large fault))
 
 pub loop-added-preserved : goal.loop-added-preserved
 loop-added-preserved c =
@@ -59,7 +59,7 @@ loop-added-preserved c =
     let left = rw y_is at c.split_at_height.ensures in
     let right = added_split _ _ _ _ _ c.loop-added.invariant r _ c.in-Some.ensures.first _ _ c.split_above.ensures.all above below in
     let so_far = sum_with_above _ _ _ _ _ c.loop-added.invariant r _ c.in-Some.ensures.first _ _ c.split_above.ensures.all above below in
-    let pushed = rw c.in_ok-push_rows.ensures at c.in_ok-push_sum.ensures.pushed in
+    let pushed = rw c.in_ok-push_rows.ensures at c.in_ok-push_row_sum.ensures.pushed in
     sum_more _ _ _ _ _ r.y so_far _ _ _ _ left right _ pushed
 
 pub returns-clause-rows : goal.returns-clause-rows

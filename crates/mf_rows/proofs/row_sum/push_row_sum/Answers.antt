@@ -2,7 +2,7 @@ use Rattle.std.proofs.Common.{◌≡◌, ◌∷◌, [], to_z, of_z, w32, arith}
 use Rattle.std.proofs.lemmas.Int.{ints}
 use Rattle.mf_rows.specs.Bands.{edge_row}
 use Rattle.mf_rows.proofs.RowSums.{sum_of_right}
-use Rattle.mf_rows.proofs.row_sum.push_sum.Goals as goal
+use Rattle.mf_rows.proofs.row_sum.push_row_sum.Goals as goal
 
 pub returns-in_ok-push-in-None-clause-pushed : goal.returns-in_ok-push-in-None-clause-pushed
 returns-in_ok-push-in-None-clause-pushed c =

@@ -6,7 +6,7 @@ use Rattle.mf_rows.proofs.BandNumbersLemmas.{rise-append, rise-finished}
 use Rattle.mf_rows.proofs.BandSumsLemmas.{has_sum-right}
 use Rattle.mf_rows.proofs.FieldBandsLemmas.{rows_of_only, sum_is_of_band}
 use Rattle.mf_rows.proofs.SignsLemmas.{signed_all}
-use Rattle.mf_rows.proofs.band_sum.push_sum.Goals as goal
+use Rattle.mf_rows.proofs.band_sum.push_band_sum.Goals as goal
 
 pub returns-in-None-Some-Plus-clause-pushed : goal.returns-in-None-Some-Plus-clause-pushed
 returns-in-None-Some-Plus-clause-pushed c =
