@@ -34,7 +34,7 @@ module _ (e f : Edge) (fs : List Edge) where
   with_edge-here same = grind (arith, ints)
 
   -- an edge is before the first one, behind it or at its column
-  by_place : (P : List Edge → Type 0) → (e.x <ℤ f.x → P (e ∷ f ∷ fs)) → (f.x <ℤ e.x → P (f ∷ with_edge e fs)) → (e.x ≡ f.x → P (joined e f ++ fs))
+  pub by_place : (P : List Edge → Type 0) → (e.x <ℤ f.x → P (e ∷ f ∷ fs)) → (f.x <ℤ e.x → P (f ∷ with_edge e fs)) → (e.x ≡ f.x → P (joined e f ++ fs))
       → P (with_edge e (f ∷ fs))
   by_place P before behind here =
       by_lt_z e.x f.x (λ lt. subst P (sym (with_edge-before lt)) (before lt))

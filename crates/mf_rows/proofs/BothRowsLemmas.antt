@@ -31,7 +31,7 @@ use Rattle.mf_rows.proofs.RowSums.{by_same}
 -- ---- a row among others
 
 -- it comes before, or after, the first of them, or has its height
-with_row-cases : (P : List EdgeRow → Type 0) (r s : EdgeRow) (ss : List EdgeRow) → (s.y <ℤ r.y → P (r ∷ s ∷ ss))
+pub with_row-cases : (P : List EdgeRow → Type 0) (r s : EdgeRow) (ss : List EdgeRow) → (s.y <ℤ r.y → P (r ∷ s ∷ ss))
     → (r.y <ℤ s.y → P (s ∷ with_row r ss)) → (s.y ≡ r.y → P (unless_blank (row_of_both r s) ++ ss)) → P (with_row r (s ∷ ss))
 unfolding with_row
 with_row-cases P r s ss before after same =

@@ -13,6 +13,7 @@ mod BuildingLemmas
 mod CopiesLemmas
 mod CornersLemmas
 pub mod DotsLemmas
+mod EdgeCountsLemmas
 pub mod EdgeRowsLemmas
 mod EdgeRuns
 mod EqualRuns

@@ -11,6 +11,7 @@ pub mod Building
 pub mod Copies
 pub mod Corners
 pub mod Dots
+pub mod EdgeCounts
 pub mod EdgeRows
 pub mod FieldBands
 pub mod Groups

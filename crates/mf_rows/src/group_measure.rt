@@ -72,7 +72,7 @@ pub(crate) fn reach_of_groups(groups: &[Option<Arc<Group>>]) -> i32
 #[derive(Clone, Copy, Debug)]
 pub(crate) struct Size {
     rows: usize,
-    pub(crate) edges: usize,
+    edges: usize,
 }
 
 impl Size {

@@ -10,6 +10,7 @@ mod both_rows;
 mod bounds;
 mod builder;
 mod corner;
+mod edge_count;
 mod group;
 mod group_change;
 mod group_measure;

@@ -1,5 +1,5 @@
 //! Pictures.
-ghost use Rattle.std.specs.Prelude.{◌≡◌, ◌≢◌, [], IsNone, IsOk, IfSome, IfOk, IfErr, OnOk, OnErr, IsTrue, slice_get, ◌↔◌};
+ghost use Rattle.std.specs.Prelude.{◌≡◌, ◌≢◌, ◌≤◌, [], IsNone, IsOk, IfSome, IfOk, IfErr, OnOk, OnErr, IsTrue, length, slice_get, ◌↔◌};
 ghost use Rattle.mf_rows.specs.EdgeRows.{AreRows};
 
 use crate::bounds::{Box4, Pixels};
@@ -50,6 +50,7 @@ impl Picture {
     ghost use Rattle.mf_rows.specs.Bounds.{AreBounds, IsLeastBox, is_positive_at};
     ghost use Rattle.mf_rows.specs.Corners.{AreCorners, with_corners_at};
     ghost use Rattle.mf_rows.specs.Dots.{IsPicture, weight_at, total_of};
+    ghost use Rattle.mf_rows.specs.EdgeCounts.{edge_count};
     ghost use Rattle.mf_rows.specs.EdgeRows.{picture_of_rows};
     ghost use Rattle.mf_rows.specs.Groups.{rows_of_groups, AreGroups};
     ghost use Rattle.mf_rows.specs.Runs.{runs_of};
@@ -126,9 +127,13 @@ impl Picture {
         self.pile.bounds(Pixels::Black)
     }
 
-    /// How many edges the picture keeps: a run begins at one and ends at one. Where the newest contours are kept apart, there may be more
-    /// edges than columns at which the weight changes. It looks at each row once.
-    pub fn edge_count(&self) -> usize {
+    /// How many edges the picture keeps: at least those of its maximal runs, each of which begins at one and ends at one; where two runs
+    /// touch, they share it. Where the newest contours are kept apart, there may be more. It looks at each row once.
+    pub fn edge_count(&self) -> usize
+        ensures edges { edge_count (runs_of self.now) ≤ result }
+        ensures runs { length (runs_of self.now) ≤ result }
+        ensures lawful { IsPicture self.now }
+    {
         self.pile.edge_count()
     }
 

@@ -7,6 +7,7 @@ ghost use Rattle.mf_rows.specs.BothRest.{remaining_both_rows};
 ghost use Rattle.mf_rows.specs.Bounds.{AreBounds};
 ghost use Rattle.mf_rows.specs.Dots.{total_of};
 ghost use Rattle.mf_rows.specs.Dots.{total_of};
+ghost use Rattle.mf_rows.specs.EdgeCounts.{edge_count};
 ghost use Rattle.mf_rows.specs.Groups.{AreGroups, rows_of_groups};
 ghost use Rattle.mf_rows.specs.Piles.{HaveSameSum, IsReachOfSum, StayInReach};
 ghost use Rattle.mf_rows.specs.PixelsOfRows.{among_rows};
@@ -16,6 +17,7 @@ ghost use Rattle.mf_rows.specs.Sums.{weight_in_all, HaveRowWeights, IsUnlawfulSo
 
 use crate::both_rows::BothRows;
 use crate::bounds::{Box4, Pixels, bounds_of};
+use crate::edge_count::edges_of_groups;
 use crate::group::Group;
 use crate::group_change::{add_rows, take_up};
 use crate::group_measure::{
@@ -136,10 +138,11 @@ impl Pile {
     }
 
     /// The number of edges of both lists.
-    pub(crate) fn edge_count(&self) -> usize {
-        let older = size_of(&self.older);
-        let groups = size_of(&self.groups);
-        older.edges.saturating_add(groups.edges)
+    pub(crate) fn edge_count(&self) -> usize
+        ensures edges { edge_count (runs_of (picture_of_rows self.now)) ≤ result }
+        ensures rows { AreRows self.now }
+    {
+        edges_of_groups(&self.older) + edges_of_groups(&self.groups)
     }
 
     /// The weight of the pixel (x, y), 0 outside the field.

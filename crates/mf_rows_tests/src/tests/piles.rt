@@ -184,6 +184,15 @@ fn contours_are_added_to_long_rows(rt: HostRuntime) {
     assert_drawn(&rt, &ON_LONG);
 }
 
+/// The long rows have 720 edges. The contour apart from them has 90, all of them in columns where the long rows have one, too.
+#[test]
+fn counts_the_edges_of_contours_apart(rt: HostRuntime) {
+    let drawing = Drawing::of(&rt, &[ON_LONG[0], ON_LONG[1]]);
+    let settled = drawing.settled(&rt);
+    assert_same(&rt, drawing.picture.edge_count(), 810, "edges of both");
+    assert_same(&rt, settled.edge_count(), 720, "edges of the sum");
+}
+
 /// Rows that become long. The first contour has 160 edges in each of them, which is too few. After it, the picture looks at its size
 /// again when 192 more edges have come: at the fifth one, with which the rows have 198 edges.
 const BECOME_LONG: [Comb; 6] = [
