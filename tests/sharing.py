@@ -43,17 +43,17 @@ void *malloc(size_t size) { return count(size), __libc_malloc(size); }
 void *realloc(void *old, size_t size) { return count(size), __libc_realloc(old, size); }
 """
 
-# The field has 8190 rows, in 512 bands of 16, and these in 16 groups of 32. The list of groups takes 16 bytes for each. A row takes
+# The field has 8190 rows, in 512 bands of 16, and these in 32 groups of 16. The list of groups takes 16 bytes for each. A row takes
 # at least 16 bytes, and an edge takes 8.
 FIELD, EDGE = 8190, 8
 ROWS = 16 * FIELD
-GROUPS = 16 * 16
-# A group that is made anew has a list of up to 32 bands, 8 bytes each, which grows by doubling and so allocates at most four times its
+GROUPS = 32 * 16
+# A group that is made anew has a list of up to 16 bands, 8 bytes each, which grows by doubling and so allocates at most four times its
 # length. A band that is made anew has up to 17 heads of rows, 32 bytes each, few edges and 72 bytes more. The points of a
 # rectangle and its corners take at most 512 bytes.
-GROUP, BAND, LINE = 4 * 8 * 32, 1024, 512
-# A contour has its rows in a list, and the sum has a list of groups. Where it is added to long rows, their list of groups is made as
-# long as that of the newest contours first.
+GROUP, BAND, LINE = 4 * 8 * 16, 1024, 512
+# A contour has its rows in a list. It makes two groups anew at most, and the list of groups may have to become longer. Where the newest
+# contours are added to long rows, their list of groups is made as long as that of the newest contours.
 CONTOUR = LINE + 2 * (GROUPS + GROUP)
 # A copy needs a list of groups in the command, in the sum and in the picture that it becomes, and a sum of few groups makes these anew.
 LISTS = 4 * GROUPS

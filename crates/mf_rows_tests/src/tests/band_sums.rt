@@ -15,8 +15,8 @@ const WEIGHTS: [(i32, i32); 5] = [(0, 0), (1, 0), (0, 2), (1, 4), (3, -3)];
 /// Three places: the first and the last row of each. Bands next to each other, the last two of the first group and the first of
 /// the second group; and the first two groups and the last one.
 const PLACES: [[(i32, i32); 3]; 2] = [
-    [(3614, 3599), (3598, 3583), (3582, 3567)],
-    [(4094, 3583), (3582, 3071), (-3586, -4095)],
+    [(3870, 3855), (3854, 3839), (3838, 3823)],
+    [(4094, 3839), (3838, 3583), (-3842, -4095)],
 ];
 
 /// Weights at three places.
@@ -144,7 +144,7 @@ fn bands_and_groups_are_added_where_they_are(rt: HostRuntime) {
 
 /// The last rows of pictures whose sum is refused there: the last row of a band, of a group and of the field, and the first row
 /// of a group.
-const LAST_ROWS: [i32; 5] = [4031, 3583, 3582, -1025, -4095];
+const LAST_ROWS: [i32; 5] = [4031, 3839, 3838, -1025, -4095];
 
 /// Adds a row of 40 pixels, in every second column.
 fn push_comb(runs: &mut Vec<Run>, y: i32) -> Result<(), OutOfMemory> {

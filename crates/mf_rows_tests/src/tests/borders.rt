@@ -1,5 +1,5 @@
 //! Rectangles that end at borders between bands, at borders between groups, and next to these. A band has 16 rows and a
-//! group 512, counted from the top of the field.
+//! group 256, counted from the top of the field.
 
 use super::moves::{assert_stays_inside, columns_mirrored, rows_mirrored, stretch, turned};
 use super::rectangle_sums::assert_sum;
@@ -13,7 +13,7 @@ use std::process::Abort;
 
 /// Heights at which a band ends and another begins: two inside groups, three between groups, and the one between the last
 /// bands. The last of these heights is next to the bottom of the field.
-const BORDERS: [i32; 7] = [4079, 15, 3583, -1, -3585, -4081, -4094];
+const BORDERS: [i32; 7] = [4079, 15, 3839, -1, -3841, -4081, -4094];
 
 /// How far above a border rectangles end.
 const ENDS: [i32; 3] = [-1, 0, 1];
@@ -23,12 +23,12 @@ const HEIGHTS: [i32; 3] = [1, 16, 17];
 
 /// Bottoms and tops of rectangles: groups, and one row less and more at either end.
 const TALL: [(i32, i32); 6] = [
-    (3583, 4095),
-    (3582, 4095),
-    (3584, 4095),
-    (3071, 3583),
-    (-2, 512),
-    (-4095, -3585),
+    (3839, 4095),
+    (3838, 4095),
+    (3840, 4095),
+    (3583, 3839),
+    (-2, 256),
+    (-4095, -3841),
 ];
 
 /// A rectangle with its rows reflected.
@@ -198,13 +198,13 @@ const STRETCHES: [(i32, i32); 12] = [
     (1, 15),
     (1, 16),
     (1, 17),
-    (1, 511),
-    (1, -512),
-    (1, 513),
+    (1, 255),
+    (1, -256),
+    (1, 257),
     (2, 0),
     (2, 1),
     (3, 2),
-    (3, -512),
+    (3, -256),
 ];
 
 /// Asserts that a stretched picture of a rectangle is that of the stretched rectangle.
@@ -233,12 +233,12 @@ fn assert_stretched_near<R: Abort + AllocGlobal>(rt: &R, border: i32) {
 
 #[test]
 fn rectangles_are_stretched_over_borders(rt: HostRuntime) {
-    for border in [511, 15, -1] {
+    for border in [255, 15, -1] {
         assert_stretched_near(&rt, border);
     }
     // Half a group becomes a group, or reaches a row into the next one.
     for offset in [-1, 0, 1, 2] {
-        let half = make_rectangle(-1, -1, 0, 255, 1);
+        let half = make_rectangle(-1, -1, 0, 127, 1);
         assert_stretched(&rt, half, &stretch(1, 0), &stretch(2, offset));
     }
 }

@@ -102,10 +102,10 @@ fn pixels_at_the_corners_are_moved(rt: HostRuntime) {
 /// Bottoms and tops of the rows that are taken out of the field: the last row of a group, the last band, a group, all but the
 /// first and the last group, and all but the first and the last row.
 const MISSING: [(i32, i32); 5] = [
-    (3583, 3584),
+    (3839, 3840),
     (-4095, -4081),
-    (-1, 511),
-    (-3585, 3583),
+    (-1, 255),
+    (-3841, 3839),
     (-4094, 4094),
 ];
 
