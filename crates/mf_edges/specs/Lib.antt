@@ -2,7 +2,6 @@ pub mod Axes
 pub mod Edges
 pub mod LawfulWeights
 pub mod Merging
-pub mod Names
 pub mod Reaches
 pub mod RowChanges
 pub mod Sums

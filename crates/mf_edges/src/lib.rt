@@ -4,7 +4,6 @@
 mod edge;
 mod edge_change;
 mod edge_sum;
-mod fault;
 mod field;
 mod row_change;
 mod stretch;
@@ -14,7 +13,6 @@ pub use edge::{
     Edge, add_edge, give_back_room, push_unless_zero, reach_of, total_of_edges, weight_at_column,
 };
 pub use edge_sum::{push_edges, push_sum_of_edges};
-pub use fault::AddFault;
 pub use field::{FIELD_END, FIELD_START, MAX_WEIGHT, is_lawful_weight};
 pub use row_change::{RowChange, changed_edges};
 pub use stretch::Stretch;

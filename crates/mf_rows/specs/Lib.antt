@@ -18,6 +18,7 @@ pub mod Groups
 pub mod KeptEdges
 pub mod Merging
 pub mod Moves
+pub mod Names
 pub mod NewEdges
 pub mod Order
 pub mod Owned

@@ -12,13 +12,13 @@ ghost use Rattle.mf_rows.specs.Sums.{weight_in_all, HaveRowWeights, IsUnlawfulSo
 use crate::addend::{Addend, Part};
 use crate::band::Band;
 use crate::bands::{close_band, push_shared, split_bands, split_first_band};
+use crate::fault::AddFault;
 use crate::negation::negate_rows;
 use crate::row_list::RowList;
 use crate::row_sum::{push_rows, sum_of_rows};
 use crate::sign::Sign;
 use crate::slice::RowSlice;
 use mf_base::OutOfMemory;
-use mf_edges::AddFault;
 use std::alloc::Global;
 use std::sync::Arc;
 

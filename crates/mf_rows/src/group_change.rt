@@ -7,13 +7,14 @@ ghost use Rattle.mf_rows.specs.Piles.{HaveSameSum};
 ghost use Rattle.mf_rows.specs.Sums.{weight_in_all, HaveRowWeights, IsUnlawfulSomewhere};
 
 use crate::addend::Addend;
+use crate::fault::AddFault;
 use crate::group::{GROUP_COUNT, GROUP_HEIGHT, Group};
 use crate::group_sum::{sum_of_two, sum_with};
 use crate::groups::{group_at, split_rows_at_place};
 use crate::sign::Sign;
 use crate::slice::RowSlice;
 use mf_base::OutOfMemory;
-use mf_edges::{AddFault, FIELD_END};
+use mf_edges::FIELD_END;
 use std::alloc::Global;
 use std::sync::Arc;
 

@@ -11,10 +11,10 @@ ghost use Rattle.mf_rows.specs.Sums.{weight_in_all, HaveRowWeights, IsUnlawfulSo
 use crate::addend::Addend;
 use crate::band::Band;
 use crate::band_sum::sum_of_bands;
+use crate::fault::AddFault;
 use crate::group::Group;
 use crate::groups::{group_at, group_of, share_group};
 use crate::sign::Sign;
-use mf_edges::AddFault;
 use std::alloc::Global;
 use std::sync::Arc;
 

@@ -4,6 +4,7 @@ ghost use Rattle.mf_rows.specs.EdgeRows.{AreRows};
 
 use crate::bounds::{Box4, Pixels};
 use crate::corner::{Corner, rows_of_corners};
+use crate::fault::AddFault;
 use crate::group::Group;
 use crate::groups::{groups_of, list_rows};
 use crate::pile::Pile;
@@ -14,7 +15,7 @@ use crate::sign::Sign;
 use crate::slice::RowSlice;
 use crate::writer::RowWriter;
 use mf_base::OutOfMemory;
-use mf_edges::{AddFault, RowChange, WeightMap};
+use mf_edges::{RowChange, WeightMap};
 use std::alloc::Global;
 use std::marker::Model;
 use std::sync::Arc;

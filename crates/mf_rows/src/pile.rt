@@ -18,6 +18,7 @@ ghost use Rattle.mf_rows.specs.Sums.{weight_in_all, HaveRowWeights, IsUnlawfulSo
 use crate::both_rows::BothRows;
 use crate::bounds::{Box4, Pixels, bounds_of};
 use crate::edge_count::edges_of_groups;
+use crate::fault::AddFault;
 use crate::group::Group;
 use crate::group_change::{add_rows, take_up};
 use crate::group_measure::{
@@ -29,7 +30,7 @@ use crate::runs::Runs;
 use crate::sign::Sign;
 use crate::slice::RowSlice;
 use mf_base::OutOfMemory;
-use mf_edges::{AddFault, MAX_WEIGHT};
+use mf_edges::MAX_WEIGHT;
 use std::alloc::Global;
 use std::marker::Model;
 use std::mem::replace;

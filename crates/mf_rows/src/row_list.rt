@@ -8,9 +8,10 @@ ghost use Rattle.mf_geom.specs.Coordinates.{least_coordinate, greatest_coordinat
 ghost use Rattle.mf_rows.specs.RowMoves.{strip};
 ghost use Rattle.mf_rows.specs.RowLists.{AreHeads, IsPlaceOf, last_edges, rows_at};
 
+use crate::fault::AddFault;
 use crate::row::Row;
 use mf_base::OutOfMemory;
-use mf_edges::{AddFault, Edge, MAX_WEIGHT, give_back_room, push_sum_of_edges, reach_of};
+use mf_edges::{Edge, MAX_WEIGHT, give_back_room, push_sum_of_edges, reach_of};
 use std::alloc::Global;
 use std::marker::Model;
 use std::sync::Arc;

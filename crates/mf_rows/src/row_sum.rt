@@ -6,11 +6,11 @@ ghost use Rattle.mf_rows.specs.Merging.{IsRowAt, row_found, HasRowSum, IsUnlawfu
 ghost use Rattle.mf_rows.specs.Sums.{weight_in_all, HaveRowWeights, StayWithin, IsUnlawfulSomewhere};
 
 use crate::bands::BAND_HEIGHT;
+use crate::fault::AddFault;
 use crate::row::Row;
 use crate::row_list::RowList;
 use crate::slice::RowSlice;
 use mf_base::OutOfMemory;
-use mf_edges::AddFault;
 use std::alloc::Global;
 
 /// The rows of the sum of two lists. Refused with `WeightTooLarge` where a weight would exceed 32767 in absolute value, and

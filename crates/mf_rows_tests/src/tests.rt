@@ -23,8 +23,7 @@ mod sums;
 
 use assertions::{assert_holds, assert_same};
 use mf_base::OutOfMemory;
-use mf_edges::AddFault;
-use mf_rows::{Box4, Picture, RowBuilder, Run};
+use mf_rows::{AddFault, Box4, Picture, RowBuilder, Run};
 use std::alloc::Global;
 use std::fmt::Debug;
 use std::process::Abort;

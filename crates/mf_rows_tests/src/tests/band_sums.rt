@@ -4,8 +4,8 @@ use super::slow::{SlowPicture, both_forms};
 use super::{assert_runs_in, copy_of, made, make_run, picture_of, sum_of};
 use crate::tests::assertions::assert_same;
 use mf_base::OutOfMemory;
-use mf_edges::{AddFault, Choice, WeightMap};
-use mf_rows::{Picture, Run};
+use mf_edges::{Choice, WeightMap};
+use mf_rows::{AddFault, Picture, Run};
 use std::alloc::Global;
 use std::process::Abort;
 

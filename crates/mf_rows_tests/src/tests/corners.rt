@@ -10,8 +10,7 @@ use super::{
     block, copy_of, make_run, picture_of,
 };
 use crate::tests::assertions::assert_same;
-use mf_edges::AddFault;
-use mf_rows::{Box4, Picture};
+use mf_rows::{AddFault, Box4, Picture};
 use std::process::Abort;
 
 #[test]

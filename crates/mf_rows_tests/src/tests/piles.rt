@@ -12,8 +12,8 @@ use super::slow::{SlowPicture, both_forms};
 use super::{assert_equality, copy_of, made, make_run, picture_of};
 use crate::tests::assertions::assert_same;
 use mf_base::OutOfMemory;
-use mf_edges::{AddFault, Stretch};
-use mf_rows::{Corner, Picture};
+use mf_edges::Stretch;
+use mf_rows::{AddFault, Corner, Picture};
 use std::alloc::Global;
 use std::process::Abort;
 

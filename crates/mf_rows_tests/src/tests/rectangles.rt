@@ -4,8 +4,7 @@ ghost use Rattle.mf_geom.specs.Coordinates.{least_coordinate, greatest_coordinat
 ghost use Rattle.mf_rows.specs.Corners.{AreCorners};
 
 use mf_base::OutOfMemory;
-use mf_edges::AddFault;
-use mf_rows::{Corner, Picture};
+use mf_rows::{AddFault, Corner, Picture};
 use std::alloc::Global;
 use std::process::Abort;
 

@@ -8,8 +8,8 @@ use super::slow::SlowPicture;
 use super::{assert_equality, assert_total, made, sum_of};
 use crate::tests::assertions::{assert_holds, assert_same};
 use mf_base::OutOfMemory;
-use mf_edges::{AddFault, Choice, WeightMap};
-use mf_rows::Picture;
+use mf_edges::{Choice, WeightMap};
+use mf_rows::{AddFault, Picture};
 use std::alloc::Global;
 use std::process::Abort;
 

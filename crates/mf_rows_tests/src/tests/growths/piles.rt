@@ -4,7 +4,7 @@ use crate::tests::assertions::{assert_holds, assert_same};
 use crate::tests::derived::Derived;
 use crate::tests::piles::{APART, Comb, Drawing, LAST, MANY_APART, OTHERS};
 use crate::tests::{assert_equality, made};
-use mf_edges::AddFault;
+use mf_rows::AddFault;
 use mf_testing::{grow_again, refuse_growths};
 use std::process::Abort;
 

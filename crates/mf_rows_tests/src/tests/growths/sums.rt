@@ -4,8 +4,7 @@ use super::APART;
 use crate::tests::assertions::{assert_holds, assert_same};
 use crate::tests::rectangles::{Rectangle, corners_of};
 use crate::tests::{assert_runs, picture_of};
-use mf_edges::AddFault;
-use mf_rows::Run;
+use mf_rows::{AddFault, Run};
 use mf_testing::{grow_again, refuse_growths};
 use std::process::Abort;
 

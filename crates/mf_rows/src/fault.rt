@@ -16,7 +16,7 @@ pub enum AddFault {
 
 impl fmt::Display for AddFault {
     ghost use Rattle.std.specs.Prelude.{Some};
-    ghost use Rattle.mf_edges.specs.Names.{add_fault_text};
+    ghost use Rattle.mf_rows.specs.Names.{add_fault_text};
 
     ghost output = { λ fault. Some (add_fault_text fault) };
 
@@ -32,7 +32,7 @@ impl Error for AddFault {}
 
 impl From<OutOfMemory> for AddFault {
     ghost use Rattle.std.specs.Prelude.{◌≡◌};
-    ghost use Rattle.mf_edges.specs.declared.fault.AddFault.TheVariants.{OutOfMemory};
+    ghost use Rattle.mf_rows.specs.declared.fault.AddFault.TheVariants.{OutOfMemory};
 
     ghost from_gives = { λ _ fault. fault ≡ OutOfMemory };
 
@@ -43,7 +43,7 @@ impl From<OutOfMemory> for AddFault {
 
 impl From<AllocError> for AddFault {
     ghost use Rattle.std.specs.Prelude.{◌≡◌};
-    ghost use Rattle.mf_edges.specs.declared.fault.AddFault.TheVariants.{OutOfMemory};
+    ghost use Rattle.mf_rows.specs.declared.fault.AddFault.TheVariants.{OutOfMemory};
 
     ghost from_gives = { λ _ fault. fault ≡ OutOfMemory };
 
@@ -54,7 +54,7 @@ impl From<AllocError> for AddFault {
 
 impl<T: Drop> From<AllocFailed<T>> for AddFault {
     ghost use Rattle.std.specs.Prelude.{◌≡◌};
-    ghost use Rattle.mf_edges.specs.declared.fault.AddFault.TheVariants.{OutOfMemory};
+    ghost use Rattle.mf_rows.specs.declared.fault.AddFault.TheVariants.{OutOfMemory};
 
     ghost from_gives = { λ _ fault. fault ≡ OutOfMemory };
 

@@ -1,7 +1,7 @@
 -- The names of refusals, as texts show them.
 use Rattle.std.specs.Prelude.{ℕ, List, codes}
-use Rattle.mf_edges.specs.declared.fault.AddFault.{AddFault}
-use Rattle.mf_edges.specs.declared.fault.AddFault.TheVariants.{WeightTooLarge, OutOfMemory}
+use Rattle.mf_rows.specs.declared.fault.AddFault.{AddFault}
+use Rattle.mf_rows.specs.declared.fault.AddFault.TheVariants.{WeightTooLarge, OutOfMemory}
 use Rattle.mf_base.specs.Names.{memory_text}
 
 -- the name of the refusal of a sum
