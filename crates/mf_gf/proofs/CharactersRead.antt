@@ -10,6 +10,7 @@ use Rattle.mf_rows.specs.Dots.{Dot, start_of_field}
 use Rattle.mf_rows.specs.Runs.{runs_of}
 use Rattle.mf_gf.specs.Boxes.{box_of_pixels}
 use Rattle.mf_gf.specs.Files.{Character, FileSoFar, Shipment, bytes_so_far, last_shipment, last_place, shipments, spell_after, with_character, with_characters}
+use Rattle.mf_gf.specs.Format as gf
 use Rattle.mf_gf.specs.Numbers.{IsWord, code_count, greatest_word}
 use Rattle.mf_gf.specs.Painting.{head_of, pixels_of_character}
 use Rattle.mf_gf.specs.Pixels.{IsPixelSet}
@@ -29,9 +30,9 @@ unfolding spell
 head-spell code p ds rest fits p_fits set =
     let b = box_of_pixels ds in
     let all = rows b.min_m b.max_n b.min_m (runs_of ds) in
-    ap (λ bytes. head_of (bytes ++ rest)) (append_assoc (begin code p b) all (69 ∷ []))
-    ∙ ap head_of (append_assoc (begin code p b) (all ++ 69 ∷ []) rest)
-    ∙ head-begin code p b (all ++ 69 ∷ [] ++ rest) fits p_fits (box_from start_of_field ds set.picture.dots)
+    ap (λ bytes. head_of (bytes ++ rest)) (append_assoc (begin code p b) all (gf.eoc ∷ []))
+    ∙ ap head_of (append_assoc (begin code p b) (all ++ gf.eoc ∷ []) rest)
+    ∙ head-begin code p b (all ++ gf.eoc ∷ [] ++ rest) fits p_fits (box_from start_of_field ds set.picture.dots)
 
 -- a character is in the bytes at its place, and has this p
 pub record StandsAt (bytes : List ℕ) (s : Shipment) (p : ℤ) : Type 0 where

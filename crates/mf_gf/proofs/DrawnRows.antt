@@ -9,8 +9,9 @@ use Rattle.mf_geom.specs.Coordinates.{least_coordinate, greatest_coordinate, las
 use Rattle.mf_rows.specs.declared.run.Run.{Run}
 use Rattle.mf_rows.specs.Dots.{Dot}
 use Rattle.mf_rows.specs.Runs.{dots_of}
+use Rattle.mf_gf.specs.Format as gf
 use Rattle.mf_gf.specs.Painting.{Stroke, Paint, Skip, NewRow, Pen, pixels_of_strokes, pen_at, pixels_from}
-use Rattle.mf_gf.specs.Spelling.{paint, skip, most_new_row, new_row, distance, approach, rows}
+use Rattle.mf_gf.specs.Spelling.{paint, skip, new_row, distance, approach, rows}
 use Rattle.mf_gf.proofs.ReadBack.{Spells, spells_none, spells_one, spells_both, strokes-spelled, writes_paint, writes_skip, writes_new_row}
 
 -- a stretch of black pixels to which a pen can go from a position in the same row or above it
@@ -62,7 +63,7 @@ in_row left row column r next same =
     }
 
 in_next_row : (left row column : ℤ) (r : Run) → IsNext left row column r → distance row r.y ≡ 1
-    → distance r.x left ≤ most_new_row → Approaches left row column r (new_row (distance r.x left))
+    → distance r.x left ≤ gf.most_new_row → Approaches left row column r (new_row (distance r.x left))
 unfolding pixels_of_strokes
 in_next_row left row column r next one few =
     let n = distance r.x left in
@@ -88,15 +89,15 @@ in_lower_row left row column r next other =
 
 approaches : (left row column : ℤ) (r : Run) → IsNext left row column r → Approaches left row column r (approach left row column r)
 approaches left row column r next =
-    let near = distance row r.y == 1 && nat_le (distance r.x left) most_new_row in
+    let near = distance row r.y == 1 && nat_le (distance r.x left) gf.most_new_row in
     let Fits = Approaches left row column r in
     let lower = skip (distance row r.y - 1) ++ paint (distance r.x left) in
     cond_both (int_eq r.y row) (paint (distance r.x column)) (if near then new_row (distance r.x left) else lower) Fits
     (λ yes. in_row left row column r next ((Decides-int_eq r.y row).0 yes))
     (λ no.
     cond_both near (new_row (distance r.x left)) lower Fits
-    (λ yes. let tests = and_parts (distance row r.y == 1) (nat_le (distance r.x left) most_new_row) yes in in_next_row left row column r next
-    (eqb-true (distance row r.y) 1 tests.0) (leb-true (distance r.x left) most_new_row tests.1))
+    (λ yes. let tests = and_parts (distance row r.y == 1) (nat_le (distance r.x left) gf.most_new_row) yes in in_next_row left row column r next
+    (eqb-true (distance row r.y) 1 tests.0) (leb-true (distance r.x left) gf.most_new_row tests.1))
     (λ far. in_lower_row left row column r next (λ same. false≢true (sym no ∙ (Decides-int_eq r.y row).1 same))))
 
 -- bytes that make these pixels black, starting at a position
@@ -121,7 +122,7 @@ draws_rows left row column (r ∷ rs) next =
 
 -- the same, starting at the top left corner of a box
 pub pixels_from-rows : (left top : ℤ) (rs : List Run) → AreNext left top left rs
-    → pixels_from left top (rows left top left rs ++ 69 ∷ []) ≡ Some (flat_map dots_of rs)
+    → pixels_from left top (rows left top left rs ++ gf.eoc ∷ []) ≡ Some (flat_map dots_of rs)
 pixels_from-rows left top rs next =
     let all = draws_rows left top left rs next in
     ap (option_map (pixels_of_strokes (pen_at left top))) (strokes-spelled (rows left top left rs) all.commands all.spelled)

@@ -5,6 +5,7 @@ use Rattle.std.proofs.lemmas.Bool.{cases_lt}
 use Rattle.std.proofs.lemmas.List.{take-replicate}
 use Rattle.mf_gf.specs.declared.spelling.Spelling.{Spelling}
 use Rattle.mf_gf.specs.Files.{ending, padding}
+use Rattle.mf_gf.specs.Format as gf
 use Rattle.mf_gf.specs.Numbers.{word}
 use Rattle.mf_gf.specs.Spellings.{Holds}
 use Rattle.mf_gf.proofs.Writing.{Writes, write_both, write_same}
@@ -18,14 +19,16 @@ holds_beyond s text other long other_long held = record {
 }
 
 module _ (before opened placed named after : Spelling) (place written : ℕ) where
-  whole_ending : Writes before opened (249 ∷ []) → Writes opened placed (word (pos place)) → Writes placed named (131 ∷ [])
-      → Writes named after (take (padding (place + written + 6)) (replicate 7 223)) → Writes before after (ending place (place + written))
+  whole_ending : Writes before opened (gf.post_post ∷ []) → Writes opened placed (word (pos place)) → Writes placed named (gf.id_byte ∷ [])
+      → Writes named after (take (padding (place + written + gf.ending_size)) (replicate gf.most_padding gf.padding_byte))
+      → Writes before after (ending place (place + written))
   whole_ending opens places names pads =
-      let padded = write_same _ _ _ _ (take-replicate (padding (place + written + 6)) 7 223 (omega arith)) pads in
+      let padded = write_same _ _ _ _ (take-replicate (padding (place + written + gf.ending_size)) gf.most_padding gf.padding_byte (omega arith)) pads in
       write_both _ _ _ _ _ (write_both _ _ _ _ _ (write_both _ _ _ _ _ opens places) names) padded
 
-  pub ending_held : Writes before opened (249 ∷ []) → Writes opened placed (word (pos place)) → Writes placed named (131 ∷ [])
-      → Writes named after (take (padding (place + written + 6)) (replicate 7 223)) → after.room ≡ before.room → written ≡ before.length
+  pub ending_held : Writes before opened (gf.post_post ∷ []) → Writes opened placed (word (pos place)) → Writes placed named (gf.id_byte ∷ [])
+      → Writes named after (take (padding (place + written + gf.ending_size)) (replicate gf.most_padding gf.padding_byte))
+      → after.room ≡ before.room → written ≡ before.length
       → (text : List ℕ) → Holds before text → Holds after (text ++ ending place (place + length text))
   ending_held opens places names pads room counts text held =
       let all = whole_ending opens places names pads text held in

@@ -6,6 +6,7 @@ use Rattle.mf_rows.specs.Dots.{Dot, start_of_field}
 use Rattle.mf_rows.specs.Runs.{runs_of}
 use Rattle.mf_rows.proofs.RunsLemmas.{dots_of-runs_of}
 use Rattle.mf_gf.specs.Boxes.{box_of_pixels}
+use Rattle.mf_gf.specs.Format as gf
 use Rattle.mf_gf.specs.Painting.{pixels_of_character}
 use Rattle.mf_gf.specs.Pixels.{IsPixelSet}
 use Rattle.mf_gf.specs.Spelling.{begin, rows, spell}
@@ -24,7 +25,7 @@ paint-spell code p ds set =
     let columns = All-weaker (StandsIn b) (λ d. b.min_m ≤ℤ d.x) (λ d stands. stands.column) ds round.dots in
     let next =
     next_runs b.min_m b.max_n b.min_m ds small.left (≤ℤ_refl b.min_m) small.top (dots_from_box start_of_field b ds set.picture.dots round) set.ones columns in
-    ap pixels_of_character (append_assoc (begin code p b) all (69 ∷ []))
-    ∙ paint-begin code p b (all ++ 69 ∷ []) (box_from start_of_field ds set.picture.dots)
+    ap pixels_of_character (append_assoc (begin code p b) all (gf.eoc ∷ []))
+    ∙ paint-begin code p b (all ++ gf.eoc ∷ []) (box_from start_of_field ds set.picture.dots)
     ∙ pixels_from-rows b.min_m b.max_n (runs_of ds) next
     ∙ ap (λ dots. Some dots) (dots_of-runs_of ds)

@@ -9,31 +9,33 @@ use Rattle.byteorder.specs.Numbers.{big_number-reads_back}
 use Rattle.mf_gf.specs.declared.file.FontWords.{FontWords}
 use Rattle.mf_gf.specs.declared.locator.Locator.{Locator}
 use Rattle.mf_gf.specs.Files.{Character, Shipment, body, box_of_all, bytes_so_far, ending, file_of, last_shipment, locator_of, locators_from, padding, post, shipments}
+use Rattle.mf_gf.specs.Format as gf
 use Rattle.mf_gf.specs.Numbers.{code_count, greatest_word, word}
 use Rattle.mf_gf.specs.Pointers.{locators_after, locators_of, locators_within, post_place, post_place_back}
 use Rattle.mf_gf.proofs.LocatorsRead.{IsReadable, lasts_from, within-reads}
 
--- the reader passes over the bytes 223
-padding_passed : (count : ℕ) (rest : List ℕ) → post_place_back (reverse (replicate count 223) ++ rest) ≡ post_place_back rest
+-- the reader passes over the padding
+padding_passed : (count : ℕ) (rest : List ℕ) → post_place_back (reverse (replicate count gf.padding_byte) ++ rest) ≡ post_place_back rest
 unfolding post_place_back
 padding_passed zero rest = refl
 padding_passed (suc count) rest =
-    ap (λ back. post_place_back (back ++ rest)) (reverse-cons 223 (replicate count 223))
-    ∙ ap post_place_back (append_assoc (reverse (replicate count 223)) (223 ∷ []) rest)
-    ∙ padding_passed count (223 ∷ rest)
+    ap (λ back. post_place_back (back ++ rest)) (reverse-cons gf.padding_byte (replicate count gf.padding_byte))
+    ∙ ap post_place_back (append_assoc (reverse (replicate count gf.padding_byte)) (gf.padding_byte ∷ []) rest)
+    ∙ padding_passed count (gf.padding_byte ∷ rest)
 
-four_back : (a b c d : ℕ) (rest : List ℕ) → post_place_back (reverse (249 ∷ a ∷ b ∷ c ∷ d ∷ 131 ∷ []) ++ rest) ≡ Some (big_number 4 (a ∷ b ∷ c ∷ d ∷ []))
+four_back : (a b c d : ℕ) (rest : List ℕ)
+    → post_place_back (reverse (gf.post_post ∷ a ∷ b ∷ c ∷ d ∷ gf.id_byte ∷ []) ++ rest) ≡ Some (big_number 4 (a ∷ b ∷ c ∷ d ∷ []))
 unfolding post_place_back
 four_back a b c d rest = refl
 
 -- before the padding come the place of post and the identification byte
 place_found : (before : List ℕ) (place count : ℕ) → place ≤ greatest_word
-    → post_place (before ++ ((249 ∷ []) ++ word (pos place) ++ (131 ∷ []) ++ replicate count 223)) ≡ Some place
+    → post_place (before ++ ((gf.post_post ∷ []) ++ word (pos place) ++ (gf.id_byte ∷ []) ++ replicate count gf.padding_byte)) ≡ Some place
 place_found before place count short =
-    let named = (249 ∷ []) ++ word (pos place) ++ (131 ∷ []) in
-    ap post_place_back (reverse-append before (named ++ replicate count 223))
-    ∙ ap (λ back. post_place_back (back ++ reverse before)) (reverse-append named (replicate count 223))
-    ∙ ap post_place_back (append_assoc (reverse (replicate count 223)) (reverse named) (reverse before))
+    let named = (gf.post_post ∷ []) ++ word (pos place) ++ (gf.id_byte ∷ []) in
+    ap post_place_back (reverse-append before (named ++ replicate count gf.padding_byte))
+    ∙ ap (λ back. post_place_back (back ++ reverse before)) (reverse-append named (replicate count gf.padding_byte))
+    ∙ ap post_place_back (append_assoc (reverse (replicate count gf.padding_byte)) (reverse named) (reverse before))
     ∙ padding_passed count (reverse named ++ reverse before)
     ∙ four_back _ _ _ _ (reverse before)
     ∙ ap (λ n. Some n) (big_number-reads_back 4 place [] (omega (arith, short)))
@@ -59,13 +61,13 @@ locators_found words comment cs short fits =
     let file = file_of words comment cs in
     let whole : file ≡ characters ++ (behind ++ (locators ++ last)) =
     append_assoc (characters ++ behind) locators last ∙ append_assoc characters behind (locators ++ last) in
-    let seam : length (characters ++ behind) ≡ place + 37 = length-append characters behind in
-    let after : drop (place + 37) file ≡ locators ++ last =
-    ap (drop (place + 37)) (append_assoc (characters ++ behind) locators last)
+    let seam : length (characters ++ behind) ≡ place + gf.post_size = length-append characters behind in
+    let after : drop (place + gf.post_size) file ≡ locators ++ last =
+    ap (drop (place + gf.post_size)) (append_assoc (characters ++ behind) locators last)
     ∙ ap (λ n. drop n ((characters ++ behind) ++ (locators ++ last))) (sym seam) ∙ drop-append_seam (characters ++ behind) (locators ++ last) in
     let there : post_place file ≡ Some place = place_found (body words comment cs) place (padding (length (body words comment cs) + 6)) short in
-    let opcode : slice_index file place ≡ 248 = ap (λ bytes. slice_index bytes place) whole ∙ get_or-append_seam characters 248 _ 0 in
+    let opcode : slice_index file place ≡ gf.post = ap (λ bytes. slice_index bytes place) whole ∙ get_or-append_seam characters gf.post _ 0 in
     ap (after_post file) there
-    ∙ cond-true (slice_index file place == 248) (locators_within (code_count + 1) (drop (place + 37) file)) None (eq-eqb _ _ opcode)
+    ∙ cond-true (slice_index file place == gf.post) (locators_within (code_count + 1) (drop (place + gf.post_size) file)) None (eq-eqb _ _ opcode)
     ∙ ap (locators_within (code_count + 1)) after
     ∙ within-reads (shipments comment cs) fits place (length (body words comment cs)) 0 code_count (code_count + 1) (omega arith)

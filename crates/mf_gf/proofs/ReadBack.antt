@@ -4,8 +4,10 @@ use Rattle.std.proofs.lemmas.Bool.{cond-true, cond_both, lt-leb, eqb-true}
 use Rattle.std.proofs.lemmas.Iterator.Adapters.{option_map_id}
 use Rattle.byteorder.specs.Endian.{big_bytes, big_number}
 use Rattle.byteorder.specs.Numbers.{big_number-reads_back}
+use Rattle.mf_gf.specs.Format as gf
+use Rattle.mf_gf.specs.Numbers.{greatest_byte, greatest_half}
 use Rattle.mf_gf.specs.Painting.{Stroke, Paint, Skip, NewRow, Read, with_bytes, read_stroke, strokes_at_end, strokes_within, strokes}
-use Rattle.mf_gf.specs.Spelling.{with_parameter, paint, skip, most_new_row, new_row}
+use Rattle.mf_gf.specs.Spelling.{with_parameter, paint, skip, new_row}
 
 -- what is read where these bytes start with a command
 abbrev read_as : Stroke → List ℕ → Option Read
@@ -17,12 +19,12 @@ pub record IsCommand (bytes : List ℕ) (stroke : Stroke) : Type 0 where
   pub read : (rest : List ℕ) → read_stroke (bytes ++ rest) ≡ read_as stroke rest
 
 -- a parameter of one or two bytes after the opcodes of a command is read back
-writes_parameter : (command : ℕ → Stroke) (opcode n : ℕ) → n < 65536
+writes_parameter : (command : ℕ → Stroke) (opcode n : ℕ) → n ≤ greatest_half
     → ((bytes : List ℕ) → read_stroke (opcode ∷ bytes) ≡ Some (with_bytes command 1 bytes))
     → ((bytes : List ℕ) → read_stroke ((opcode + 1) ∷ bytes) ≡ Some (with_bytes command 2 bytes))
     → IsCommand (with_parameter opcode n) (command n)
 writes_parameter command opcode n fits one two =
-    cond_both (nat_le n 255) (opcode ∷ n ∷ []) (((opcode + 1) ∷ []) ++ big_bytes 2 n) (λ bytes. IsCommand bytes (command n))
+    cond_both (nat_le n greatest_byte) (opcode ∷ n ∷ []) (((opcode + 1) ∷ []) ++ big_bytes 2 n) (λ bytes. IsCommand bytes (command n))
     (λ yes. record {
       some = omega arith;
       read = λ rest.
@@ -31,33 +33,34 @@ writes_parameter command opcode n fits one two =
     })
     (λ no. record {
       some = omega arith;
-      read = λ rest. two (big_bytes 2 n ++ rest) ∙ ap (λ m. read_as (command m) rest) (big_number-reads_back 2 n rest fits);
+      read = λ rest. two (big_bytes 2 n ++ rest) ∙ ap (λ m. read_as (command m) rest) (big_number-reads_back 2 n rest (omega arith));
     })
 
-pub writes_paint : (n : ℕ) → n < 65536 → IsCommand (paint n) (Paint n)
+pub writes_paint : (n : ℕ) → n ≤ greatest_half → IsCommand (paint n) (Paint n)
 unfolding paint read_stroke
 writes_paint n fits =
-    cond_both (nat_le n 63) (n ∷ []) (with_parameter 64 n) (λ bytes. IsCommand bytes (Paint n))
-    (λ yes. record { some = omega arith; read = λ rest. cond-true (nat_le n 63) _ _ yes })
-    (λ no. writes_parameter Paint 64 n fits (λ bytes. refl) (λ bytes. refl))
+    cond_both (nat_le n gf.most_painted) (n ∷ []) (with_parameter gf.paint1 n) (λ bytes. IsCommand bytes (Paint n))
+    (λ yes. record { some = omega arith; read = λ rest. cond-true (nat_le n gf.most_painted) _ _ yes })
+    (λ no. writes_parameter Paint gf.paint1 n fits (λ bytes. refl) (λ bytes. refl))
 
-pub writes_skip : (n : ℕ) → n < 65536 → IsCommand (skip n) (Skip n)
+pub writes_skip : (n : ℕ) → n ≤ greatest_half → IsCommand (skip n) (Skip n)
 unfolding skip read_stroke
 writes_skip n fits =
-    cond_both (n == 0) (70 ∷ []) (with_parameter 71 n) (λ bytes. IsCommand bytes (Skip n))
+    cond_both (n == 0) (gf.skip0 ∷ []) (with_parameter gf.skip1 n) (λ bytes. IsCommand bytes (Skip n))
     (λ yes. record { some = omega arith; read = λ rest. ap (λ m. read_as (Skip m) rest) (sym (eqb-true n 0 yes)) })
-    (λ no. writes_parameter Skip 71 n fits (λ bytes. refl) (λ bytes. refl))
+    (λ no. writes_parameter Skip gf.skip1 n fits (λ bytes. refl) (λ bytes. refl))
 
-pub writes_new_row : (n : ℕ) → n ≤ most_new_row → IsCommand (new_row n) (NewRow n)
+pub writes_new_row : (n : ℕ) → n ≤ gf.most_new_row → IsCommand (new_row n) (NewRow n)
 unfolding read_stroke
 writes_new_row n fits =
-    let b = 74 + n in
-    let offset : b - 74 ≡ n = omega arith in
+    let b = gf.new_row_0 + n in
+    let offset : b - gf.new_row_0 ≡ n = omega arith in
     record {
       some = omega arith;
       read = λ rest.
-          rw (lt-leb b 63 (omega arith), lt-leb b 66 (omega arith), ne_eqb b 69 (λ same. omega arith), ne_eqb b 70 (λ same. omega arith))
-          (rw (le-leb 71 b (omega arith), lt-leb b 73 (omega arith), le-leb 74 b (omega arith), le-leb b 238 (omega arith), offset) refl);
+          rw (lt-leb b gf.most_painted (omega arith), lt-leb b gf.paint3 (omega arith), ne_eqb b gf.eoc (λ same. omega arith))
+          (rw (ne_eqb b gf.skip0 (λ same. omega arith), le-leb gf.skip1 b (omega arith), lt-leb b gf.skip3 (omega arith))
+          (rw (le-leb gf.new_row_0 b (omega arith), le-leb b (gf.new_row_0 + gf.most_new_row) (omega arith), offset) refl));
     }
 
 -- these bytes are read as these commands, whatever comes after them
@@ -111,9 +114,9 @@ spells_both before after ss ts first second = record {
 }
 
 -- the same with the end of the character after them
-pub strokes-spelled : (bytes : List ℕ) (commands : List Stroke) → Spells bytes commands → strokes (bytes ++ 69 ∷ []) ≡ Some commands
+pub strokes-spelled : (bytes : List ℕ) (commands : List Stroke) → Spells bytes commands → strokes (bytes ++ gf.eoc ∷ []) ≡ Some commands
 unfolding strokes_within read_stroke
 strokes-spelled bytes commands spells =
     let left = length bytes - length commands in
-    spells.read (length (bytes ++ 69 ∷ [])) (suc left) (69 ∷ []) (omega (arith, spells.few, length-append bytes (69 ∷ [])))
+    spells.read (length (bytes ++ gf.eoc ∷ [])) (suc left) (gf.eoc ∷ []) (omega (arith, spells.few, length-append bytes (gf.eoc ∷ [])))
     ∙ ap (λ all. Some all) (append-nil commands)

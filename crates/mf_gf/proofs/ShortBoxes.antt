@@ -5,12 +5,13 @@ use lib.Signed.{non_neg}
 use Rattle.std.proofs.lemmas.Bool.{and_parts}
 use Rattle.std.proofs.lemmas.Int.{ints}
 use Rattle.mf_gf.specs.declared.boxes.CharacterBox.{CharacterBox}
+use Rattle.mf_gf.specs.Numbers.{greatest_byte}
 use Rattle.mf_gf.specs.Spelling.{is_byte, is_short}
 
 -- what the tests `is_byte` and `is_short` find, as the bounds that a proof by `omega` takes
 pub record IsByte (z : ℤ) : Type 0 where
   pub least : pos 0 ≤ℤ z
-  pub greatest : z ≤ℤ pos 255
+  pub greatest : z ≤ℤ pos greatest_byte
 
 pub record IsShortBox (b : CharacterBox) : Type 0 where
   pub width : IsByte (b.max_m -ℤ b.min_m)
@@ -23,8 +24,8 @@ le_from_test a b test = grind (arith, ints)
 
 byte_from_test : (z : ℤ) → is_byte z ≡ true → IsByte z
 byte_from_test z test =
-    let parts = and_parts (int_le (pos 0) z) (int_le z (pos 255)) test in
-    record { least = le_from_test (pos 0) z parts.0; greatest = le_from_test z (pos 255) parts.1 }
+    let parts = and_parts (int_le (pos 0) z) (int_le z (pos greatest_byte)) test in
+    record { least = le_from_test (pos 0) z parts.0; greatest = le_from_test z (pos greatest_byte) parts.1 }
 
 pub short_box : (b : CharacterBox) → is_short b ≡ true → IsShortBox b
 short_box b test =

@@ -14,6 +14,7 @@ use Rattle.mf_rows.proofs.PassedRuns.{lawful_runs_of}
 use Rattle.mf_gf.specs.declared.boxes.CharacterBox.{CharacterBox}
 use Rattle.mf_gf.specs.declared.spelling.Spelling.{Spelling}
 use Rattle.mf_gf.specs.Boxes.{box_of_pixels}
+use Rattle.mf_gf.specs.Format as gf
 use Rattle.mf_gf.specs.Spelling.{approach, begin, paint, rows, spell}
 use Rattle.mf_gf.specs.Spellings.{Holds}
 use Rattle.mf_gf.proofs.Writing.{Writes, write_both, write_same}
@@ -99,6 +100,6 @@ module _ (before out : Spelling) (text : List ℕ) (c : Coming) where
       so_far.writes
 
 pub spell-is : (code : ℕ) (p : ℤ) (ds : List Dot) (b : CharacterBox) (rs : List Run) → b ≡ box_of_pixels ds → rs ≡ runs_of ds
-    → begin code p b ++ rows b.min_m b.max_n b.min_m rs ++ 69 ∷ [] ≡ spell code p ds
+    → begin code p b ++ rows b.min_m b.max_n b.min_m rs ++ gf.eoc ∷ [] ≡ spell code p ds
 unfolding spell
 spell-is code p ds b rs bounds all = rw (bounds, all) refl

@@ -5,26 +5,28 @@ use Rattle.std.specs.Ordering.{int_eq}
 use Rattle.std.proofs.lemmas.Bool.{cond-true, cond-false, le-leb, lt-leb, leb-true, eq-eqb, ne_eqb, eqb-true, and_from, and_parts, false_from_ne_true}
 use Rattle.std.proofs.lemmas.Bool.Decides.{Decides-int_eq}
 use Rattle.mf_rows.specs.declared.run.Run.{Run}
-use Rattle.mf_gf.specs.Spelling.{approach, distance, most_new_row, new_row, paint, skip, with_parameter}
+use Rattle.mf_gf.specs.Format as gf
+use Rattle.mf_gf.specs.Spelling.{approach, distance, new_row, paint, skip, with_parameter}
 
-pub paint_short : (n : ℕ) → n ≤ 63 → paint n ≡ n ∷ []
+pub paint_short : (n : ℕ) → n ≤ gf.most_painted → paint n ≡ n ∷ []
 unfolding paint
-paint_short n short = cond-true _ (n ∷ []) (with_parameter 64 n) (le-leb n 63 short)
+paint_short n short = cond-true _ (n ∷ []) (with_parameter gf.paint1 n) (le-leb n gf.most_painted short)
 
-pub paint_long : (n : ℕ) → 63 < n → paint n ≡ with_parameter 64 n
+pub paint_long : (n : ℕ) → gf.most_painted < n → paint n ≡ with_parameter gf.paint1 n
 unfolding paint
-paint_long n long = cond-false _ (n ∷ []) (with_parameter 64 n) (lt-leb n 63 long)
+paint_long n long = cond-false _ (n ∷ []) (with_parameter gf.paint1 n) (lt-leb n gf.most_painted long)
 
-pub skip_none : (n : ℕ) → n ≡ 0 → skip n ≡ 70 ∷ []
+pub skip_none : (n : ℕ) → n ≡ 0 → skip n ≡ gf.skip0 ∷ []
 unfolding skip
-skip_none n none = cond-true _ (70 ∷ []) (with_parameter 71 n) (eq-eqb n 0 none)
+skip_none n none = cond-true _ (gf.skip0 ∷ []) (with_parameter gf.skip1 n) (eq-eqb n 0 none)
 
-pub skip_some : (n : ℕ) → n ≢ 0 → skip n ≡ with_parameter 71 n
+pub skip_some : (n : ℕ) → n ≢ 0 → skip n ≡ with_parameter gf.skip1 n
 unfolding skip
-skip_some n some = cond-false _ (70 ∷ []) (with_parameter 71 n) (ne_eqb n 0 some)
+skip_some n some = cond-false _ (gf.skip0 ∷ []) (with_parameter gf.skip1 n) (ne_eqb n 0 some)
 
 module _ (left row column : ℤ) (r : Run) where
-  pub stroke_near : r.y ≡ row → distance r.x column ≤ 63 → r.len ≤ 63 → approach left row column r ++ paint r.len ≡ distance r.x column ∷ r.len ∷ []
+  pub stroke_near : r.y ≡ row → distance r.x column ≤ gf.most_painted → r.len ≤ gf.most_painted
+      → approach left row column r ++ paint r.len ≡ distance r.x column ∷ r.len ∷ []
   stroke_near same near short =
       rw (
         cond-true (int_eq r.y row) (paint (distance r.x column)) _ ((Decides-int_eq r.y row).1 same),
@@ -33,22 +35,22 @@ module _ (left row column : ℤ) (r : Run) where
       ) refl
 
   approach_elsewhere : r.y ≢ row → approach left row column r ≡ (if distance row r.y == 1 && nat_le
-      (distance r.x left) most_new_row then new_row (distance r.x left) else skip (distance row r.y - 1) ++ paint (distance r.x left))
+      (distance r.x left) gf.most_new_row then new_row (distance r.x left) else skip (distance row r.y - 1) ++ paint (distance r.x left))
   approach_elsewhere other = cond-false (int_eq r.y row) _ _ (false_from_ne_true (int_eq r.y row) (λ same. other ((Decides-int_eq r.y row).0 same)))
 
-  pub approach_next_row : r.y ≢ row → distance row r.y ≡ 1 → distance r.x left ≤ most_new_row → approach left row column r ≡ new_row (distance r.x left)
+  pub approach_next_row : r.y ≢ row → distance row r.y ≡ 1 → distance r.x left ≤ gf.most_new_row → approach left row column r ≡ new_row (distance r.x left)
   approach_next_row other next near =
       approach_elsewhere other
-      ∙ cond-true (distance row r.y == 1 && nat_le (distance r.x left) most_new_row) _ _
-      (and_from _ _ (eq-eqb (distance row r.y) 1 next) (le-leb (distance r.x left) most_new_row near))
+      ∙ cond-true (distance row r.y == 1 && nat_le (distance r.x left) gf.most_new_row) _ _
+      (and_from _ _ (eq-eqb (distance row r.y) 1 next) (le-leb (distance r.x left) gf.most_new_row near))
 
-  pub approach_by_skip : r.y ≢ row → (distance row r.y ≡ 1 → most_new_row < distance r.x left)
+  pub approach_by_skip : r.y ≢ row → (distance row r.y ≡ 1 → gf.most_new_row < distance r.x left)
       → approach left row column r ≡ skip (distance row r.y - 1) ++ paint (distance r.x left)
   approach_by_skip other far =
       approach_elsewhere other
-      ∙ cond-false (distance row r.y == 1 && nat_le (distance r.x left) most_new_row) _ _
+      ∙ cond-false (distance row r.y == 1 && nat_le (distance r.x left) gf.most_new_row) _ _
       (false_from_ne_true _ (λ test.
-      let parts = and_parts (distance row r.y == 1) (nat_le (distance r.x left) most_new_row) test in
+      let parts = and_parts (distance row r.y == 1) (nat_le (distance r.x left) gf.most_new_row) test in
       let lies_far = far (eqb-true (distance row r.y) 1 parts.0) in
-      let lies_near = leb-true (distance r.x left) most_new_row parts.1 in
+      let lies_near = leb-true (distance r.x left) gf.most_new_row parts.1 in
       omega arith))

@@ -7,7 +7,8 @@ use Rattle.mf_gf.specs.declared.boxes.CharacterBox.{CharacterBox}
 use Rattle.mf_gf.specs.declared.file.FontWords.{FontWords}
 use Rattle.mf_gf.specs.declared.locator.Locator.{Locator}
 use Rattle.mf_gf.specs.Boxes.{box_of_pixels, join, no_box}
-use Rattle.mf_gf.specs.Numbers.{code_count, word}
+use Rattle.mf_gf.specs.Format as gf
+use Rattle.mf_gf.specs.Numbers.{code_count, greatest_byte, word}
 use Rattle.mf_gf.specs.Spelling.{pointer, spell}
 
 -- a character that is shipped: its code, its escapement in 1/65536 pixel, its width in 1/1048576 of the design size, and its
@@ -20,7 +21,7 @@ pub record Character : Type 0 where
 
 -- the preamble: pre, the identification byte, the length of the comment, and the comment
 abbrev pub preamble : List ℕ → List ℕ
-preamble comment = 247 ∷ 131 ∷ length comment ∷ comment
+preamble comment = gf.pre ∷ gf.id_byte ∷ length comment ∷ comment
 
 -- a shipped character with its place, which is the length of the file before it
 pub record Shipment : Type 0 where
@@ -68,18 +69,18 @@ shipments comment characters = (file_so_far comment characters).shipped
 -- the number of pixels of an escapement, where it is a whole number of them in 0..255
 abbrev pub short_dx : ℤ → Option ℕ
 short_dx dx =
-    if int_le (pos 0) dx && (int_eq (int_rem dx (pos 65536)) (pos 0) && int_le (int_div dx (pos 65536)) (pos 255)) then Some
-    (unsigned_abs (int_div dx (pos 65536))) else None
+    if int_le (pos 0) dx && (int_eq (int_rem dx (pos gf.unity)) (pos 0) && int_le (int_div dx (pos gf.unity)) (pos greatest_byte)) then Some
+    (unsigned_abs (int_div dx (pos gf.unity))) else None
 
--- an escapement is a whole number of pixels in 0..255, each of them 65536 units: what `short_dx` finds, said without division
+-- an escapement is a whole number of pixels in 0..255, each of them one unity: what `short_dx` finds, said without division
 pub record IsShortDx (dx : ℤ) (pixels : ℕ) : Type 0 where
-  pub whole : dx ≡ pos (65536 * pixels)
-  pub fits : pixels ≤ 255
+  pub whole : dx ≡ pos (gf.unity * pixels)
+  pub fits : pixels ≤ greatest_byte
 
 -- the bytes before the width: those of char_loc0 where the escapement is short, else those of char_loc, whose dy is 0
 abbrev pub locator_head : ℕ → ℤ → Option ℕ → List ℕ
-locator_head code dx (Some pixels) = 246 ∷ code ∷ pixels ∷ []
-locator_head code dx None = (245 ∷ code ∷ []) ++ word dx ++ word (pos 0)
+locator_head code dx (Some pixels) = gf.char_loc0 ∷ code ∷ pixels ∷ []
+locator_head code dx None = (gf.char_loc ∷ code ∷ []) ++ word dx ++ word (pos 0)
 
 abbrev pub locator_text : Locator → List ℕ
 locator_text l = locator_head l.code l.dx (short_dx l.dx) ++ word l.width ++ word (pos l.place)
@@ -107,16 +108,16 @@ box_of_all (c ∷ d ∷ cs) = join (box_of_pixels c.black) (box_of_all (d ∷ cs
 -- the postamble: post, its own place, the numbers of the font, and the box of all characters
 abbrev pub post : FontWords → CharacterBox → ℕ → List ℕ
 post words b place =
-    (248 ∷ []) ++ word (pos place) ++ word words.ds ++ word (pos words.cs) ++ word words.hppp ++ word words.vppp
+    (gf.post ∷ []) ++ word (pos place) ++ word words.ds ++ word (pos words.cs) ++ word words.hppp ++ word words.vppp
     ++ word b.min_m ++ word b.max_m ++ word b.min_n ++ word b.max_n
 
--- the number of bytes 223, four to seven, that make the length of a file a multiple of 4
+-- the number of padding bytes, four to seven, that make the length of a file a multiple of 4
 abbrev pub padding : ℕ → ℕ
-padding before = 7 - (before + 3) % 4
+padding before = gf.most_padding - (before + 3) % 4
 
 -- the ending: post_post, the place of post, the identification byte, and the padding; `before` bytes of the file come before it
 abbrev pub ending : ℕ → ℕ → List ℕ
-ending place before = (249 ∷ []) ++ word (pos place) ++ (131 ∷ []) ++ replicate (padding (before + 6)) 223
+ending place before = (gf.post_post ∷ []) ++ word (pos place) ++ (gf.id_byte ∷ []) ++ replicate (padding (before + gf.ending_size)) gf.padding_byte
 
 -- the bytes of a file without its ending
 abbrev pub body : FontWords → List ℕ → List Character → List ℕ
@@ -138,11 +139,11 @@ pub record IsLongFile (max_bytes : ℕ) (words : FontWords) (comment : List ℕ)
   pub some : characters ≡ [] → ⊥
   pub too_long : max_bytes < length (file_of words comment characters)
 
--- the length of a file is a multiple of 4, and it ends with the identification byte and four to seven bytes 223
+-- the length of a file is a multiple of 4, and it ends with the identification byte and four to seven padding bytes
 pub record IsPadded (file : List ℕ) : Type 0 where
   pub multiple : length file % 4 ≡ 0
   pub before : List ℕ
   pub count : ℕ
-  pub least : 4 ≤ count
-  pub most : count ≤ 7
-  pub ends : file ≡ before ++ 131 ∷ replicate count 223
+  pub least : gf.least_padding ≤ count
+  pub most : count ≤ gf.most_padding
+  pub ends : file ≡ before ++ gf.id_byte ∷ replicate count gf.padding_byte

@@ -7,6 +7,14 @@ use Rattle.byteorder.specs.Endian.{big_bytes, big_number, twos_complement}
 abbrev pub code_count : ℕ
 code_count = 256
 
+-- the greatest number of one byte, and so the greatest parameter of paint1 and skip1
+abbrev pub greatest_byte : ℕ
+greatest_byte = 255
+
+-- the greatest number of two bytes, and so the greatest parameter of paint2 and skip2
+abbrev pub greatest_half : ℕ
+greatest_half = 65535
+
 -- the greatest number of four bytes with a sign, and so the greatest place in a file, and number of its bytes
 abbrev pub greatest_word : ℕ
 greatest_word = 2147483647

@@ -5,6 +5,7 @@ use Rattle.byteorder.specs.Endian.{big_number}
 use Rattle.mf_rows.specs.Dots.{Dot}
 use Rattle.mf_rows.specs.Runs.{stretch}
 use Rattle.mf_gf.specs.declared.boxes.CharacterBox.{CharacterBox}
+use Rattle.mf_gf.specs.Format as gf
 use Rattle.mf_gf.specs.Numbers.{word_at}
 
 -- a painting command: paint k pixels, skip k rows and go to the one after them, or go to the next row at offset k
@@ -27,12 +28,12 @@ with_bytes command n bytes = record { stroke = Some (command (big_number n bytes
 unfoldable pub read_stroke : List ℕ → Option Read
 read_stroke [] = None
 read_stroke (b ∷ bytes) =
-    if nat_le b 63 then Some (record { stroke = Some (Paint b); rest = bytes })
-    else (if nat_le b 66 then Some (with_bytes Paint (b - 63) bytes)
-    else (if b == 69 then Some (record { stroke = None; rest = bytes })
-    else (if b == 70 then Some (record { stroke = Some (Skip 0); rest = bytes })
-    else (if nat_le 71 b && nat_le b 73 then Some (with_bytes Skip (b - 70) bytes)
-    else (if nat_le 74 b && nat_le b 238 then Some (record { stroke = Some (NewRow (b - 74)); rest = bytes })
+    if nat_le b gf.most_painted then Some (record { stroke = Some (Paint b); rest = bytes })
+    else (if nat_le b gf.paint3 then Some (with_bytes Paint (b - gf.most_painted) bytes)
+    else (if b == gf.eoc then Some (record { stroke = None; rest = bytes })
+    else (if b == gf.skip0 then Some (record { stroke = Some (Skip 0); rest = bytes })
+    else (if nat_le gf.skip1 b && nat_le b gf.skip3 then Some (with_bytes Skip (b - gf.skip0) bytes)
+    else (if nat_le gf.new_row_0 b && nat_le b (gf.new_row_0 + gf.most_new_row) then Some (record { stroke = Some (NewRow (b - gf.new_row_0)); rest = bytes })
     else None)))))
 
 -- the end of a character, where no bytes come after it
@@ -114,7 +115,7 @@ head_of_boc bytes = record {
 -- the head of a character
 unfoldable pub head_of : List ℕ → Option Head
 head_of [] = None
-head_of (b ∷ bytes) = if b == 68 then Some (head_of_boc1 bytes) else (if b == 67 then Some (head_of_boc bytes) else None)
+head_of (b ∷ bytes) = if b == gf.boc1 then Some (head_of_boc1 bytes) else (if b == gf.boc then Some (head_of_boc bytes) else None)
 
 -- the pixels that commands make black, when they start at the left end and the top of a box
 abbrev pub pixels_from : ℤ → ℤ → List ℕ → Option (List Dot)
@@ -127,5 +128,5 @@ pixels_in b bytes = pixels_from b.min_m b.max_n bytes
 unfoldable pub pixels_of_character : List ℕ → Option (List Dot)
 pixels_of_character [] = None
 pixels_of_character (b ∷ bytes) =
-    if b == 68 then pixels_in (head_of_boc1 bytes).box (drop 5 bytes)
-    else (if b == 67 then pixels_in (head_of_boc bytes).box (drop 24 bytes) else None)
+    if b == gf.boc1 then pixels_in (head_of_boc1 bytes).box (drop 5 bytes)
+    else (if b == gf.boc then pixels_in (head_of_boc bytes).box (drop 24 bytes) else None)

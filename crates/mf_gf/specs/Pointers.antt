@@ -6,17 +6,19 @@ use Rattle.byteorder.specs.Endian.{big_number}
 use Rattle.mf_gf.specs.declared.locator.Locator.{Locator}
 use Rattle.mf_gf.specs.Boxes.{box_of_pixels}
 use Rattle.mf_gf.specs.Files.{Character, bytes_so_far}
+use Rattle.mf_gf.specs.Format as gf
 use Rattle.mf_gf.specs.Numbers.{IsWord, code_count, greatest_word, word_at}
 use Rattle.mf_gf.specs.Painting.{head_of, pixels_of_character}
 use Rattle.mf_gf.specs.Pixels.{IsPixelSet}
 
 -- ---- the reader
 
--- the place of post: the four bytes before the identification byte, after which there are only bytes 223; this list has the last
+-- the place of post: the four bytes before the identification byte, after which there is only padding; this list has the last
 -- byte first
 unfoldable pub post_place_back : List ℕ → Option ℕ
 post_place_back [] = None
-post_place_back (b ∷ bytes) = if b == 223 then post_place_back bytes else (if b == 131 then Some (big_number 4 (reverse (take 4 bytes))) else None)
+post_place_back (b ∷ bytes) =
+    if b == gf.padding_byte then post_place_back bytes else (if b == gf.id_byte then Some (big_number 4 (reverse (take 4 bytes))) else None)
 
 abbrev pub post_place : List ℕ → Option ℕ
 post_place file = post_place_back (reverse file)
@@ -31,20 +33,20 @@ pub record Item : Type 0 where
 unfoldable pub read_item : List ℕ → Option Item
 read_item [] = None
 read_item (b ∷ bytes) =
-    if b == 245 then Some (record {
+    if b == gf.char_loc then Some (record {
       locator = Some (record { code = slice_index bytes 0; dx = word_at 1 bytes; width = word_at 9 bytes; place = big_number 4 (drop 13 bytes) });
       rest = drop 17 bytes;
     })
-    else (if b == 246 then Some (record {
+    else (if b == gf.char_loc0 then Some (record {
       locator = Some (record {
         code = slice_index bytes 0;
-        dx = pos (65536 * slice_index bytes 1);
+        dx = pos (gf.unity * slice_index bytes 1);
         width = word_at 2 bytes;
         place = big_number 4 (drop 6 bytes);
       });
       rest = drop 10 bytes;
     })
-    else (if b == 249 then Some (record { locator = None; rest = bytes }) else None))
+    else (if b == gf.post_post then Some (record { locator = None; rest = bytes }) else None))
 
 -- the locators up to the ending, where the ending is one of the first n items
 unfoldable pub locators_within : ℕ → List ℕ → Option (List Locator)
@@ -57,9 +59,9 @@ locators_within (suc n) bytes = elim (read_item bytes) [
   ]
 ]
 
--- the locators after post, which has 37 bytes and starts with 248: one for each of at most 256 codes, and then the ending
+-- the locators after the postamble: one for each of at most as many codes as there are, and then the ending
 abbrev pub locators_after : ℕ → List ℕ → Option (List Locator)
-locators_after place file = if slice_index file place == 248 then locators_within (code_count + 1) (drop (place + 37) file) else None
+locators_after place file = if slice_index file place == gf.post then locators_within (code_count + 1) (drop (place + gf.post_size) file) else None
 
 abbrev pub locators_of : List ℕ → Option (List Locator)
 locators_of file = elim (post_place file) [

@@ -8,38 +8,35 @@ use Rattle.mf_rows.specs.Dots.{Dot}
 use Rattle.mf_rows.specs.Runs.{runs_of}
 use Rattle.mf_gf.specs.declared.boxes.CharacterBox.{CharacterBox}
 use Rattle.mf_gf.specs.Boxes.{box_of_pixels}
-use Rattle.mf_gf.specs.Numbers.{word}
+use Rattle.mf_gf.specs.Format as gf
+use Rattle.mf_gf.specs.Numbers.{greatest_byte, word}
 
 -- an opcode with a parameter of one byte, or the next opcode with one of two bytes
 abbrev pub with_parameter : ℕ → ℕ → List ℕ
-with_parameter opcode n = if nat_le n 255 then (opcode ∷ n ∷ []) else ((opcode + 1) ∷ []) ++ big_bytes 2 n
+with_parameter opcode n = if nat_le n greatest_byte then (opcode ∷ n ∷ []) else ((opcode + 1) ∷ []) ++ big_bytes 2 n
 
 -- the command that paints n pixels: paint_0 to paint_63, paint1 or paint2
 unfoldable pub paint : ℕ → List ℕ
-paint n = if nat_le n 63 then n ∷ [] else with_parameter 64 n
+paint n = if nat_le n gf.most_painted then n ∷ [] else with_parameter gf.paint1 n
 
 -- the command that skips n blank rows: skip0, skip1 or skip2
 unfoldable pub skip : ℕ → List ℕ
-skip n = if n == 0 then 70 ∷ [] else with_parameter 71 n
+skip n = if n == 0 then gf.skip0 ∷ [] else with_parameter gf.skip1 n
 
 -- the command that goes to the next row at offset n: new_row_0 to new_row_164
 abbrev pub new_row : ℕ → List ℕ
-new_row n = (74 + n) ∷ []
+new_row n = (gf.new_row_0 + n) ∷ []
 
 -- the distance between two columns, or rows
 abbrev pub distance : ℤ → ℤ → ℕ
 distance a b = unsigned_abs (a -ℤ b)
-
--- the greatest offset of new_row
-abbrev pub most_new_row : ℕ
-most_new_row = 164
 
 -- from a position to the start of a stretch of black pixels: within the same row with white; to the next row with new_row, where
 -- the offset from the left end of the box allows it; else with a skip and white
 abbrev pub approach : ℤ → ℤ → ℤ → Run → List ℕ
 approach left row column r =
     if int_eq r.y row then paint (distance r.x column)
-    else (if distance row r.y == 1 && nat_le (distance r.x left) most_new_row then new_row (distance r.x left)
+    else (if distance row r.y == 1 && nat_le (distance r.x left) gf.most_new_row then new_row (distance r.x left)
     else skip (distance row r.y - 1) ++ paint (distance r.x left))
 
 -- stretches of black pixels, one after another, starting at a position
@@ -49,7 +46,7 @@ rows left row column (r ∷ rs) = approach left row column r ++ paint r.len ++ r
 
 -- a number fits into one byte
 abbrev pub is_byte : ℤ → Bool
-is_byte z = int_le (pos 0) z && int_le z (pos 255)
+is_byte z = int_le (pos 0) z && int_le z (pos greatest_byte)
 
 -- a box fits into the one-byte fields of boc1
 abbrev pub is_short : CharacterBox → Bool
@@ -62,11 +59,11 @@ pointer (Some place) = pos place
 
 -- the bytes of boc1, which has no p
 abbrev pub short_begin : ℕ → CharacterBox → List ℕ
-short_begin code b = 68 ∷ code ∷ unsigned_abs (b.max_m -ℤ b.min_m) ∷ unsigned_abs b.max_m ∷ unsigned_abs (b.max_n -ℤ b.min_n) ∷ unsigned_abs b.max_n ∷ []
+short_begin code b = gf.boc1 ∷ code ∷ unsigned_abs (b.max_m -ℤ b.min_m) ∷ unsigned_abs b.max_m ∷ unsigned_abs (b.max_n -ℤ b.min_n) ∷ unsigned_abs b.max_n ∷ []
 
 -- the bytes of boc, which has p
 abbrev pub long_begin : ℕ → ℤ → CharacterBox → List ℕ
-long_begin code p b = (67 ∷ []) ++ word (pos code) ++ word p ++ word b.min_m ++ word b.max_m ++ word b.min_n ++ word b.max_n
+long_begin code p b = (gf.boc ∷ []) ++ word (pos code) ++ word p ++ word b.min_m ++ word b.max_m ++ word b.min_n ++ word b.max_n
 
 -- boc1 where there is no earlier character with this code and the box allows it, else boc
 abbrev pub begin : ℕ → ℤ → CharacterBox → List ℕ
@@ -74,4 +71,5 @@ begin code p b = if int_eq p (negsuc 0) && is_short b then short_begin code b el
 
 -- the bytes of a character with these black pixels; p is the place of the last earlier character with this code, or -1
 unfoldable pub spell : ℕ → ℤ → List Dot → List ℕ
-spell code p ds = begin code p (box_of_pixels ds) ++ rows (box_of_pixels ds).min_m (box_of_pixels ds).max_n (box_of_pixels ds).min_m (runs_of ds) ++ (69 ∷ [])
+spell code p ds =
+    begin code p (box_of_pixels ds) ++ rows (box_of_pixels ds).min_m (box_of_pixels ds).max_n (box_of_pixels ds).min_m (runs_of ds) ++ (gf.eoc ∷ [])

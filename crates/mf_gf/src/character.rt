@@ -143,5 +143,5 @@ fn is_short_side(least: i32, greatest: i32) -> bool
 fn is_byte(number: i32) -> bool
     ensures { result ≡ is_byte number }
 {
-    0 <= number && number <= 255
+    0 <= number && number <= u8::MAX as i32
 }

@@ -11,8 +11,8 @@ const CHAR_LOC: u8 = 245;
 /// char_loc0, the command for the locator of a character whose escapement is a whole number of pixels in 0..=255 (gftype.web).
 const CHAR_LOC0: u8 = 246;
 
-/// One pixel in the units of `dx`, which are 1/65536 pixel (gftype.web).
-const PIXEL: i32 = 65_536;
+/// One pixel in the units of `dx`, which are 1/65536 pixel (mf.web).
+const UNITY: i32 = 65_536;
 
 /// The locator of a character: its code, its escapement in 1/65536 pixel, its width in 1/1048576 of the design size, and its
 /// place, which is the number of bytes of the file before it.
@@ -46,9 +46,9 @@ impl Locator {
     fn whole_pixels(&self) -> Option<u8>
         ensures { result ≡ short_dx self.now.dx }
     {
-        if self.dx < 0 || self.dx % PIXEL != 0 || self.dx / PIXEL > 255 {
+        if self.dx < 0 || self.dx % UNITY != 0 || self.dx / UNITY > u8::MAX as i32 {
             return None;
         }
-        Some((self.dx / PIXEL) as u8)
+        Some((self.dx / UNITY) as u8)
     }
 }

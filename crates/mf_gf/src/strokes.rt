@@ -1,6 +1,8 @@
 //! The painting commands of a character.
-ghost use Rattle.std.specs.Prelude.{◌≡◌, ◌<◌, ◌≤◌, ◌^◌, ◌++◌, List, ℕ};
-ghost use Rattle.mf_gf.specs.Spelling.{most_new_row, new_row, paint, skip, with_parameter};
+ghost use Rattle.std.specs.Prelude.{◌≡◌, ◌<◌, ◌≤◌, ◌++◌, List, ℕ};
+ghost use Rattle.mf_gf.specs.Format.{most_new_row};
+ghost use Rattle.mf_gf.specs.Numbers.{greatest_byte, greatest_half};
+ghost use Rattle.mf_gf.specs.Spelling.{new_row, paint, skip, with_parameter};
 ghost use Rattle.mf_gf.specs.Spellings.{Holds};
 
 use crate::spelling::Spelling;
@@ -24,7 +26,7 @@ impl Spelling {
     /// Appends a command that paints `length` pixels. Most stretches have at most 63, so only their command is inlined.
     #[inline(always)]
     pub(crate) fn paint(&mut self, length: u32)
-        requires { length < 2 ^ 16 }
+        requires { length ≤ greatest_half }
         ensures held { (text : List ℕ) → Holds self.old text → Holds self.new (text ++ paint length) }
         ensures room { self.new.room ≡ self.old.room }
     {
@@ -37,7 +39,7 @@ impl Spelling {
 
     /// Appends a command that skips `rows` blank rows.
     pub(crate) fn skip(&mut self, rows: u32)
-        requires { rows < 2 ^ 16 }
+        requires { rows ≤ greatest_half }
         ensures held { (text : List ℕ) → Holds self.old text → Holds self.new (text ++ skip rows) }
         ensures room { self.new.room ≡ self.old.room }
     {
@@ -60,12 +62,12 @@ impl Spelling {
     /// Appends a command with its parameter: this opcode for a parameter of one byte, and the next one for two bytes.
     #[inline(never)]
     fn put_parameter(&mut self, opcode: u8, parameter: u32)
-        requires opcode { opcode < 255 }
-        requires parameter { parameter < 2 ^ 16 }
+        requires opcode { opcode < greatest_byte }
+        requires parameter { parameter ≤ greatest_half }
         ensures held { (text : List ℕ) → Holds self.old text → Holds self.new (text ++ with_parameter opcode parameter) }
         ensures room { self.new.room ≡ self.old.room }
     {
-        if parameter <= 255 {
+        if parameter <= u8::MAX as u32 {
             self.put(&[opcode, parameter as u8]);
         } else {
             self.put_byte(opcode + 1);

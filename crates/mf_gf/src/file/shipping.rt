@@ -5,7 +5,7 @@ ghost use Rattle.mf_gf.specs.Spelling as spelling;
 ghost use Rattle.mf_gf.specs.Spelling.{pointer};
 ghost use Rattle.mf_gf.specs.Files.{Character, bytes_so_far, preamble};
 ghost use Rattle.mf_gf.specs.Keeping.{IsAppended, IsSameFile, Keeps, character, max_bytes_of};
-ghost use Rattle.mf_gf.specs.Numbers.{greatest_word};
+ghost use Rattle.mf_gf.specs.Numbers.{greatest_byte, greatest_word};
 ghost use Rattle.mf_gf.specs.Pixels.{black};
 
 use super::{GF_ID, GfFile};
@@ -39,7 +39,7 @@ impl GfFile {
         ensures kept { IfOk result (λ file. Keeps file comment.now []) }
         ensures max_bytes { IfOk result (λ file. max_bytes_of file ≡ min max_bytes greatest_word) }
         ensures too_long { (min max_bytes greatest_word < length (preamble comment.now)) ↔ (result ≡ Err GfFault.FileTooLong) }
-        ensures comment_too_long { length (preamble comment.now) ≤ min max_bytes greatest_word → (255 < length comment.now)
+        ensures comment_too_long { length (preamble comment.now) ≤ min max_bytes greatest_word → (greatest_byte < length comment.now)
             ↔ (result ≡ Err GfFault.CommentTooLong) }
         ensures fault { IfErr result (λ fault. (fault ≡ GfFault.FileTooLong) ⊎ (fault ≡ GfFault.CommentTooLong) ⊎ (fault ≡ GfFault.OutOfMemory)) }
     {
@@ -142,7 +142,7 @@ impl GfFile {
 
 /// The preamble with this comment.
 fn preamble(alloc: Global, comment: &[u8]) -> Result<Vec<u8>, OutOfMemory>
-    requires { length comment.now ≤ 255 }
+    requires { length comment.now ≤ greatest_byte }
     ensures { IfOk result (λ bytes. bytes.items ≡ preamble comment.now) }
 {
     let mut bytes = Vec::from_slice(alloc, &[PRE, GF_ID, comment.len() as u8])?;

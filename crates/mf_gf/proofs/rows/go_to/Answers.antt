@@ -1,6 +1,7 @@
 use Rattle.std.proofs.Common.{◌≡◌, ◌≢◌, ◌-◌, ◌<◌, ◌-ℤ◌, nat_abs, to_z, of_z, w32, sym, ap, ◌∙◌, arith}
 use Rattle.std.proofs.lemmas.Int.{ints}
-use Rattle.mf_gf.specs.Spelling.{distance, most_new_row, new_row, paint, skip}
+use Rattle.mf_gf.specs.Format.{most_new_row}
+use Rattle.mf_gf.specs.Spelling.{distance, new_row, paint, skip}
 use Rattle.mf_gf.proofs.StrokeTexts.{approach_next_row, approach_by_skip}
 use Rattle.mf_gf.proofs.Writing.{write_both, write_same}
 use Rattle.mf_gf.proofs.rows.go_to.Goals as goal

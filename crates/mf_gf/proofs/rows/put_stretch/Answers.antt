@@ -1,5 +1,6 @@
 use Rattle.std.proofs.Common.{◌≡◌, ◌≤◌, ◌-ℤ◌, [], ◌∷◌, nat_abs, to_z, of_z, w32, sym, ap, ◌∙◌, arith}
 use Rattle.std.proofs.lemmas.Int.{ints}
+use Rattle.mf_gf.specs.Format.{most_painted}
 use Rattle.mf_gf.specs.Spelling.{distance}
 use Rattle.mf_gf.proofs.StrokeTexts.{stroke_near}
 use Rattle.mf_gf.proofs.Writing.{write_both, write_same}
@@ -13,8 +14,9 @@ returns-then-stretch-le-MOST_PAINTED-clause-held c =
     let row : to_z w32 (of_z w32 from.row) ≡ from.row = omega (arith, ints) in
     let same = sym y ∙ ap (to_z w32) c.if-stretch-from.true ∙ row in
     let gap : to_z w32 (of_z w32 (to_z w32 (of_z w32 r.x) -ℤ to_z w32 (of_z w32 from.column))) ≡ r.x -ℤ from.column = omega (arith, ints) in
-    let near : distance r.x from.column ≤ 63 = omega (arith, ints) in
-    write_same _ _ _ _ (ap (λ n. nat_abs n ∷ r.len ∷ []) gap ∙ sym (stroke_near c.args.left from.row from.column r same near c.if-stretch-le-MOST_PAINTED.true)) c.put_pair.ensures.held
+    let near : distance r.x from.column ≤ most_painted = omega (arith, ints) in
+    let text = stroke_near c.args.left from.row from.column r same near c.if-stretch-le-MOST_PAINTED.true in
+    write_same _ _ _ _ (ap (λ n. nat_abs n ∷ r.len ∷ []) gap ∙ sym text) c.put_pair.ensures.held
 
 pub returns-clause-held : goal.returns-clause-held
 returns-clause-held c =

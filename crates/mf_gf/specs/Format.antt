@@ -1,0 +1,89 @@
+-- Opcodes and other numbers of the GF format (gftype.web).
+use Rattle.std.specs.Prelude.{ℕ}
+
+-- ---- the opcodes
+
+-- the greatest number of pixels that is its own opcode: paint_0 to paint_63
+abbrev pub most_painted : ℕ
+most_painted = 63
+
+-- paint1 paints as many pixels as its parameter of one byte says; paint2 and paint3 follow it, with two and three bytes
+abbrev pub paint1 : ℕ
+paint1 = 64
+
+abbrev pub paint3 : ℕ
+paint3 = 66
+
+-- boc begins a character; boc1 is shorter
+abbrev pub boc : ℕ
+boc = 67
+
+abbrev pub boc1 : ℕ
+boc1 = 68
+
+-- eoc ends a character
+abbrev pub eoc : ℕ
+eoc = 69
+
+-- skip0 skips no row; skip1 skips as many as its parameter of one byte says; skip2 and skip3 follow it, with two and three bytes
+abbrev pub skip0 : ℕ
+skip0 = 70
+
+abbrev pub skip1 : ℕ
+skip1 = 71
+
+abbrev pub skip3 : ℕ
+skip3 = 73
+
+-- new_row_0 goes to the left end of the next row; the others follow it, up to new_row_164
+abbrev pub new_row_0 : ℕ
+new_row_0 = 74
+
+-- the greatest offset of new_row
+abbrev pub most_new_row : ℕ
+most_new_row = 164
+
+-- the locators of a character
+abbrev pub char_loc : ℕ
+char_loc = 245
+
+abbrev pub char_loc0 : ℕ
+char_loc0 = 246
+
+-- pre begins the preamble, post the postamble, and post_post the ending
+abbrev pub pre : ℕ
+pre = 247
+
+abbrev pub post : ℕ
+post = 248
+
+abbrev pub post_post : ℕ
+post_post = 249
+
+-- ---- other numbers
+
+-- the identification byte
+abbrev pub id_byte : ℕ
+id_byte = 131
+
+-- the byte at the end of a file, and how many of them there are at least and at most
+abbrev pub padding_byte : ℕ
+padding_byte = 223
+
+abbrev pub least_padding : ℕ
+least_padding = 4
+
+abbrev pub most_padding : ℕ
+most_padding = 7
+
+-- the number of bytes in the ending before the padding
+abbrev pub ending_size : ℕ
+ending_size = 6
+
+-- the number of bytes in the postamble before the locators
+abbrev pub post_size : ℕ
+post_size = 37
+
+-- one pixel in the units of an escapement (mf.web)
+abbrev pub unity : ℕ
+unity = 65536
