@@ -29,6 +29,7 @@ impl<'a> Weights<'a> {
 
     /// Returns the weight of a pixel. Pixels must be asked for in reading order: the runs before this one are passed and
     /// forgotten.
+    #[tactic(auto, using(crate::proofs::PassedPixels::taken_is_lawful))]
     pub(crate) fn weight(&mut self, x: i32, y: i32) -> i32
         requires order { AreInOrder (runs_ahead self.old) }
         requires left { least_coordinate ≤ℤ x }
@@ -45,6 +46,7 @@ impl<'a> Weights<'a> {
     }
 
     /// Passes the runs that end before a pixel.
+    #[tactic(auto, using(crate::proofs::PassedPixels::none_passed, crate::proofs::PassedPixels::taken_is_lawful, crate::proofs::PassedPixels::fewer_ahead))]
     fn pass(&mut self, x: i32, y: i32)
         requires order { AreInOrder (runs_ahead self.old) }
         requires left { least_coordinate ≤ℤ x }

@@ -1,7 +1,7 @@
-use Rattle.std.proofs.Common.{◌≡◌, ◌≤◌, refl, arith}
+use Rattle.std.proofs.Common.{◌≡◌, refl, arith}
 use Rattle.std.proofs.lemmas.Int.{ints}
 use Rattle.std.proofs.lemmas.Result.{err_from_is_err_and}
-use Rattle.mf_show.specs.Grid.{extent, greatest_grid_side}
+use Rattle.mf_show.specs.Grid.{extent}
 use Rattle.mf_show.proofs.GridTexts.{grid_of_box, too_large, not_too_large}
 use Rattle.mf_show.proofs.LeastBoxes.{least_box_of_field}
 use Rattle.mf_show.proofs.grid.proof_grid.Goals as goal
@@ -25,18 +25,14 @@ returns-then-columns-gt-MAX_SIDE-clause-too_large c =
 
 pub returns-in_err-box_text-clause-too_large : goal.returns-in_err-box_text-clause-too_large
 returns-in_err-box_text-clause-too_large c =
-    let b = c.in-Some.bounds in
-    let narrow : extent b.min_x b.max_x ≤ greatest_grid_side = omega (arith, ints) in
-    let low : extent b.min_y b.max_y ≤ greatest_grid_side = omega (arith, ints) in
-    let fault = err_from_is_err_and c.from_residual-in_err-box_text.result c.from_residual-in_err-box_text.ensures.1 in
-    (λ large. absurd (not_too_large _ b c.in-Some.ensures.least narrow low large), λ same. absurd (cc (fault.1, fault.2, same)))
+    let fault = err_from_is_err_and c.from_residual-in_err-box_text.result c.from_residual-in_err-box_text.ensures.1 in (
+      λ large. absurd (not_too_large _ _ c.in-Some.ensures.least (omega (arith, ints)) (omega (arith, ints)) large),
+      λ same. absurd (cc (fault.1, fault.2, same)),
+    )
 
 pub returns-clause-text : goal.returns-clause-text
 returns-clause-text c = grid_of_box _ _ _ c.in-Some.ensures.least c.in_ok-box_text.ensures
 
 pub returns-clause-too_large : goal.returns-clause-too_large
 returns-clause-too_large c =
-    let b = c.in-Some.bounds in
-    let narrow : extent b.min_x b.max_x ≤ greatest_grid_side = omega (arith, ints) in
-    let low : extent b.min_y b.max_y ≤ greatest_grid_side = omega (arith, ints) in
-    (λ large. absurd (not_too_large _ b c.in-Some.ensures.least narrow low large), λ same. absurd (cc same))
+    (λ large. absurd (not_too_large _ _ c.in-Some.ensures.least (omega (arith, ints)) (omega (arith, ints)) large), λ same. absurd (cc same))

@@ -8,12 +8,6 @@ use Rattle.mf_show.proofs.grid.push_row.Goals as goal
 pub loop-x-init : goal.loop-x-init
 loop-x-init c = line_none _ _ _ _ _ (omega (arith, ints)) c.requires.order
 
-pub weight-requires-clause-order : goal.weight-requires-clause-order
-weight-requires-clause-order c = c.loop-x.invariant.order
-
-pub weight-requires-clause-left : goal.weight-requires-clause-left
-weight-requires-clause-left c = omega (arith, ints, c.loop-x.invariant.row.left)
-
 pub loop-x-preserved : goal.loop-x-preserved
 loop-x-preserved c =
     let x = to_z w32 c.loop-x.x-bits in
@@ -32,9 +26,6 @@ returns-clause-text c =
     let to = to_z-of_z w32 c.args.last c.ranges.last in
     let row = rw (at_y, from, to) at (row_all _ _ _ over c.loop-x.invariant.row) in
     c.in_ok-push-2.ensures.items ∙ ap (λ text. text ++ 10 ∷ []) row
-
-pub returns-clause-order : goal.returns-clause-order
-returns-clause-order c = c.loop-x.invariant.order
 
 pub returns-clause-later : goal.returns-clause-later
 returns-clause-later c =

@@ -1,10 +1,7 @@
 use Rattle.std.proofs.Common.{◌≡◌, to_z, of_z, w32, ◌∙◌, arith}
 use Rattle.std.proofs.lemmas.Int.{ints, to_z-of_z}
-use Rattle.mf_show.proofs.PassedPixels.{taken_is_lawful, weight_of_taken, weight_of_none}
+use Rattle.mf_show.proofs.PassedPixels.{weight_of_taken, weight_of_none}
 use Rattle.mf_show.proofs.grid.weights.Weights.weight.Goals as goal
-
-pub weight_of_run-requires-clause-run : goal.weight_of_run-requires-clause-run
-weight_of_run-requires-clause-run c = taken_is_lawful _ _ _ c.in-Some.is c.pass.ensures.order
 
 pub returns-in-Some-clause-weight : goal.returns-in-Some-clause-weight
 returns-in-Some-clause-weight c =
