@@ -1,18 +1,42 @@
 -- The grid text of a picture: one character for each pixel of its least box, rows in order from the top.
-use Rattle.std.specs.Prelude.{◌≡◌, ◌<◌, ◌⊎◌, ℕ, zero, suc, ◌+◌, ℤ, pos, negsuc, ◌+ℤ◌, ◌-ℤ◌, int_lt, List, [], ◌∷◌, ◌++◌, codes, if◌then◌else◌}
+use Rattle.std.specs.Prelude.{◌≡◌, ◌<◌, ◌⊎◌, ℕ, zero, suc, ◌+◌, ℤ, pos, ◌+ℤ◌, ◌-ℤ◌, int_lt, List, [], ◌∷◌, ◌++◌, codes, if◌then◌else◌}
 use Rattle.std.specs.Int.RustNames.{unsigned_abs}
 use Rattle.std.specs.Ordering.{int_eq}
 use Rattle.mf_rows.specs.declared.bounds.Box4.{Box4}
 use Rattle.mf_rows.specs.Bounds.{IsLeastBox}
 use Rattle.mf_rows.specs.Dots.{Dot, weight_at}
 
+-- the characters of a grid: those of weight 0 and of weights beyond the greatest digit, `0` and the one before `a`, from which the
+-- others are counted, and the end of a line
+abbrev pub full_stop : ℕ
+full_stop = 46
+
+abbrev pub plus_sign : ℕ
+plus_sign = 43
+
+abbrev pub minus_sign : ℕ
+minus_sign = 45
+
+abbrev pub digit_zero : ℕ
+digit_zero = 48
+
+abbrev pub before_a : ℕ
+before_a = 96
+
+abbrev pub line_feed : ℕ
+line_feed = 10
+
+-- the greatest weight that has a digit
+abbrev pub greatest_digit : ℕ
+greatest_digit = 9
+
 -- the character of a weight: `.` for 0, `1` to `9` for themselves, `+` above 9, `a` to `i` for -1 to -9, and `-` below -9
 abbrev pub grid_character : ℤ → ℕ
 grid_character w =
-    if int_eq w (pos 0) then 46
-    else (if int_lt (pos 9) w then 43
-    else (if int_lt w (negsuc 8) then 45
-    else (if int_lt (pos 0) w then 48 + unsigned_abs w else 96 + unsigned_abs w)))
+    if int_eq w (pos 0) then full_stop
+    else (if int_lt (pos greatest_digit) w then plus_sign
+    else (if int_lt w (pos 0 -ℤ pos greatest_digit) then minus_sign
+    else (if int_lt (pos 0) w then digit_zero + unsigned_abs w else before_a + unsigned_abs w)))
 
 -- the number of columns, or rows, from the first to the last, both inclusive
 abbrev pub extent : ℤ → ℤ → ℕ

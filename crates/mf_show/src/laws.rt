@@ -3,7 +3,7 @@
 ghost use Rattle.std.specs.Prelude.{◌≡◌, ◌<◌, ◌+◌, ◌*◌, ℕ, pos, ◌+ℤ◌, ◌-ℤ◌, List, get_or, length};
 ghost use Rattle.mf_rows.specs.declared.bounds.Box4.{Box4};
 ghost use Rattle.mf_rows.specs.Dots.{Dot, weight_at};
-ghost use Rattle.mf_show.specs.Grid.{IsGridText, box_text, grid_character, extent};
+ghost use Rattle.mf_show.specs.Grid.{IsGridText, box_text, grid_character, extent, line_feed};
 
 /// Each picture has exactly one grid text.
 pub fn one_grid_text()
@@ -17,6 +17,6 @@ pub fn grid_has_each_pixel()
     ensures pixels { (ds : List Dot) (b : Box4) (i j : ℕ) → i < extent b.min_x b.max_x → j < extent b.min_y b.max_y →
         get_or (box_text ds b) (j * (extent b.min_x b.max_x + 1) + i) 0 ≡ grid_character (weight_at ds (b.min_x +ℤ pos i) (b.max_y -ℤ pos j)) }
     ensures line_feeds { (ds : List Dot) (b : Box4) (j : ℕ) → j < extent b.min_y b.max_y →
-        get_or (box_text ds b) (j * (extent b.min_x b.max_x + 1) + extent b.min_x b.max_x) 0 ≡ 10 }
+        get_or (box_text ds b) (j * (extent b.min_x b.max_x + 1) + extent b.min_x b.max_x) 0 ≡ line_feed }
     ensures whole { (ds : List Dot) (b : Box4) → length (box_text ds b) ≡ extent b.min_y b.max_y * (extent b.min_x b.max_x + 1) }
 {}

@@ -1,6 +1,6 @@
 use Rattle.std.proofs.Common.{◌≡◌, ◌∷◌, [], ◌++◌, ◌≤ℤ◌, pos, ◌+ℤ◌, to_z, of_z, w32, ap, ◌∙◌, arith}
 use Rattle.std.proofs.lemmas.Int.{ints, to_z-of_z}
-use Rattle.mf_show.specs.Grid.{grid_character}
+use Rattle.mf_show.specs.Grid.{grid_character, line_feed}
 use Rattle.mf_show.proofs.GridTexts.{line_none, line_more}
 use Rattle.mf_show.proofs.ShownRows.{row_all}
 use Rattle.mf_show.proofs.grid.push_row.Goals as goal
@@ -25,7 +25,7 @@ returns-clause-text c =
     let from = to_z-of_z w32 c.args.first c.ranges.first in
     let to = to_z-of_z w32 c.args.last c.ranges.last in
     let row = rw (at_y, from, to) at (row_all _ _ _ over c.loop-x.invariant.row) in
-    c.in_ok-push-2.ensures.items ∙ ap (λ text. text ++ 10 ∷ []) row
+    c.in_ok-push-2.ensures.items ∙ ap (λ text. text ++ line_feed ∷ []) row
 
 pub returns-clause-later : goal.returns-clause-later
 returns-clause-later c =
