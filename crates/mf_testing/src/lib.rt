@@ -3,9 +3,11 @@
 #![tactic(auto)]
 
 mod growths;
+mod readers;
 mod scripts;
-mod streams;
+mod writers;
 
 pub use growths::{grow_again, refuse_all_growths, refuse_growths};
+pub use readers::{LineFeeds, Pieces, Remembers};
 pub use scripts::{RECT, RECT_FILE, Script, worked_scripts};
-pub use streams::{FailsOnce, FlushFails, LineFeeds, Pieces, Remembers, Sink};
+pub use writers::{FailsOnce, FlushFails, Sink};
