@@ -112,7 +112,7 @@ impl Cycle {
 
     /// The ends of the segment that leaves vertex `place`: from, then to. The last segment leads back to the first point.
     /// `mf_ops` makes the corners of a contour from them. Requires `place` to be below the number of points.
-    pub fn edge(&self, place: usize) -> (Point, Point)
+    pub fn segment_ends(&self, place: usize) -> (Point, Point)
         requires within { place < length self.now }
         ensures from { result.0 ≡ (segment_at self.now place).from }
         ensures to { result.1 ≡ (segment_at self.now place).to }

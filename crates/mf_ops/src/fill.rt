@@ -82,7 +82,7 @@ fn corners_of(alloc: Global, cycle: &Cycle, weight: i32) -> Result<Vec<Corner>, 
     let mut rising = Vec::with_capacity(alloc, count)?;
     let mut falling = Vec::with_capacity(alloc, count)?;
     for place in 0..count {
-        let (from, to) = cycle.edge(place);
+        let (from, to) = cycle.segment_ends(place);
         if from.y < to.y {
             push_side(&mut rising, from, to, weight)?;
         } else {

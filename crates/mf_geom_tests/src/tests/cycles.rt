@@ -50,7 +50,7 @@ fn assert_segments<R: Abort + AllocGlobal>(
     );
     for (place, ends) in segments.iter().enumerate() {
         if place < cycle.points().len() {
-            let (from, to) = cycle.edge(place);
+            let (from, to) = cycle.segment_ends(place);
             assert_same(
                 rt,
                 ((from.x, from.y), (to.x, to.y)),

@@ -15,7 +15,7 @@ pub(super) const EIGHT: Corners = &[(0, 0), (1, 0), (1, 2), (2, 2), (2, 1), (0, 
 /// The pixel (0, 0) with a spike to the right, two pixels long. The path turns straight back at vertex 1.
 pub(super) const SPIKE: Corners = &[(0, 0), (3, 0), (1, 0), (1, 1), (0, 1)];
 
-/// An edge there and back.
+/// A segment there and back.
 const THERE_AND_BACK: Corners = &[(0, 0), (1, 0)];
 
 /// The refusal of an operation for this fault of its cycle.

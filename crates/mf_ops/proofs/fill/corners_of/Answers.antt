@@ -12,12 +12,12 @@ loop-place-init c = rw (c.in_ok-rising.ensures.items, c.in_ok-falling.ensures.it
 pub push_side-requires : goal.push_side-requires
 push_side-requires c =
     let ps = c.args.cycle.now in
-    let cycle = c.edge.ensures.lawful in
+    let cycle = c.segment_ends.ensures.lawful in
     let weight_is : to_z w32 (of_z w32 c.args.weight) ≡ c.args.weight = omega (arith, ints) in
     let count_is = ap length c.points-count.ensures.points in
     let below : c.loop-place.place < length ps = omega (arith, count_is) in
     let ends = IsInRange-ends ps c.loop-place.place cycle below in
-    rw (c.edge.ensures.from, c.edge.ensures.to) record {
+    rw (c.segment_ends.ensures.from, c.segment_ends.ensures.to) record {
       corners = c.loop-place.invariant.firsts;
       segment = cycle.rectilinear c.loop-place.place below;
       from = ends.0;
@@ -28,12 +28,12 @@ push_side-requires c =
 pub push_side-requires-else-from-to : goal.push_side-requires-else-from-to
 push_side-requires-else-from-to c =
     let ps = c.args.cycle.now in
-    let cycle = c.edge.ensures.lawful in
+    let cycle = c.segment_ends.ensures.lawful in
     let weight_is : to_z w32 (of_z w32 c.args.weight) ≡ c.args.weight = omega (arith, ints) in
     let count_is = ap length c.points-count.ensures.points in
     let below : c.loop-place.place < length ps = omega (arith, count_is) in
     let ends = IsInRange-ends ps c.loop-place.place cycle below in
-    rw (c.edge.ensures.from, c.edge.ensures.to) record {
+    rw (c.segment_ends.ensures.from, c.segment_ends.ensures.to) record {
       corners = c.loop-place.invariant.seconds;
       segment = cycle.rectilinear c.loop-place.place below;
       from = ends.0;
@@ -53,11 +53,11 @@ loop-place-preserved c =
     rw weight_is (elim c.if-from-to.branch [
       | then-from-to+in_ok-push_side up ↦
           let side : HasSide w (segment_at ps n) rising up.push_side.new.corners.items =
-          rw (weight_is, c.edge.ensures.from, c.edge.ensures.to) at up.in_ok-push_side.ensures in
+          rw (weight_is, c.segment_ends.ensures.from, c.segment_ends.ensures.to) at up.in_ok-push_side.ensures in
           rw (up.rising-is, up.falling-is) (AreSides-first ps w n _ _ _ so_far side)
       | else-from-to+in_ok-push_side-2 down ↦
           let side : HasSide w (segment_at ps n) falling down.push_side-else-from-to.new.corners.items =
-          rw (weight_is, c.edge.ensures.from, c.edge.ensures.to) at down.in_ok-push_side-2.ensures in
+          rw (weight_is, c.segment_ends.ensures.from, c.segment_ends.ensures.to) at down.in_ok-push_side-2.ensures in
           rw (down.rising-is, down.falling-is) (AreSides-second ps w n _ _ _ so_far side)
     ])
 
