@@ -1,6 +1,6 @@
 use Rattle.std.proofs.Common.{◌≡◌, ◌∙◌, length, sym, arith}
 use Rattle.mf_text.proofs.Digits.{digits_end, number-found, number-long, number-more, number-whole}
-use Rattle.mf_text.proofs.tokens.number_at.Goals as goal
+use Rattle.mf_text.proofs.tokens.front.number_at.Goals as goal
 
 pub returns-then-not-is_ascii_digit : goal.returns-then-not-is_ascii_digit
 returns-then-not-is_ascii_digit c =

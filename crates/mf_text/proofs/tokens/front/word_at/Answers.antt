@@ -1,6 +1,6 @@
 use Rattle.std.proofs.Common.{sym, ◌∙◌, rules}
 use Rattle.mf_text.proofs.Found.{word_found}
-use Rattle.mf_text.proofs.tokens.word_at.Goals as goal
+use Rattle.mf_text.proofs.tokens.front.word_at.Goals as goal
 
 pub returns : goal.returns
 returns c =

@@ -1,6 +1,6 @@
 use Rattle.std.proofs.Common.{sym, ◌∙◌, rules}
 use Rattle.mf_text.proofs.Found.{mark_found}
-use Rattle.mf_text.proofs.tokens.mark_at.Goals as goal
+use Rattle.mf_text.proofs.tokens.front.mark_at.Goals as goal
 
 pub returns : goal.returns
 returns c =

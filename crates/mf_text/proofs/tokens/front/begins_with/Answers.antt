@@ -3,7 +3,7 @@ use Rattle.std.specs.List.{starts_with}
 use Rattle.std.proofs.lemmas.Bool.{eq-eqb, false_from_ne_true, ne_eqb}
 use Rattle.std.proofs.lemmas.List.{drop_more}
 use Rattle.mf_text.proofs.TokenTexts.{starts-drop}
-use Rattle.mf_text.proofs.tokens.begins_with.Goals as goal
+use Rattle.mf_text.proofs.tokens.front.begins_with.Goals as goal
 
 pub returns-then-text-written-clause-value : goal.returns-then-text-written-clause-value
 returns-then-text-written-clause-value c =

@@ -2,7 +2,7 @@ use Rattle.std.proofs.Common.{◌≡◌, ◌+◌, get_or, drop, true, sym, ap, �
 use Rattle.std.proofs.lemmas.List.{drop_more}
 use Rattle.mf_text.specs.Tokens.{is_blank, tokens_from}
 use Rattle.mf_text.proofs.LineTokens.{tokens-blank}
-use Rattle.mf_text.proofs.tokens.blanks_at.Goals as goal
+use Rattle.mf_text.proofs.tokens.front.blanks_at.Goals as goal
 
 pub loop-place-preserved : goal.loop-place-preserved
 loop-place-preserved c column =
