@@ -1,4 +1,5 @@
--- The greatest numbers that the options take. They stand here and in the code, so that a wrong number there is not proved.
+-- The greatest numbers that the options take, and the numbers where the words do not say. They stand here and in the code, so that a
+-- wrong number there is not proved.
 use Rattle.std.specs.Prelude.{ℕ}
 
 -- columns, and rows, of characters
@@ -19,3 +20,10 @@ greatest_design_size = 2047
 -- dots per inch
 abbrev pub greatest_resolution : ℕ
 greatest_resolution = 100000
+
+-- the columns and rows of characters where the words do not say
+abbrev pub default_columns : ℕ
+default_columns = 80
+
+abbrev pub default_rows : ℕ
+default_rows = 24

@@ -3,6 +3,7 @@ use Rattle.std.specs.Prelude.{◌≡◌, ◌≤◌, ◌&&◌, Bool, List, [], co
 use Rattle.clap.specs.Words.{Row, Text, fault_of, matches_of}
 use Rattle.mf_options.specs.Values.{file_in, has_flag, number_in}
 use Rattle.mf_view_words.specs.CommandLine.{mfview}
+use Rattle.mf_view_words.specs.Ranges.{default_columns, default_rows}
 use Rattle.mf_view_words.specs.Ranges.{greatest_columns, greatest_design_size, greatest_pause, greatest_resolution, greatest_rows}
 use Rattle.mf_view_words.specs.declared.words.Request.{Request}
 use Rattle.mf_view_words.specs.declared.words.Request.TheVariants.{Help, Show, Version}
@@ -18,8 +19,8 @@ IsCommandLine words = (fault_of mfview words ≡ []) × (lacks_plates (matches_o
 
 -- each value is what the words give, or the default
 pub record AreWords (found : List Row) (asked : Words) : Type 0 where
-  pub columns : asked.columns ≡ number_in found (codes "columns") 80
-  pub rows : asked.rows ≡ number_in found (codes "rows") 24
+  pub columns : asked.columns ≡ number_in found (codes "columns") default_columns
+  pub rows : asked.rows ≡ number_in found (codes "rows") default_rows
   pub pause : asked.pause ≡ number_in found (codes "pause") 0
   pub frames : asked.frames ≡ has_flag found (codes "frames")
   pub transcript : option_map string_bytes asked.transcript ≡ file_in found (codes "transcript")
