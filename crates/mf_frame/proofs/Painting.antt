@@ -1,5 +1,6 @@
 -- Runs painted on the cells of a window.
-use Rattle.std.proofs.Common.{◌≡◌, ◌≢◌, ◌≤◌, ◌<◌, ℕ, zero, suc, ◌+◌, ◌*◌, ℤ, pos, ◌+ℤ◌, ◌-ℤ◌, ◌*ℤ◌, ◌≤ℤ◌, ◌<ℤ◌, List, [], ◌∷◌, ◌++◌, length, get_or, set, refl, sym, ap, ◌∙◌, subst, arith, mul-le-mul_right, get_or-set_other, get_or-set_same}
+use Rattle.std.proofs.Common.{◌≡◌, ◌≢◌, ◌≤◌, ◌<◌, ℕ, zero, suc, ◌+◌, ◌*◌, ℤ, pos, ◌+ℤ◌, ◌-ℤ◌, ◌*ℤ◌, ◌≤ℤ◌, ◌<ℤ◌, List, [], ◌∷◌, ◌++◌, length}
+use Rattle.std.proofs.Common.{get_or, set, refl, sym, ap, ◌∙◌, subst, arith, mul-le-mul_right, get_or-set_other, get_or-set_same}
 use native.Mathlib.Nat.{suc-mul}
 use Rattle.std.specs.Int.RustNames.{unsigned_abs}
 use Rattle.std.specs.List.{flat_map}
@@ -15,7 +16,8 @@ use Rattle.mf_rows.proofs.PassedRuns.{ArePassedDots, next_is_lawful, none_passed
 use Rattle.mf_frame.specs.declared.shade.Shade.{Shade}
 use Rattle.mf_frame.specs.declared.shade.Shade.TheVariants.{Blank}
 use Rattle.mf_frame.specs.declared.window.Window.{Window}
-use Rattle.mf_frame.specs.Cells.{cell_of, cell_shade, darker, shade_of, place_in, shade_in, IsCellOf, AreCells, AreDarkened, ArePainted, IsRunInWindow, AreInWindow}
+use Rattle.mf_frame.specs.Cells.{Darkening, cell_of, cell_shade, darker, shade_of, place_in, shade_in, IsCellOf, AreCells, AreDarkened}
+use Rattle.mf_frame.specs.Cells.{ArePainted, IsRunInWindow, AreInWindow}
 use Rattle.mf_frame.specs.Windows.{IsWindow}
 use Rattle.mf_frame.proofs.Darkness.{IsInCell, by_place, darker-blank, shade-append, shade-none, stretch-inside, stretch-outside}
 use Rattle.mf_frame.proofs.Floors.{cell-le}
@@ -23,15 +25,16 @@ use Rattle.mf_frame.proofs.Floors.{cell-le}
 -- ---- a stretch of places
 
 -- the places from start on up to this one are darkened
-pub record AreDarkenedTo (start end : ℕ) (shade : Shade) (old : List Shade) (place : ℕ) (new : List Shade) : Type 0 where
-  pub from : start ≤ place
-  pub to : place ≤ end
-  pub so_far : AreDarkened start place shade old new
+pub record AreDarkenedTo (d : Darkening) (old : List Shade) (place : ℕ) (new : List Shade) : Type 0 where
+  pub from : d.start ≤ place
+  pub to : place ≤ d.end
+  pub so_far : AreDarkened (record d { end = place }) old new
 
-pub darkened_more : (start end : ℕ) (shade : Shade) (old : List Shade) (place : ℕ) (shades new : List Shade) → place < end → end ≤ length old
-    → new ≡ set shades place (darker (get_or shades place Blank) shade) → length new ≡ length shades
-    → AreDarkenedTo start end shade old place shades → AreDarkenedTo start end shade old (place + 1) new
-darkened_more start end shade old place shades new more room written kept so_far =
+pub darkened_more : (d : Darkening) (old : List Shade) (place : ℕ) (shades new : List Shade) → place < d.end → d.end ≤ length old
+    → new ≡ set shades place (darker (get_or shades place Blank) d.shade) → length new ≡ length shades
+    → AreDarkenedTo d old place shades → AreDarkenedTo d old (place + 1) new
+darkened_more d old place shades new more room written kept so_far =
+    let shade = d.shade in
     let done = so_far.so_far in
     let within : place < length shades = omega (arith, done.count) in
     let other : (k : ℕ) → k ≢ place → get_or new k Blank ≡ get_or shades k Blank =
@@ -70,6 +73,10 @@ run_start w r = place_in w (cell_of w.scale r.x) (cell_of w.scale r.y)
 abbrev pub run_end : Window → Run → ℕ
 run_end w r = place_in w (cell_of w.scale ((r.x +ℤ pos r.len) -ℤ pos 1)) (cell_of w.scale r.y) + 1
 
+-- those places, with the shade of the run
+abbrev pub darkening_of : Window → Run → Darkening
+darkening_of w r = record { start = run_start w r; end = run_end w r; shade = shade_of r.weight }
+
 -- the run gives no shade to a cell that it does not reach
 unreached : (w : Window) (r : Run) (old new : List Shade) (i j : ℤ) → get_or new (place_in w i j) Blank ≡ get_or old (place_in w i j) Blank
     → cell_shade w.scale (dots_of r) i j ≡ Blank → shade_in w new i j ≡ darker (shade_in w old i j) (cell_shade w.scale (dots_of r) i j)
@@ -96,7 +103,7 @@ within_run w r i j positive run row left right = inside_run w.scale r.y r.x r.we
 
 -- a cell in the run's row
 in_row : (w : Window) (r : Run) (old new : List Shade) (i : ℤ) → IsWindow w → IsRunInWindow w r → IsCellOf w i (cell_of w.scale r.y)
-    → AreDarkened (run_start w r) (run_end w r) (shade_of r.weight) old new
+    → AreDarkened (darkening_of w r) old new
     → get_or new (place_in w i (cell_of w.scale r.y)) Blank
     ≡ darker (get_or old (place_in w i (cell_of w.scale r.y)) Blank) (cell_shade w.scale (dots_of r) i (cell_of w.scale r.y))
 unfolding shade_in
@@ -124,7 +131,7 @@ in_row w r old new i window within cell dark =
 
 -- a cell is left of the run, right of it, above it, below it, or in it
 painted_cell : (w : Window) (r : Run) (old new : List Shade) (i j : ℤ) → IsWindow w → IsRunInWindow w r → IsCellOf w i j
-    → AreDarkened (run_start w r) (run_end w r) (shade_of r.weight) old new
+    → AreDarkened (darkening_of w r) old new
     → shade_in w new i j ≡ darker (shade_in w old i j) (cell_shade w.scale (dots_of r) i j)
 unfolding shade_in
 painted_cell w r old new i j window within cell dark =
@@ -147,7 +154,7 @@ painted_cell w r old new i j window within cell dark =
     rw same (in_row w r old new i window within (rw same at cell) dark)))
 
 pub painted : (w : Window) (r : Run) (old new : List Shade) → IsWindow w → IsRunInWindow w r
-    → AreDarkened (run_start w r) (run_end w r) (shade_of r.weight) old new → ArePainted w r old new
+    → AreDarkened (darkening_of w r) old new → ArePainted w r old new
 painted w r old new window within dark = record { count = dark.count; cells = λ i j cell. painted_cell w r old new i j window within cell dark }
 
 -- ---- all runs

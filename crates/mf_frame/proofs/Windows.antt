@@ -47,13 +47,20 @@ window_of_field b s box positive =
       lines = line-le (cell_of s b.min_y) (cell_of s b.max_y) (cell-le s b.min_y b.max_y positive box.rows);
     }
 
--- what the code computes of a window
-pub record AreWindowValues (b : Box4) (s column last line highest : ℤ) : Type 0 where
+-- the first and the last column and line that the code computes of a window
+pub record WindowEnds : Type 0 where
+  pub column : ℤ
+  pub last_column : ℤ
+  pub line : ℤ
+  pub last_line : ℤ
+
+-- they are those of the window of a box
+pub record AreWindowEnds (b : Box4) (s : ℤ) (ends : WindowEnds) : Type 0 where
   pub field : IsWindowOfField b s
-  pub left : column ≡ cell_of s b.min_x
-  pub right : last ≡ cell_of s b.max_x
-  pub bottom : line ≡ line_of (cell_of s b.min_y)
-  pub top : highest ≡ line_of (cell_of s b.max_y)
+  pub left : ends.column ≡ cell_of s b.min_x
+  pub right : ends.last_column ≡ cell_of s b.max_x
+  pub bottom : ends.line ≡ line_of (cell_of s b.min_y)
+  pub top : ends.last_line ≡ line_of (cell_of s b.max_y)
 
 -- a number of the field stays itself as a value of 32 bits
 stays : (p : ℤ) → least_coordinate ≤ℤ p → p ≤ℤ greatest_coordinate → to_z w32 (of_z w32 p) ≡ p
@@ -71,11 +78,12 @@ line_value j c l field same computed =
     let row = stays j field.least (omega (arith, ints, field.greatest)) in
     rw (same, row) at computed
 
-pub window_values : (b : Box4) (s left right low high bottom top : ℤ) → IsBoxOfField b → IsScale s
+pub window_ends : (b : Box4) (s left right low high bottom top : ℤ) → IsBoxOfField b → IsScale s
     → left ≡ cell_of (to_z w32 (of_z w32 s)) (to_z w32 (of_z w32 b.min_x)) → right ≡ cell_of (to_z w32 (of_z w32 s)) (to_z w32 (of_z w32 b.max_x))
     → low ≡ cell_of (to_z w32 (of_z w32 s)) (to_z w32 (of_z w32 b.min_y)) → high ≡ cell_of (to_z w32 (of_z w32 s)) (to_z w32 (of_z w32 b.max_y))
-    → bottom ≡ line_of (to_z w32 (of_z w32 low)) → top ≡ line_of (to_z w32 (of_z w32 high)) → AreWindowValues b s left right bottom top
-window_values b s left right low high bottom top box scale at_left at_right at_low at_high at_bottom at_top =
+    → bottom ≡ line_of (to_z w32 (of_z w32 low)) → top ≡ line_of (to_z w32 (of_z w32 high))
+    → AreWindowEnds b s (record { column = left; last_column = right; line = bottom; last_line = top })
+window_ends b s left right low high bottom top box scale at_left at_right at_low at_high at_bottom at_top =
     let field = window_of_field b s box scale.least in
     let first_row = cell_value s b.min_y low scale box.bottom (omega (arith, ints, box.rows, box.top)) at_low in
     let last_row = cell_value s b.max_y high scale (omega (arith, ints, box.rows, box.bottom)) box.top at_high in
@@ -87,18 +95,26 @@ window_values b s left right low high bottom top box scale at_left at_right at_l
       top = line_value (cell_of s b.max_y) high top field.last_row last_row at_top;
     }
 
-pub same_window : (b : Box4) (s column last line highest : ℤ) (columns lines : ℕ) → IsScale s → AreWindowValues b s column last line highest
-    → columns ≡ extent (to_z w32 (of_z w32 column)) (to_z w32 (of_z w32 last)) → lines ≡ extent (to_z w32 (of_z w32 line)) (to_z w32 (of_z w32 highest))
-    → (record { scale = to_z w32 (of_z w32 s); column = to_z w32 (of_z w32 column); columns = columns; line = to_z w32 (of_z w32 line); lines = lines })
-    ≡ window_at b s
+pub same_window : (b : Box4) (s : ℤ) (ends : WindowEnds) (columns lines : ℕ) → IsScale s → AreWindowEnds b s ends
+    → columns ≡ extent (to_z w32 (of_z w32 ends.column)) (to_z w32 (of_z w32 ends.last_column))
+    → lines ≡ extent (to_z w32 (of_z w32 ends.line)) (to_z w32 (of_z w32 ends.last_line))
+    → (record {
+      scale = to_z w32 (of_z w32 s);
+      column = to_z w32 (of_z w32 ends.column);
+      columns = columns;
+      line = to_z w32 (of_z w32 ends.line);
+      lines = lines;
+    }) ≡ window_at b s
 unfolding window_at
-same_window b s column last line highest columns lines scale v wide high =
+same_window b s ends columns lines scale v wide high =
     let factor = stays s (omega (arith, ints, scale.least)) scale.greatest in
-    let left : to_z w32 (of_z w32 column) ≡ cell_of s b.min_x = omega (arith, ints, v.left, v.field.first_column.least, v.field.first_column.greatest) in
-    let right : to_z w32 (of_z w32 last) ≡ cell_of s b.max_x = omega (arith, ints, v.right, v.field.last_column.least, v.field.last_column.greatest) in
-    let bottom : to_z w32 (of_z w32 line) ≡ line_of (cell_of s b.min_y) =
+    let left : to_z w32 (of_z w32 ends.column) ≡ cell_of s b.min_x = omega (arith, ints, v.left, v.field.first_column.least, v.field.first_column.greatest) in
+    let right : to_z w32 (of_z w32 ends.last_column) ≡ cell_of s b.max_x =
+    omega (arith, ints, v.right, v.field.last_column.least, v.field.last_column.greatest) in
+    let bottom : to_z w32 (of_z w32 ends.line) ≡ line_of (cell_of s b.min_y) =
     omega (arith, ints, v.bottom, v.field.first_line.least, v.field.first_line.greatest) in
-    let top : to_z w32 (of_z w32 highest) ≡ line_of (cell_of s b.max_y) = omega (arith, ints, v.top, v.field.last_line.least, v.field.last_line.greatest) in
+    let top : to_z w32 (of_z w32 ends.last_line) ≡ line_of (cell_of s b.max_y) =
+    omega (arith, ints, v.top, v.field.last_line.least, v.field.last_line.greatest) in
     let width = rw (left, right) at wide in
     let height = rw (bottom, top) at high in
     λ i. record { scale = factor i; column = left i; columns = width i; line = bottom i; lines = height i }
@@ -252,15 +268,20 @@ found_cell s p r scale least greatest computed =
     rw value (stays (cell_of s p) field.least (omega (arith, ints, field.greatest)))
 
 -- the cells that the code finds of the row of a run, and of its first and last column
-pub record AreFoundCells (s : ℤ) (run : Run) (row first last : ℤ) : Type 0 where
-  pub row_is : to_z w32 (of_z w32 row) ≡ cell_of s run.y
-  pub first_is : to_z w32 (of_z w32 first) ≡ cell_of s run.x
-  pub last_is : to_z w32 (of_z w32 last) ≡ cell_of s ((run.x +ℤ pos run.len) -ℤ pos 1)
+pub record FoundCells : Type 0 where
+  pub row : ℤ
+  pub first : ℤ
+  pub last : ℤ
+
+pub record AreFoundCells (s : ℤ) (run : Run) (found : FoundCells) : Type 0 where
+  pub row_is : to_z w32 (of_z w32 found.row) ≡ cell_of s run.y
+  pub first_is : to_z w32 (of_z w32 found.first) ≡ cell_of s run.x
+  pub last_is : to_z w32 (of_z w32 found.last) ≡ cell_of s ((run.x +ℤ pos run.len) -ℤ pos 1)
 
 pub found_cells : (s : ℤ) (run : Run) (row first last : ℤ) → IsScale s → IsRun run
     → row ≡ cell_of (to_z w32 (of_z w32 s)) (to_z w32 (of_z w32 run.y)) → first ≡ cell_of (to_z w32 (of_z w32 s)) (to_z w32 (of_z w32 run.x))
     → last ≡ cell_of (to_z w32 (of_z w32 s)) (to_z w32 (of_z w32 (to_z w32 (of_z w32 run.x) +ℤ to_z w32 (run.len - 1))))
-    → AreFoundCells s run row first last
+    → AreFoundCells s run (record { row = row; first = first; last = last })
 found_cells s run row first last scale r row_computed first_computed last_computed =
     let end : to_z w32 (of_z w32 run.x) +ℤ to_z w32 (run.len - 1) ≡ (run.x +ℤ pos run.len) -ℤ pos 1 = omega (arith, ints, r.some, r.left, r.right) in
     record {

@@ -1,6 +1,7 @@
 -- Cells of a picture, and their shades. The cell (i, j) at scale s is the square of the pixels whose columns are s * i to
 -- s * i + s - 1, and whose rows are s * j to s * j + s - 1.
-use Rattle.std.specs.Prelude.{◌≡◌, ◌<◌, ◌≤◌, ℕ, ◌+◌, ◌*◌, ◌&&◌, Bool, ℤ, pos, ◌+ℤ◌, ◌-ℤ◌, ◌*ℤ◌, ◌≤ℤ◌, ◌<ℤ◌, int_lt, nat_lt, List, [], ◌∷◌, length, get_or, if◌then◌else◌}
+use Rattle.std.specs.Prelude.{◌≡◌, ◌<◌, ◌≤◌, ℕ, ◌+◌, ◌*◌, ◌&&◌, Bool, ℤ, pos, ◌+ℤ◌, ◌-ℤ◌, ◌*ℤ◌, ◌≤ℤ◌, ◌<ℤ◌, int_lt, nat_lt, List}
+use Rattle.std.specs.Prelude.{[], ◌∷◌, length, get_or, if◌then◌else◌}
 use Rattle.std.specs.Int.{int_div_euclid}
 use Rattle.std.specs.Int.RustNames.{unsigned_abs}
 use Rattle.std.specs.List.{All}
@@ -67,12 +68,18 @@ pub record AreCells (w : Window) (ds : List Dot) (shades : List Shade) : Type 0 
   pub count : length shades ≡ 2 * w.lines * w.columns
   pub cells : (i j : ℤ) → IsCellOf w i j → shade_in w shades i j ≡ cell_shade w.scale ds i j
 
--- the shades are as before, but those of the places from .. to - 1 are at least as dark as this shade
-pub record AreDarkened (start end : ℕ) (shade : Shade) (old new : List Shade) : Type 0 where
+-- the places from start to end - 1, and a shade for them
+pub record Darkening : Type 0 where
+  pub start : ℕ
+  pub end : ℕ
+  pub shade : Shade
+
+-- the shades are as before, but those of these places are at least as dark as the shade for them
+pub record AreDarkened (d : Darkening) (old new : List Shade) : Type 0 where
   pub count : length new ≡ length old
-  pub inside : (k : ℕ) → start ≤ k → k < end → get_or new k Blank ≡ darker (get_or old k Blank) shade
-  pub before : (k : ℕ) → k < start → get_or new k Blank ≡ get_or old k Blank
-  pub after : (k : ℕ) → end ≤ k → get_or new k Blank ≡ get_or old k Blank
+  pub inside : (k : ℕ) → d.start ≤ k → k < d.end → get_or new k Blank ≡ darker (get_or old k Blank) d.shade
+  pub before : (k : ℕ) → k < d.start → get_or new k Blank ≡ get_or old k Blank
+  pub after : (k : ℕ) → d.end ≤ k → get_or new k Blank ≡ get_or old k Blank
 
 -- the cells of a window are as before, but those of a run are at least as dark as its shade
 pub record ArePainted (w : Window) (r : Run) (old new : List Shade) : Type 0 where

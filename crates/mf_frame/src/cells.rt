@@ -59,7 +59,7 @@ fn place_in(window: &Window, column: i32, row: i32) -> usize
 fn darken(shades: &mut Vec<Shade>, start: usize, end: usize, shade: Shade)
     requires order { start ≤ end }
     requires end { end ≤ length shades.old.items }
-    ensures { AreDarkened start end shade shades.old.items shades.new.items }
+    ensures { AreDarkened (record { start = start; end = end; shade = shade }) shades.old.items shades.new.items }
 {
     for place in start..end {
         shades[place] = shades[place].max(shade);

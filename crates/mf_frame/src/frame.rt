@@ -4,7 +4,8 @@ ghost use Rattle.mf_rows.specs.Bounds.{IsLeastBox};
 ghost use Rattle.mf_show.specs.Boxes.{IsBoxOfField};
 ghost use Rattle.mf_frame.specs.Canvases.{picture_lines};
 ghost use Rattle.mf_frame.specs.Cells.{shade_in};
-ghost use Rattle.mf_frame.specs.Frames.{blank_frame, box_frame, empty_lines, frame_text, heading, measures, empty_lines_above, range, window_line, window_lines};
+ghost use Rattle.mf_frame.specs.Frames.{blank_frame, box_frame, empty_lines, frame_text, heading, measures, empty_lines_above, range};
+ghost use Rattle.mf_frame.specs.Frames.{window_line, window_lines};
 ghost use Rattle.mf_frame.specs.declared.tile.Style.TheVariants.{Colored};
 ghost use Rattle.mf_frame.specs.Windows.{IsWindow, scale_of, window_at};
 

@@ -12,4 +12,4 @@ loop-place-preserved c =
     let within : c.loop-place.place < length c.loop-place.shades.items = omega (arith, c.loop-place-test.true, c.requires.end, so_far.so_far.count) in
     let here = c.index.ensures ∙ get_or_default c.loop-place.shades.items c.loop-place.place c.index.result.now Blank within in
     let shade = c.max.ensures ∙ max-darker c.index.result.now c.args.shade ∙ ap (λ s. darker s c.args.shade) here in
-    rw shade (darkened_more _ _ _ _ _ _ _ c.loop-place-test.true c.requires.end refl (length-set c.loop-place.shades.items c.loop-place.place _) so_far)
+    rw shade (darkened_more _ _ _ _ _ c.loop-place-test.true c.requires.end refl (length-set c.loop-place.shades.items c.loop-place.place _) so_far)

@@ -1,29 +1,37 @@
 use Rattle.std.proofs.Common.{◌≡◌, to_z, of_z, w32, arith}
 use Rattle.std.proofs.lemmas.Int.{ints}
 use Rattle.mf_frame.proofs.Painting.{painted, start_before_end}
-use Rattle.mf_frame.proofs.Windows.{found_cells}
+use Rattle.mf_frame.proofs.Windows.{AreFoundCells, found_cells}
+use Rattle.mf_frame.proofs.cells.paint.Goals.{After-cell_of-last}
 use Rattle.mf_frame.proofs.cells.paint.Goals as goal
+
+found : (c : After-cell_of-last) → AreFoundCells c.args.window.now.scale c.args.run.now (record {
+  row = c.cell_of-row.result;
+  first = c.cell_of-first.result;
+  last = c.cell_of-last.result;
+})
+found c = found_cells _ _ _ _ _ c.requires.window.scale c.requires.run.run c.cell_of-row.ensures c.cell_of-first.ensures c.cell_of-last.ensures
 
 pub place_in-start-requires-clause-cell : goal.place_in-start-requires-clause-cell
 place_in-start-requires-clause-cell c =
-    let cells = found_cells _ _ _ _ _ c.requires.window.scale c.requires.run.run c.cell_of-row.ensures c.cell_of-first.ensures c.cell_of-last.ensures in
+    let cells = found (goal.at.place_in-start-requires-clause-cell c).After-cell_of-last in
     rw (cells.row_is, cells.first_is) c.requires.run.first
 
 pub place_in-end-requires-clause-cell : goal.place_in-end-requires-clause-cell
 place_in-end-requires-clause-cell c =
-    let cells = found_cells _ _ _ _ _ c.requires.window.scale c.requires.run.run c.cell_of-row.ensures c.cell_of-first.ensures c.cell_of-last.ensures in
+    let cells = found (goal.at.place_in-end-requires-clause-cell c).After-cell_of-last in
     rw (cells.row_is, cells.last_is) c.requires.run.last
 
 pub darken-requires-clause-order : goal.darken-requires-clause-order
 darken-requires-clause-order c =
-    let cells = found_cells _ _ _ _ _ c.requires.window.scale c.requires.run.run c.cell_of-row.ensures c.cell_of-first.ensures c.cell_of-last.ensures in
+    let cells = found (goal.at.darken-requires-clause-order c).After-cell_of-last in
     let start = rw (cells.row_is, cells.first_is) at c.place_in-start.ensures.value in
     let end = rw (cells.row_is, cells.last_is) at c.place_in-end.ensures.value in
     rw (start, end) (start_before_end _ _ c.requires.window c.requires.run)
 
 pub returns : goal.returns
 returns c =
-    let cells = found_cells _ _ _ _ _ c.requires.window.scale c.requires.run.run c.cell_of-row.ensures c.cell_of-first.ensures c.cell_of-last.ensures in
+    let cells = found (goal.at.returns c).After-cell_of-last in
     let start = rw (cells.row_is, cells.first_is) at c.place_in-start.ensures.value in
     let end = rw (cells.row_is, cells.last_is) at c.place_in-end.ensures.value in
     let lawful = c.requires.run.run.lawful in
