@@ -99,7 +99,11 @@ some_answer limits s line =
     elim (text.some_answer line) [
       | inl (given, gives) ↦ (let
           (printed, t, answer) = command_some limits s given in (printed, t, inl (record { command = given; given = gives; answer = answer })))
-      | inr (fault, printable, refused) ↦ (refusal_line (Line fault), s, inr (record { fault = fault; printable = printable; refused = refused; answer = (refl, refl) }))
+      | inr (fault, printable, refused) ↦ (
+        refusal_line (Line fault),
+        s,
+        inr (record { fault = fault; printable = printable; refused = refused; answer = (refl, refl) }),
+      )
     ]
 
 perform_some : (limits : Limits) (s : State) (more : List (List ℕ)) → (text : List ℕ) × (t : State) × Perform limits s more text t

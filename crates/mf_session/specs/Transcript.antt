@@ -27,8 +27,12 @@ pub record IsFirstText (d : Due) (last : State) (written : List ℕ) : Type 0 wh
   pub first : d.whole ≡ done ++ more
   pub performed : Perform d.limits d.from done written last
 
+-- this is the text of these lines, which are performed from the start on
+pub record IsTextOf (limits : Limits) (whole : List (List ℕ)) (text : List ℕ) : Type 0 where
+  pub last : State
+  pub performed : Perform limits start whole text last
+
 -- the transcript of the bytes of a script; a line ends at a line feed, a carriage return directly before that is not part of the
 -- line, and bytes after the last line feed are a line
-pub record IsTranscript (limits : Limits) (input text : List ℕ) : Type 0 where
-  pub last : State
-  pub performed : Perform limits start (lines input) text last
+abbrev pub IsTranscript : Limits → List ℕ → List ℕ → Type 0
+IsTranscript limits input text = IsTextOf limits (lines input) text

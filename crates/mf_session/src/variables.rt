@@ -155,7 +155,8 @@ impl Variables {
         op: Op,
     ) -> Result<Vec<u8>, OutOfMemory>
         requires { number < register_count }
-        ensures answer { IfOk result (λ text. OperatesOn (max_ops self.old) (pictures self.old) (on (names.Register number) op) text.items (pictures self.new)) }
+        ensures answer { IfOk result (λ text. OperatesOn (max_ops self.old) (pictures self.old)
+            (on (names.Register number) op) text.items (pictures self.new)) }
         ensures unchanged { OnErr result (pictures self.new ≡ pictures self.old) }
         ensures clears { op ≡ ops.Clear → IsOk result }
         ensures max_ops { max_ops self.new ≡ max_ops self.old }
