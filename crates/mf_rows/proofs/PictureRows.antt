@@ -49,6 +49,8 @@ weight_at-row rs r x rows there =
 pub weight_at-other_rows : (rs : List EdgeRow) (x y : ℤ) → AreRows rs → All (λ r. r.y ≢ y) rs → weight_at (picture_of_rows rs) x y ≡ pos 0
 weight_at-other_rows rs x y rows others = weight_at-picture_of_rows rs x y rows ∙ weight_in_rows-none rs x y others
 
+pub ruleset weights_of_rows = (lawful_picture_of_rows, weight_at-picture_of_rows, weight_at-row, weight_at-other_rows)
+
 -- ---- two pictures together
 
 -- rows with weights that are those of an operation on pictures represent its picture

@@ -31,7 +31,8 @@ pub strip_place : {s : Stretch} {y : ℤ} → to_z w32 (of_z w32 s.offset) ≡ s
 strip_place {s = s} {y = y} offset stretch bottom top inside =
     let y_is : to_z w32 (of_z w32 y) ≡ y = omega (arith, ints) in
     let factor_is : to_z w32 (of_z w32 s.factor) ≡ s.factor = omega (arith, ints) in
-    let fits = fits_signed_mul w32 y s.factor (unsigned_abs greatest_coordinate) (unsigned_abs greatest_coordinate) (omega (arith, ints)) (omega (arith, ints)) (omega arith) in
+    let most = unsigned_abs greatest_coordinate in
+    let fits = fits_signed_mul w32 y s.factor most most (omega (arith, ints)) (omega (arith, ints)) (omega arith) in
     record {
       fits = rw (y_is, factor_is) fits;
       product = rw (y_is, factor_is) (to_z-of_z w32 _ fits);

@@ -213,3 +213,5 @@ rows_of-dots f y (suc n) bottom top =
 pub picture_of-dots : (f : ℤ → ℤ → ℤ) → All (IsDotOf f) (picture_of f)
 unfolding picture_of
 picture_of-dots f = rows_of-dots f last_in_field field_size (omega (arith, ints)) (omega (arith, ints))
+
+pub ruleset given_weights = (weight_at-picture_of, lawful_picture_of)

@@ -29,6 +29,7 @@ pub fn runs_are_as_long_as_can_be()
 {}
 
 /// The picture of given weights has them at each pixel of the field, and is a picture where they are lawful.
+#[tactic(auto, using(crate::proofs::WeightsLemmas::given_weights))]
 pub fn picture_has_its_weights()
     ensures weights { (f : ℤ → ℤ → ℤ) (x y : ℤ) → IsInField x y → weight_at (picture_of f) x y ≡ f x y }
     ensures lawful { (f : ℤ → ℤ → ℤ) → ((x y : ℤ) → IsInField x y → IsLawfulWeight (f x y)) → IsPicture (picture_of f) }
@@ -58,6 +59,7 @@ pub fn same_weights_make_same_pictures()
 
 /// Rows of edges (mf.web, "edge structures") represent a picture. The weight of a pixel is the sum of the edges of its
 /// row at or to the left of its column, and pixels of other rows have weight 0.
+#[tactic(auto, using(crate::proofs::PictureRows::weights_of_rows))]
 pub fn weight_is_the_sum_of_edges()
     ensures lawful { (rs : List EdgeRow) → AreRows rs → IsPicture (picture_of_rows rs) }
     ensures edges { (rs : List EdgeRow) (x y : ℤ) → AreRows rs → weight_at (picture_of_rows rs) x y ≡ weight_in_rows rs x y }
