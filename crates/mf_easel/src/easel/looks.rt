@@ -3,7 +3,8 @@ ghost use Rattle.std.specs.Prelude.{◌≡◌, ◌⊎◌, None, Some, true, IfEr
 ghost use Rattle.mf_live.specs.Entries.{is_closed, pic, rev};
 ghost use Rattle.mf_live.specs.Sheets.{HasLooked, sheet_picture, sheet_revision};
 ghost use Rattle.mf_live.specs.Viewers as viewers;
-ghost use Rattle.mf_easel.specs.Easels.{HasLookedLast, HasSameManner, IsLastNotDrawn, IsNotDrawn, canvas_of, drawing_of, drawing_with, identity, looked_at_list, revision_of, style_of, viewer_of};
+ghost use Rattle.mf_easel.specs.Easels.{HasLookedLast, HasSameManner, IsLastNotDrawn, IsNotDrawn, canvas_of, drawing_of, drawing_with};
+ghost use Rattle.mf_easel.specs.Easels.{identity, looked_at_list, revision_of, style_of, viewer_of};
 ghost use Rattle.mf_easel.specs.Screens.{GetsFrame, GetsNoMore, IsAbove, new_revision, over, screen_of};
 
 use super::Easel;
