@@ -4,16 +4,13 @@
 ghost use Rattle.mf_rows.specs.Corners.{AreCorners};
 ghost use Rattle.std.specs.Prelude.{IfOk};
 
-use super::derived::Derived;
-use super::moves::{assert_stays_inside, stretch};
 use super::rectangle_sums::slow_form_of;
 use super::rectangles::{Rectangle, corners_of, make_rectangle};
-use super::slow::{SlowPicture, both_forms};
-use super::{assert_equality, copy_of, made, make_run, picture_of};
+use super::slow::SlowPicture;
+use super::{copy_of, picture_of};
 use crate::tests::assertions::assert_same;
 use mf_base::OutOfMemory;
-use mf_edges::Stretch;
-use mf_rows::{AddFault, Corner, Picture};
+use mf_rows::{Corner, Picture};
 use std::alloc::Global;
 use std::process::Abort;
 
@@ -41,6 +38,8 @@ macro_rules! comb_of {
         }
     };
 }
+
+mod apart;
 
 /// The area in which all combs lie. It crosses borders between bands, one of which is between groups: row -2 is the first of a group.
 const AREA: [Rectangle; 1] = [Rectangle {
@@ -251,41 +250,6 @@ fn contours_cancel_long_rows(rt: HostRuntime) {
     assert_drawn(&rt, &CANCELLED);
 }
 
-/// A contour that cancels all but thirty teeth of the long rows.
-const MOST: Comb = comb_of!(0, 2, 90, -2, 1, -1);
-
-/// Contours that cancel the other teeth, one row after another.
-const REST: [Comb; 3] = [
-    comb_of!(180, 2, 30, 0, 1, -1),
-    comb_of!(180, 2, 30, -2, -1, -1),
-    comb_of!(180, 2, 30, -1, 0, -1),
-];
-
-/// The picture in which those teeth are left: a sum, which has its rows in the place of long ones, since one of the two pictures does. As
-/// many edges may be kept apart from them as from those of either picture: 192.
-fn mostly_cancelled<R: Abort + AllocGlobal>(rt: &R) -> Drawing {
-    Drawing::of(rt, &[LONG]).with(rt, &Drawing::of(rt, &[MOST]))
-}
-
-/// A picture of which nothing is left. The contours that cancel the last teeth have 180 edges, so they stay apart.
-fn cancelled<R: Abort + AllocGlobal>(rt: &R) -> Drawing {
-    let mut drawing = mostly_cancelled(rt);
-    for comb in &REST {
-        drawing.draw(rt, comb);
-    }
-    drawing
-}
-
-#[test]
-fn contours_apart_cancel_rows(rt: HostRuntime) {
-    let mut drawing = mostly_cancelled(&rt);
-    drawing.assert_answers(&rt, 0);
-    for (case, comb) in REST.iter().enumerate() {
-        drawing.draw(&rt, comb);
-        drawing.assert_answers(&rt, case.wrapping_add(1));
-    }
-}
-
 /// Long rows and contours apart from them. The first two contours reach long rows and change or cancel their edges; row 0 has none of
 /// them. The others are in rows of their own, above and below the long ones.
 pub(crate) const APART: [Comb; 5] = [
@@ -311,191 +275,3 @@ pub(crate) const OTHERS: [Comb; 2] = [
 
 /// A contour that is added later.
 pub(crate) const LAST: Comb = comb_of!(2, 2, 6, -3, 1, 1);
-
-/// Asserts that what is made from a picture is what is made from another one, which has the same weights.
-fn assert_makes_equal<R: Abort + AllocGlobal>(rt: &R, picture: &Picture, other: &Picture) {
-    for how in Derived::ALL {
-        let one = made(rt, how.of(rt.alloc(), picture));
-        let same = made(rt, how.of(rt.alloc(), other));
-        assert_equality(rt, &one, &same, true, how);
-    }
-}
-
-#[test]
-fn pictures_are_made_from_contours_apart(rt: HostRuntime) {
-    let drawing = Drawing::of(&rt, &APART);
-    assert_makes_equal(&rt, &drawing.picture, &drawing.settled(&rt));
-    drawing.assert_answers(&rt, 0);
-}
-
-#[test]
-fn pictures_are_made_from_nothing_that_is_left(rt: HostRuntime) {
-    let drawing = cancelled(&rt);
-    assert_makes_equal(&rt, &drawing.picture, &Picture::blank(rt.alloc()));
-    drawing.assert_answers(&rt, 0);
-}
-
-/// Asserts that a picture is stretched as another one, which has the same weights.
-fn assert_stretched<R: Abort + AllocGlobal>(
-    rt: &R,
-    picture: &Picture,
-    other: &Picture,
-    columns: &Stretch,
-    rows: &Stretch,
-) {
-    assert_stays_inside(rt, picture, columns, rows);
-    let one = made(rt, picture.stretch(rt.alloc(), columns, rows));
-    assert_stays_inside(rt, other, columns, rows);
-    let same = made(rt, other.stretch(rt.alloc(), columns, rows));
-    assert_equality(rt, &one, &same, true, (*columns, *rows));
-}
-
-#[test]
-fn contours_apart_are_stretched(rt: HostRuntime) {
-    let drawing = Drawing::of(&rt, &APART);
-    let settled = drawing.settled(&rt);
-    for (columns, rows) in [
-        (stretch(3, -1), stretch(2, 5)),
-        (stretch(1, 0), stretch(1, -7)),
-    ] {
-        assert_stretched(&rt, &drawing.picture, &settled, &columns, &rows);
-    }
-    drawing.assert_answers(&rt, 0);
-}
-
-/// Asserts the sum of two pictures, to which a contour is added then. Neither of the two changes.
-fn assert_added<R: Abort + AllocGlobal>(rt: &R, left: &Drawing, right: &Drawing) {
-    let mut sum = left.with(rt, right);
-    sum.assert_answers(rt, 0);
-    sum.draw(rt, &LAST);
-    sum.assert_answers(rt, 1);
-    left.assert_answers(rt, 2);
-    right.assert_answers(rt, 3);
-}
-
-#[test]
-fn contours_apart_are_added(rt: HostRuntime) {
-    let (one, other) = (Drawing::of(&rt, &APART), Drawing::of(&rt, &OTHERS));
-    assert_added(&rt, &one, &other);
-    assert_added(&rt, &other, &one);
-    assert_added(&rt, &one, &one);
-    let none = cancelled(&rt);
-    assert_added(&rt, &one, &none);
-    assert_added(&rt, &none, &one);
-}
-
-#[test]
-fn contours_apart_are_added_to_settled_rows(rt: HostRuntime) {
-    let one = Drawing::of(&rt, &APART);
-    let mut other = Drawing::of(&rt, &OTHERS);
-    other.picture = other.settled(&rt);
-    assert_added(&rt, &one, &other);
-    assert_added(&rt, &other, &one);
-}
-
-/// Asserts that a picture stays as it is when it is settled, and that a contour is added to it after that.
-fn assert_settled<R: Abort + AllocGlobal>(rt: &R, drawing: &mut Drawing) {
-    for case in 0..2 {
-        drawing.picture.settle(rt.alloc());
-        drawing.assert_answers(rt, case);
-    }
-    drawing.draw(rt, &LAST);
-    drawing.assert_answers(rt, 2);
-}
-
-#[test]
-fn pictures_are_settled(rt: HostRuntime) {
-    for combs in [APART.as_slice(), &CANCELLED, &[]] {
-        let mut drawing = Drawing::of(&rt, combs);
-        assert_settled(&rt, &mut drawing);
-    }
-    let mut drawing = cancelled(&rt);
-    assert_settled(&rt, &mut drawing);
-}
-
-/// Columns and rows of pixels of the picture with contours apart, and whether they have a weight above 0: of a long row alone, of a
-/// contour alone, of both, of neither, and of a tooth that a contour cancels.
-const PIXELS: [(i32, i32, bool); 6] = [
-    (2, 0, true),
-    (3, 18, true),
-    (7, -1, true),
-    (4, -2, true),
-    (41, 0, false),
-    (8, -2, false),
-];
-
-/// Asserts that the greatest weight can be added to this pixel, or that it is refused. Then the picture stays as it is.
-fn assert_greatest_added<R: Abort + AllocGlobal>(rt: &R, (x, y, is_black): (i32, i32, bool)) {
-    let mut drawing = Drawing::of(rt, &APART);
-    let greatest = picture_of(rt, &[make_run(y, x, 1, 32767)]);
-    let expected = if is_black {
-        Err(AddFault::WeightTooLarge)
-    } else {
-        Ok(())
-    };
-    let added = drawing.picture.add(rt.alloc(), &greatest);
-    assert_same(rt, added, expected, (x, y));
-    if !is_black {
-        let rectangle = make_rectangle(x, y, x.wrapping_add(1), y.wrapping_add(1), 32767);
-        drawing
-            .rectangles
-            .push(rectangle)
-            .expect(rt, "there is room for the pixel");
-    }
-    drawing.assert_answers(rt, 0);
-}
-
-#[test]
-fn weights_are_refused_where_contours_are_apart(rt: HostRuntime) {
-    for pixel in PIXELS {
-        assert_greatest_added(&rt, pixel);
-    }
-}
-
-/// Columns and weights of contours that are added to long rows in which the pixels of column -2 have weight 32765 or -32765, and whether
-/// they are accepted. The weights have the sign of those pixels. The sum of the greatest ones exceeds 32767 from the third contour on,
-/// and only in column -2 are there weights that would.
-const HEAVY: [(i32, i32, bool); 9] = [
-    (250, 1, true),
-    (250, 1, true),
-    (-2, 3, false),
-    (250, 3, true),
-    (-2, 1, true),
-    (250, 3, true),
-    (-2, 2, false),
-    (-2, 1, true),
-    (-2, 1, false),
-];
-
-/// A long picture with a column of this weight.
-fn heavy<R: Abort + AllocGlobal>(rt: &R, weight: i32) -> Drawing {
-    let mut drawing = Drawing::of(rt, &[LONG]);
-    drawing
-        .rectangles
-        .push(make_rectangle(-2, -2, -1, 1, weight))
-        .expect(rt, "there is room for the column");
-    drawing.picture = drawing.settled(rt);
-    drawing
-}
-
-/// Asserts that contours with weights of this sign are accepted or refused; a refusal leaves the picture as it was.
-fn assert_heavy<R: Abort + AllocGlobal>(rt: &R, sign: i32) {
-    let mut drawing = heavy(rt, sign.wrapping_mul(32765));
-    for (case, (left, weight, fits)) in HEAVY.iter().enumerate() {
-        let comb = comb_of!(*left, 1, 1, -2, 1, sign.wrapping_mul(*weight));
-        if *fits {
-            drawing.draw(rt, &comb);
-        } else {
-            let corners = comb.corners(rt).expect(rt, "there is room for corners");
-            let added = drawing.picture.add_corners(rt.alloc(), corners);
-            assert_same(rt, added, Err(AddFault::WeightTooLarge), comb);
-        }
-        drawing.assert_answers(rt, case);
-    }
-}
-
-#[test]
-fn weights_of_long_rows_are_refused(rt: HostRuntime) {
-    assert_heavy(&rt, 1);
-    assert_heavy(&rt, -1);
-}
