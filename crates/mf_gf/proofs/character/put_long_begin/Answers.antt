@@ -1,5 +1,4 @@
-use Rattle.std.proofs.Common.{rules, w32, pos, ap}
-use Rattle.std.specs.Prelude.{FitsSigned}
+use Rattle.std.proofs.Common.{rules, pos, ap}
 use Rattle.mf_gf.specs.Numbers.{word}
 use Rattle.mf_gf.proofs.Writing.{write_both, write_same, write_word}
 use Rattle.mf_gf.proofs.character.put_long_begin.Goals as goal
@@ -7,13 +6,9 @@ use Rattle.mf_gf.proofs.character.put_long_begin.Goals as goal
 pub returns-clause-held : goal.returns-clause-held
 returns-clause-held c =
     let bounds = c.args.bounds.now in
-    let min_m : FitsSigned w32 bounds.min_m = search rules in
-    let max_m : FitsSigned w32 bounds.max_m = search rules in
-    let min_n : FitsSigned w32 bounds.min_n = search rules in
-    let max_n : FitsSigned w32 bounds.max_n = search rules in
     let code = write_both _ _ _ _ _ c.put_byte.ensures.held (write_same _ _ _ _ (ap (λ n. word (pos n)) c.from.ensures) c.put_unsigned.ensures.held) in
     let place = write_both _ _ _ _ _ code c.put_pointer.ensures.held in
-    let left = write_both _ _ _ _ _ place (write_word _ _ bounds.min_m min_m c.put_word.ensures.held) in
-    let right = write_both _ _ _ _ _ left (write_word _ _ bounds.max_m max_m c.put_word-2.ensures.held) in
-    let bottom = write_both _ _ _ _ _ right (write_word _ _ bounds.min_n min_n c.put_word-3.ensures.held) in
-    write_both _ _ _ _ _ bottom (write_word _ _ bounds.max_n max_n c.put_word-4.ensures.held)
+    let left = write_both _ _ _ _ _ place (write_word _ _ bounds.min_m (search rules) c.put_word.ensures.held) in
+    let right = write_both _ _ _ _ _ left (write_word _ _ bounds.max_m (search rules) c.put_word-2.ensures.held) in
+    let bottom = write_both _ _ _ _ _ right (write_word _ _ bounds.min_n (search rules) c.put_word-3.ensures.held) in
+    write_both _ _ _ _ _ bottom (write_word _ _ bounds.max_n (search rules) c.put_word-4.ensures.held)

@@ -1,5 +1,4 @@
-use Rattle.std.proofs.Common.{rules, w32}
-use Rattle.std.specs.Prelude.{FitsSigned}
+use Rattle.std.proofs.Common.{rules}
 use Rattle.mf_gf.proofs.Writing.{write_both, write_word}
 use Rattle.mf_gf.proofs.file.tail.put_post.Goals as goal
 
@@ -7,19 +6,12 @@ pub returns-clause-held : goal.returns-clause-held
 returns-clause-held c =
     let words = c.args.words.now in
     let bounds = c.args.bounds.now in
-    let ds_fits : FitsSigned w32 words.ds = search rules in
-    let hppp_fits : FitsSigned w32 words.hppp = search rules in
-    let vppp_fits : FitsSigned w32 words.vppp = search rules in
-    let min_m : FitsSigned w32 bounds.min_m = search rules in
-    let max_m : FitsSigned w32 bounds.max_m = search rules in
-    let min_n : FitsSigned w32 bounds.min_n = search rules in
-    let max_n : FitsSigned w32 bounds.max_n = search rules in
     let place = write_both _ _ _ _ _ c.put_byte.ensures.held c.put_unsigned.ensures.held in
-    let ds = write_both _ _ _ _ _ place (write_word _ _ words.ds ds_fits c.put_word.ensures.held) in
+    let ds = write_both _ _ _ _ _ place (write_word _ _ words.ds (search rules) c.put_word.ensures.held) in
     let cs = write_both _ _ _ _ _ ds c.put_unsigned-2.ensures.held in
-    let hppp = write_both _ _ _ _ _ cs (write_word _ _ words.hppp hppp_fits c.put_word-2.ensures.held) in
-    let vppp = write_both _ _ _ _ _ hppp (write_word _ _ words.vppp vppp_fits c.put_word-3.ensures.held) in
-    let left = write_both _ _ _ _ _ vppp (write_word _ _ bounds.min_m min_m c.put_word-4.ensures.held) in
-    let right = write_both _ _ _ _ _ left (write_word _ _ bounds.max_m max_m c.put_word-5.ensures.held) in
-    let bottom = write_both _ _ _ _ _ right (write_word _ _ bounds.min_n min_n c.put_word-6.ensures.held) in
-    write_both _ _ _ _ _ bottom (write_word _ _ bounds.max_n max_n c.put_word-7.ensures.held)
+    let hppp = write_both _ _ _ _ _ cs (write_word _ _ words.hppp (search rules) c.put_word-2.ensures.held) in
+    let vppp = write_both _ _ _ _ _ hppp (write_word _ _ words.vppp (search rules) c.put_word-3.ensures.held) in
+    let left = write_both _ _ _ _ _ vppp (write_word _ _ bounds.min_m (search rules) c.put_word-4.ensures.held) in
+    let right = write_both _ _ _ _ _ left (write_word _ _ bounds.max_m (search rules) c.put_word-5.ensures.held) in
+    let bottom = write_both _ _ _ _ _ right (write_word _ _ bounds.min_n (search rules) c.put_word-6.ensures.held) in
+    write_both _ _ _ _ _ bottom (write_word _ _ bounds.max_n (search rules) c.put_word-7.ensures.held)

@@ -1,5 +1,4 @@
-use Rattle.std.proofs.Common.{ap, rules, w32}
-use Rattle.std.specs.Prelude.{FitsSigned}
+use Rattle.std.proofs.Common.{ap, rules}
 use Rattle.mf_gf.specs.Files.{locator_head, short_dx}
 use Rattle.mf_gf.proofs.Writing.{Writes, write_both, write_same, write_word}
 use Rattle.mf_gf.proofs.locator.Locator.spell.Goals as goal
@@ -8,13 +7,11 @@ use Rattle.mf_gf.proofs.locator.Locator.spell.Goals.{in-Some, in-None}
 pub returns-clause-held : goal.returns-clause-held
 returns-clause-held c =
     let l = c.args.self.now in
-    let dx_fits : FitsSigned w32 l.dx = search rules in
-    let width_fits : FitsSigned w32 l.width = search rules in
     let head : Writes c.args.out.now c.match-whole_pixels.out (locator_head l.code l.dx (short_dx l.dx)) = elim c.match-whole_pixels.branch [
       | in-Some w ↦ rw w.out-is (write_same _ _ _ _ (ap (locator_head l.code l.dx) w.in-Some.ensures) w.put.ensures.held)
       | in-None w ↦
           (let long = write_both _ _ _ _ _
-          (write_both _ _ _ _ _ w.put-in-None.ensures.held (write_word _ _ l.dx dx_fits w.put_word.ensures.held)) w.put_word-in-None.ensures.held in
+          (write_both _ _ _ _ _ w.put-in-None.ensures.held (write_word _ _ l.dx (search rules) w.put_word.ensures.held)) w.put_word-in-None.ensures.held in
           rw w.out-is (write_same _ _ _ _ (ap (locator_head l.code l.dx) w.in-None.ensures) long))
     ] in
-    write_both _ _ _ _ _ (write_both _ _ _ _ _ head (write_word _ _ l.width width_fits c.put_word-2.ensures.held)) c.put_unsigned.ensures.held
+    write_both _ _ _ _ _ (write_both _ _ _ _ _ head (write_word _ _ l.width (search rules) c.put_word-2.ensures.held)) c.put_unsigned.ensures.held
