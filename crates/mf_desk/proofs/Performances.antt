@@ -37,7 +37,8 @@ module _ (settings : Settings) (viewers : ℕ) where
       Tells-script (run_limits settings) OutOfMemory (streams unread unread held held) refl
       ([], Consumes-nil unread, Breaks-nothing (run_limits settings) unread held)
 
-  pub Tells-no_room : (unread held : Option (List ℕ)) → settings.max_bytes < least_bytes → Passes (streams unread unread held held) (Tells settings viewers FileTooLong)
+  pub Tells-no_room : (unread held : Option (List ℕ)) → settings.max_bytes < least_bytes
+      → Passes (streams unread unread held held) (Tells settings viewers FileTooLong)
   Tells-no_room unread held few = (
     [],
     Consumes-nil unread,
@@ -53,16 +54,15 @@ module _ (settings : Settings) (viewers : ℕ) where
     complete n lines is =
         record {
           transcript = over.text;
-          last = over.last;
-          performed = over.performed;
+          script = over.script;
           is = ap (λ more. over.text ++ more) (is ∙ ap (λ L. viewer_lines n (glance_at L)) over.published);
         }
 
     pub out-more : (text : List ℕ) → Appends holds later text → Appends held later (over.text ++ text)
     out-more text out = Appends-trans held holds later over.text text over.out out
 
-    kept : (file : GfFile) → file ≡ run.file → Keeps file [] over.last.characters
-    kept file same = subst (λ f. Keeps f [] over.last.characters) (sym same) over.file
+    kept : (file : GfFile) → file ≡ run.file → Keeps file [] over.script.last.characters
+    kept file same = subst (λ f. Keeps f [] over.script.last.characters) (sym same) over.file
 
     module _ (unread left : Option (List ℕ)) (consumed : Consumes unread left read) (all_read : IsAtEnd left) where
       module _ (out : Appends holds later (viewer_lines viewers (glance run))) where
@@ -76,8 +76,8 @@ module _ (settings : Settings) (viewers : ℕ) where
             ⊎_elim
             (λ long.
             let is_long =
-            subst (λ n. IsLongFile n settings.font [] over.last.characters) (ap max_bytes_of same ∙ over.max_bytes_is)
-            (too_long long over.last.characters (kept file same)) in
+            subst (λ n. IsLongFile n settings.font [] over.script.last.characters) (ap max_bytes_of same ∙ over.max_bytes_is)
+            (too_long long over.script.last.characters (kept file same)) in
             rw long (read, consumed, (text, out-more _ out, inr (all_read, record { complete = all; too_long = is_long }))))
             (λ wanting. rw wanting (read, consumed, (text, out-more _ out, inr (all_read, record { shown = viewers; few = omega arith; complete = all }))))
 
@@ -89,12 +89,12 @@ module _ (settings : Settings) (viewers : ℕ) where
         → All (λ v. HasSeen (ended_published_list run.ended) looks v.items) outcome.seen.items
         → IsPerformance (task settings viewers looks) outcome (streams unread left held later) read
     IsPerformance-over unread left looks outcome file same finished out count seen =
-        let (fits, font) = finished over.last.characters (kept file same) in
+        let (fits, font) = finished over.script.last.characters (kept file same) in
         record {
           text = over.text ++ viewer_lines viewers (glance run);
           complete = complete viewers _ refl;
           out = out-more _ out;
-          fits = subst (λ n. IsLongFile n settings.font [] over.last.characters → ⊥) (ap max_bytes_of same ∙ over.max_bytes_is) fits;
+          fits = subst (λ n. IsLongFile n settings.font [] over.script.last.characters → ⊥) (ap max_bytes_of same ∙ over.max_bytes_is) fits;
           font = font;
           count = count;
           seen = subst (λ L. All (λ v. HasSeen L looks v.items) outcome.seen.items) over.published seen;

@@ -21,8 +21,7 @@ pub IsOver-ended : (held holds : Option (List ℕ)) (read : List ℕ) (performer
     → IsEndOf performer through.done.last run → IsOver (limits performer.session) held read run holds
 IsOver-ended held holds read performer run through end = record {
   text = through.done.text;
-  last = through.done.last;
-  performed = through.done.performed;
+  script = record { last = through.done.last; performed = through.done.performed };
   published = end.ended.published;
   file = end.ended.file_is.keeps;
   max_bytes_is = end.ended.file_is.max_bytes_is;

@@ -80,9 +80,9 @@ module _ (held holds : Option (List ℕ)) (read : List ℕ) (run : Progress) (af
       record {
         done = record {
           text = so_far.text ++ text;
-          last = written.next;
-          performed = subst (λ l. Perform l start all (so_far.text ++ text) written.next) (sym same) (prolongs text written.next written.answer);
-          stands = written.stands;
+          last = written.answered.next;
+          performed = subst (λ l. Perform l start all (so_far.text ++ text) written.answered.next) (sym same) (prolongs text written.answered.next written.answered.answer);
+          stands = written.answered.stands;
           out = Appends-trans held holds later so_far.text text so_far.out out;
         };
         counted = written.counted ∙ ap (λ n. n + length text) after.lines.counted ∙ sym (length-append so_far.text text);

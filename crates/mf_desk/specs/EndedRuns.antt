@@ -1,7 +1,6 @@
 -- A run whose script has ended.
 use Rattle.std.specs.Prelude.{◌≡◌, ℕ, List, [], Option, length}
-use Rattle.std.specs.Io.KnownBytes.{Appends, Consumes, IsAtEnd}
-use Rattle.std.specs.Str.Lines.{lines}
+use Rattle.std.specs.Io.KnownBytes.{Appends, IsAtEnd}
 use Rattle.mf_gf.specs.Keeping.{Keeps, max_bytes_of}
 use Rattle.mf_live.specs.Writers.{ended_identity, ended_published_list}
 use Rattle.mf_desk.specs.declared.ended_run.EndedRun.{EndedRun}
@@ -11,9 +10,9 @@ use Rattle.mf_desk.specs.declared.settings.Settings.{Settings}
 use Rattle.mf_watch.specs.declared.glance.Glance.{Glance}
 use Rattle.mf_session.specs.Endings.{HasEnded, complete_list}
 use Rattle.mf_desk.specs.Performances.{Tells, run_limits, viewer_line}
-use Rattle.mf_session.specs.States.{State, Limits, start}
-use Rattle.mf_session.specs.Transcript.{Perform}
-use Rattle.mf_desk.specs.Streams.{HasPassed, Streams}
+use Rattle.mf_session.specs.States.{State, Limits}
+use Rattle.mf_session.specs.Transcript.{IsTranscript}
+use Rattle.mf_desk.specs.Streams.{HasPassed, HasRead, Streams}
 use Rattle.mf_watch.specs.Watchers.{glance_at}
 
 -- the script of this performer, whose lines have led to this state, has ended with this run
@@ -25,17 +24,16 @@ pub record IsEndOf (performer : Performer) (s : State) (run : EndedRun) : Type 0
 -- accepted is published, and the font file keeps what was shipped
 pub record IsOver (limits : Limits) (held : Option (List ℕ)) (read : List ℕ) (run : EndedRun) (holds : Option (List ℕ)) : Type 0 where
   pub text : List ℕ
-  pub last : State
-  pub performed : Perform limits start (lines read) text last
-  pub published : ended_published_list run.ended ≡ complete_list last.pictures
-  pub file : Keeps run.file [] last.characters
+  pub script : IsTranscript limits read text
+  pub published : ended_published_list run.ended ≡ complete_list script.last.pictures
+  pub file : Keeps run.file [] script.last.characters
   pub max_bytes_is : max_bytes_of run.file ≡ limits.max_bytes
   pub out : Appends held holds text
   pub counted : run.written ≡ length text
 
 -- everything that the reader had was read and performed
 abbrev pub EndsWith : Limits → Streams → EndedRun → Type 0
-EndsWith limits s run = (read : List ℕ) × Consumes s.unread s.left read × IsOver limits s.held read run s.holds
+EndsWith limits s run = HasRead s (λ read. IsOver limits s.held read run s.holds)
 
 -- the glance that a look at its last picture gives
 abbrev pub glance : EndedRun → Glance
@@ -62,8 +60,8 @@ pub record LastLooks : Type 0 where
 abbrev pub last_looks : EndedRun → ℕ → Option (List ℕ) → Option (List ℕ) → LastLooks
 last_looks run viewers held holds = record { run = run; viewers = viewers; held = held; holds = holds }
 
--- whatever was read and written before, the fault breaks the lines of these looks off
-abbrev pub StopsShowing : LastLooks → RunFault → Type 0
-StopsShowing l fault =
+-- whatever was read and written before, the fault breaks off the lines of these looks
+abbrev pub BreaksLooks : LastLooks → RunFault → Type 0
+BreaksLooks l fault =
     (settings : Settings) (first left : Option (List ℕ)) (read : List ℕ) → IsAtEnd left → IsOver (run_limits settings) first read l.run l.held
     → HasPassed (Tells settings l.viewers fault) left read first l.holds

@@ -5,7 +5,7 @@ use Rattle.std.specs.Str.Lines.{lines}
 use Rattle.mf_desk.specs.Ended.{ended_lines}
 use Rattle.mf_desk.specs.Streams.{IsPrefixOf, Passage}
 use Rattle.mf_session.specs.States.{State, Limits, start}
-use Rattle.mf_session.specs.Transcript.{IsFirstText, Perform, due}
+use Rattle.mf_session.specs.Transcript.{IsFirstText, IsTextOf, due}
 use Rattle.mf_desk.specs.declared.fault.RunFault.{RunFault}
 use Rattle.mf_desk.specs.declared.fault.RunFault.TheVariants.{OutOfMemory, ReadFault, WriteFault}
 
@@ -21,9 +21,8 @@ pub record IsTextSoFar (limits : Limits) (left : Option (List ℕ)) (read text :
   pub first : IsFirstText (due limits start whole) last text
 
 -- this is what the lines print that a line feed ended
-pub record IsEndedText (limits : Limits) (read text : List ℕ) : Type 0 where
-  pub last : State
-  pub performed : Perform limits start (ended_lines read) text last
+abbrev pub IsEndedText : Limits → List ℕ → List ℕ → Type 0
+IsEndedText limits read text = IsTextOf limits (ended_lines read) text
 
 -- what a fault says where one such text is due, after this many bytes of the run
 abbrev pub BreaksOff : (List ℕ → Type 0) → ℕ → RunFault → List ℕ → Type 0

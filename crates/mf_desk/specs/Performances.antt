@@ -1,8 +1,7 @@
 -- What a run answers, with viewers or without.
 use Rattle.std.specs.Prelude.{◌≡◌, ◌≤◌, ◌<◌, ◌⊎◌, ℕ, zero, suc, All, List, [], ◌++◌, codes, decimal, length}
 use Rattle.std.specs.Fmt.{signed_decimal}
-use Rattle.std.specs.Io.KnownBytes.{Appends, Consumes, IsAtEnd}
-use Rattle.std.specs.Str.Lines.{lines}
+use Rattle.std.specs.Io.KnownBytes.{Appends, IsAtEnd}
 use Rattle.mf_gf.specs.Files.{IsLongFile, file_if_any, preamble}
 use Rattle.mf_desk.specs.declared.fault.RunFault.{RunFault}
 use Rattle.mf_desk.specs.declared.fault.RunFault.TheVariants.{OutOfMemory, NoPlace, FileTooLong, ReadFault, WriteFault, NoLook}
@@ -11,9 +10,9 @@ use Rattle.mf_desk.specs.declared.outcome.Outcome.{Outcome}
 use Rattle.mf_desk.specs.declared.settings.Settings.{Settings}
 use Rattle.mf_session.specs.Endings.{complete_list}
 use Rattle.mf_desk.specs.Fault.{IsEndedText, IsTextSoFar}
-use Rattle.mf_desk.specs.Streams.{IsPrefixOf, Passage, Streams}
-use Rattle.mf_session.specs.States.{State, Limits, limits_of, start}
-use Rattle.mf_session.specs.Transcript.{Perform}
+use Rattle.mf_desk.specs.Streams.{HasRead, IsPrefixOf, Passage, Streams}
+use Rattle.mf_session.specs.States.{Limits, limits_of}
+use Rattle.mf_session.specs.Transcript.{IsTranscript}
 use Rattle.mf_watch.specs.Watchers.{HasSeen, glance_at}
 
 -- the limits of a session, from the settings of a run
@@ -33,9 +32,8 @@ viewer_lines (suc n) g = viewer_lines n g ++ viewer_line n g
 -- the transcript of these bytes of a script, and the lines of this many viewers
 pub record IsCompleteText (limits : Limits) (viewers : ℕ) (read text : List ℕ) : Type 0 where
   pub transcript : List ℕ
-  pub last : State
-  pub performed : Perform limits start (lines read) transcript last
-  pub is : text ≡ transcript ++ viewer_lines viewers (glance_at (complete_list last.pictures))
+  pub script : IsTranscript limits read transcript
+  pub is : text ≡ transcript ++ viewer_lines viewers (glance_at (complete_list script.last.pictures))
 
 -- what a run is asked for: its limits and its font, how many viewers look on, and how often each looks in its thread
 pub record Task : Type 0 where
@@ -54,14 +52,14 @@ pub record IsPerformance (t : Task) (outcome : Outcome) (s : Streams) (input : L
   pub text : List ℕ
   pub complete : IsCompleteText (run_limits t.settings) t.viewers input text
   pub out : Appends s.held s.holds text
-  pub fits : IsLongFile (run_limits t.settings).max_bytes t.settings.font [] complete.last.characters → ⊥
-  pub font : outcome.gf ≡ file_if_any t.settings.font [] complete.last.characters
+  pub fits : IsLongFile (run_limits t.settings).max_bytes t.settings.font [] complete.script.last.characters → ⊥
+  pub font : outcome.gf ≡ file_if_any t.settings.font [] complete.script.last.characters
   pub count : length outcome.seen.items ≡ t.viewers
-  pub seen : All (λ v. HasSeen (complete_list complete.last.pictures) t.looks v.items) outcome.seen.items
+  pub seen : All (λ v. HasSeen (complete_list complete.script.last.pictures) t.looks v.items) outcome.seen.items
 
 -- the run did what it was asked for with the bytes that it has read; where the reader is at its end, they are all that it had
 abbrev pub Performs : Task → Streams → Outcome → Type 0
-Performs t s outcome = (read : List ℕ) × Consumes s.unread s.left read × IsPerformance t outcome s read
+Performs t s outcome = HasRead s (IsPerformance t outcome s)
 
 -- this is the complete transcript, and the lines of the first of these viewers
 pub record IsShownText (limits : Limits) (viewers : ℕ) (read text : List ℕ) : Type 0 where
@@ -84,7 +82,7 @@ pub record HasNoRoom (limits : Limits) (p : Passage) : Type 0 where
 -- have
 pub record IsBeforeLongFile (settings : Settings) (viewers : ℕ) (read text : List ℕ) : Type 0 where
   pub complete : IsCompleteText (run_limits settings) viewers read text
-  pub too_long : IsLongFile (run_limits settings).max_bytes settings.font [] complete.last.characters
+  pub too_long : IsLongFile (run_limits settings).max_bytes settings.font [] complete.script.last.characters
 
 -- what each fault that ends a run beside this many viewers says about what was read and written; `NoPlace` comes only where there
 -- are viewers, and `NoLook` only where the line of one is not written

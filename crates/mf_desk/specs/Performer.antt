@@ -1,7 +1,7 @@
 -- What has been written when a line is performed.
 use Rattle.std.specs.Prelude.{ℕ, List, ◌≡◌, ◌+◌, ◌<◌, ◌^◌, length}
 use Rattle.mf_session.specs.Answers.{Answers}
-use Rattle.mf_session.specs.Sessions.{StandsFor, limits}
+use Rattle.mf_session.specs.Sessions.{IsAnswered, limits}
 use Rattle.mf_session.specs.States.{State}
 use Rattle.mf_desk.specs.declared.performer.Performer.{Performer}
 
@@ -24,9 +24,7 @@ most_counted = 2 ^ 127
 
 -- a line was performed, and this text of it was written
 pub record IsWritten (before : Performer) (s : State) (line : List ℕ) (after : Performer) (text : List ℕ) : Type 0 where
-  pub next : State
-  pub answer : Answers (limits before.session) s line text next
-  pub stands : StandsFor after.session next
+  pub answered : IsAnswered before.session s line text after.session
   pub counted : after.written ≡ before.written + length text
   pub short : length text < longest_text
 

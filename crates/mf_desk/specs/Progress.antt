@@ -1,10 +1,9 @@
 -- The state of a run whose bytes so far are known.
 use Rattle.std.specs.Prelude.{ℕ, List, Option, ◌≡◌, ◌++◌, length, take}
-use Rattle.std.specs.Io.KnownBytes.{Consumes}
 use Rattle.std.specs.Str.Lines.{lines}
 use Rattle.mf_desk.specs.Ended.{ended_lines, unended}
 use Rattle.mf_desk.specs.Fault.{Breaks}
-use Rattle.mf_desk.specs.Streams.{HasPassed, Streams}
+use Rattle.mf_desk.specs.Streams.{HasPassed, HasRead, Streams}
 use Rattle.mf_session.specs.Sessions.{HasPerformed, limits}
 use Rattle.mf_session.specs.States.{start}
 use Rattle.mf_session.specs.Transcript.{due}
@@ -26,7 +25,7 @@ pub record IsAfter (held : Option (List ℕ)) (read : List ℕ) (progress : Prog
 
 -- everything that the reader had was read and performed
 abbrev pub ReadsThrough : Streams → Performer → Type 0
-ReadsThrough s performer = (read : List ℕ) × Consumes s.unread s.left read × HasCounted s.held (lines read) performer s.holds
+ReadsThrough s performer = HasRead s (λ read. HasCounted s.held (lines read) performer s.holds)
 
 -- what happens while a run takes bytes: the run before it, these bytes, and what the writer held then and holds after it
 pub record Taking : Type 0 where

@@ -31,10 +31,13 @@ Gets held holds IsSuch = (written : List ℕ) × Appends held holds written × I
 abbrev pub HasPassed : (Passage → Type 0) → Option (List ℕ) → List ℕ → Option (List ℕ) → Option (List ℕ) → Type 0
 HasPassed IsSuch left read held holds = Gets held holds (λ written. IsSuch (record { left = left; read = read; written = written }))
 
+-- the reader has given some bytes of which this is true; where it is at its end, they are all that it had
+abbrev pub HasRead : Streams → (List ℕ → Type 0) → Type 0
+HasRead s IsSuch = (read : List ℕ) × Consumes s.unread s.left read × IsSuch read
+
 -- what has passed through these streams is such a passage
 abbrev pub Passes : Streams → (Passage → Type 0) → Type 0
-Passes through IsSuch =
-    (read : List ℕ) × Consumes through.unread through.left read × HasPassed IsSuch through.left read through.held through.holds
+Passes s IsSuch = HasRead s (λ read. HasPassed IsSuch s.left read s.held s.holds)
 
 -- with some more bytes, or with none, these are such a text
 abbrev pub IsPrefixOf : (List ℕ → Type 0) → List ℕ → Type 0

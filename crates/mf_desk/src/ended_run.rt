@@ -3,7 +3,7 @@ ghost use Rattle.std.specs.Io.KnownBytes.{Appends};
 ghost use Rattle.std.specs.Prelude.{◌≡◌, ◌≢◌, ◌+◌, ◌<◌, ◌≤◌, ℕ, All, Err, IfErr, IfOk, OnOk, length};
 ghost use Rattle.mf_live.specs.Desks.{most_places};
 ghost use Rattle.mf_live.specs.Writers.{ended_identity, ended_published_list};
-ghost use Rattle.mf_desk.specs.EndedRuns.{IsViewerLine, IsSameEnd, StopsShowing, glance, last_looks};
+ghost use Rattle.mf_desk.specs.EndedRuns.{IsViewerLine, IsSameEnd, BreaksLooks, glance, last_looks};
 ghost use Rattle.mf_desk.specs.Fault.{BreaksOff};
 ghost use Rattle.mf_desk.specs.Performances.{viewer_line, viewer_lines};
 ghost use Rattle.mf_desk.specs.Performer.{longest_text, most_counted, most_written};
@@ -50,7 +50,7 @@ impl EndedRun {
         ensures seen { IfOk result (λ seen. (looks : ℕ) → IfOk joined (λ watchers. All (IsRecord looks) watchers.items)
             → All (λ v. HasSeen (ended_published_list self.old.ended) looks v.items) seen.items) }
         ensures fault { IfErr result (λ fault. (viewers : ℕ) → IfOk joined (λ watchers. length watchers.items ≡ viewers)
-            → IfErr joined (λ _. 0 < viewers) → StopsShowing (last_looks self.old viewers (W.contents writer.old) (W.contents writer.new)) fault) }
+            → IfErr joined (λ _. 0 < viewers) → BreaksLooks (last_looks self.old viewers (W.contents writer.old) (W.contents writer.new)) fault) }
         ensures elsewhere { (result ≢ Err RunFault.NoPlace) × (result ≢ Err RunFault.FileTooLong) × (result ≢ Err RunFault.ReadFault) }
     {
         match joined {
@@ -75,7 +75,7 @@ impl EndedRun {
         ensures count { IfOk result (λ seen. length seen.items ≡ length watchers.items) }
         ensures seen { IfOk result (λ seen. (looks : ℕ) → All (IsRecord looks) watchers.items
             → All (λ v. HasSeen (ended_published_list self.old.ended) looks v.items) seen.items) }
-        ensures fault { IfErr result (StopsShowing (last_looks self.old (length watchers.items) (W.contents writer.old) (W.contents writer.new))) }
+        ensures fault { IfErr result (BreaksLooks (last_looks self.old (length watchers.items) (W.contents writer.old) (W.contents writer.new))) }
         ensures elsewhere { (result ≢ Err RunFault.NoPlace) × (result ≢ Err RunFault.FileTooLong) × (result ≢ Err RunFault.ReadFault) }
     {
         let mut seen = Vec::with_capacity(alloc, watchers.len())?;

@@ -6,15 +6,23 @@ use Rattle.std.proofs.lemmas.Result.{err_from_is_err_and}
 use Rattle.mf_desk.specs.declared.ended_run.EndedRun.{EndedRun}
 use Rattle.mf_desk.specs.declared.outcome.Outcome.{Outcome}
 use Rattle.mf_desk.specs.EndedRuns.{EndsWith, glance}
-use Rattle.mf_desk.specs.Performances.{viewer_lines}
-use Rattle.mf_desk.specs.Streams.{streams}
+use Rattle.mf_desk.specs.Performances.{run_limits, viewer_lines}
+use Rattle.mf_desk.specs.Streams.{streams_of}
 use Rattle.mf_desk.proofs.Performances.{Tells-script, Tells-nothing, Tells-no_room, Tells-unfinished, IsPerformance-over}
 use Rattle.mf_desk.proofs.ViewerLines.{lines-nobody}
+use Rattle.mf_desk.proofs.script.run.Goals.{In_ok-ended}
 use Rattle.mf_desk.proofs.script.run.Goals as goal
 
 -- no line of a viewer is written
 nobody : (holds : Option (List ℕ)) (run : EndedRun) → Appends holds holds (viewer_lines 0 (glance run))
 nobody holds run = rw (lines-nobody (glance run)) (Appends-nil holds)
+
+-- everything was read and performed, under the limits of the settings
+ended : (g : _) (c : In_ok-ended g) → EndsWith (run_limits c.args.settings.now) (streams_of g.R.Read.remaining c.args.reader.now
+    c.complete.new.reader g.W.Write.contents c.args.writer.now c.complete.new.writer) c.in_ok-ended.ended
+ended g c =
+    subst (λ l. EndsWith l (streams_of g.R.Read.remaining c.args.reader.now c.complete.new.reader g.W.Write.contents c.args.writer.now
+    c.complete.new.writer) c.in_ok-ended.ended) c.in_ok-progress.ensures.limits c.in_ok-ended.ensures.over
 
 pub returns-in_err-memory : goal.returns-in_err-memory
 returns-in_err-memory g c =
@@ -58,9 +66,7 @@ returns-in_err-gf g c =
     let held = g.W.Write.contents c.args.writer.now in
     let holds = g.W.Write.contents c.complete.new.writer in
     let run = c.in_ok-ended.ended in
-    let (read, consumed, over) =
-    subst (λ l. EndsWith l (streams (g.R.Read.remaining c.args.reader.now)
-    (g.R.Read.remaining c.complete.new.reader) held holds) run) c.in_ok-progress.ensures.limits c.in_ok-ended.ensures.over in
+    let (read, consumed, over) = ended g (goal.at.returns-in_err-gf g c).In_ok-ended in
     let passed_on = err_from_is_err_and c.from_residual-in_err-gf.result c.from_residual-in_err-gf.ensures.1 in
     rw (passed_on.1, passed_on.2) record {
       transcript = tt;
@@ -78,9 +84,7 @@ returns g c = record {
       let held = g.W.Write.contents c.args.writer.now in
       let holds = g.W.Write.contents c.complete.new.writer in
       let run = c.in_ok-ended.ended in
-      let (read, consumed, over) =
-      subst (λ l. EndsWith l (streams (g.R.Read.remaining c.args.reader.now)
-      (g.R.Read.remaining c.complete.new.reader) held holds) run) c.in_ok-progress.ensures.limits c.in_ok-ended.ensures.over in
+      let (read, consumed, over) = ended g (goal.at.returns g c).In_ok-ended in
       let outcome : Outcome = record { gf = c.in_ok-gf.gf; seen = c.new-2.result } in
       let unread = g.R.Read.remaining c.args.reader.now in
       let left = g.R.Read.remaining c.complete.new.reader in (

@@ -1,7 +1,7 @@
 use Rattle.std.proofs.Common.{◌≡◌, ◌<◌, All, IfErr, IfOk, length, subst}
 use Rattle.std.proofs.lemmas.Result.{IfErr-weaker, IfOk-weaker}
 use Rattle.mf_watch.specs.Watchers.{IsRecord}
-use Rattle.mf_desk.specs.EndedRuns.{StopsShowing, last_looks}
+use Rattle.mf_desk.specs.EndedRuns.{BreaksLooks, last_looks}
 use Rattle.mf_desk.proofs.Showing.{IsShown-start, Tells-no_look}
 use Rattle.mf_desk.proofs.ended_run.EndedRun.show.Goals as goal
 
@@ -16,7 +16,7 @@ returns-in-Ok-clause-fault g c =
     let holds = g.W.Write.contents c.args.writer.now in
     IfErr-weaker c.show_all.result _ _ (λ fault stops viewers joined some.
     let count = subst (λ r. IfOk r (λ watchers. length watchers.items ≡ viewers)) c.in-Ok.is joined in
-    subst (λ n. StopsShowing (last_looks run n holds (g.W.Write.contents c.show_all.new.writer)) fault) count stops) c.show_all.ensures.fault
+    subst (λ n. BreaksLooks (last_looks run n holds (g.W.Write.contents c.show_all.new.writer)) fault) count stops) c.show_all.ensures.fault
 
 pub returns-in-Err-clause-fault : goal.returns-in-Err-clause-fault
 returns-in-Err-clause-fault g c = λ viewers joined some settings held left read all_read over.

@@ -29,4 +29,4 @@ returns-then-is_empty-clause-written g c = λ s stands.
     let before = c.args.self.now in
     let none = nil_from_length c.args.line.now (eqb-true _ 0 (sym c.if-is_empty.ensures)) in
     let answer = subst (λ line. Answers (limits before.session) s line [] s) (sym none) (empty-answers (limits before.session) s) in
-    ([], Appends-nil _, record { next = s; answer = answer; stands = stands; counted = omega arith; short = omega arith })
+    ([], Appends-nil _, record { answered = record { next = s; answer = answer; stands = stands }; counted = omega arith; short = omega arith })
