@@ -7,7 +7,7 @@ use Rattle.std.proofs.lemmas.Bool.{cond-true, cond-false, cond_both, and_parts, 
 use Rattle.std.proofs.lemmas.Bool.Decides.{Decides-int_eq, Decides-ltb}
 use Rattle.std.proofs.lemmas.Int.{ints, by_lt_z}
 use Rattle.mf_rows.specs.Dots.{Dot}
-use Rattle.mf_rows.specs.Runs.{stretch}
+use Rattle.mf_rows.specs.Runs.{equal_dots}
 use Rattle.mf_frame.specs.declared.shade.Shade.{Shade}
 use Rattle.mf_frame.specs.declared.shade.Shade.TheVariants.{Blank, Negative, One, Two, More}
 use Rattle.mf_frame.specs.contracts.shade.ShadeOrd.TheImpl as ord
@@ -142,44 +142,44 @@ shade-append s (d ∷ ds) es i j =
     cond_same (int_eq (cell_of s d.x) i && int_eq (cell_of s d.y) j) (shade_of d.weight) (cell_shade s (ds ++ es) i j)
     (cell_shade s ds i j) (cell_shade s es i j) others
 
--- ---- the cells of a stretch of dots
+-- ---- the cells of equal dots
 
--- a stretch reaches no cells outside its row, and none before its first or after its last
-pub stretch-outside : (s : ℤ) (y x w : ℤ) (n : ℕ) (i j : ℤ) → pos 1 ≤ℤ s
-    → ((u : ℤ) → x ≤ℤ u → u <ℤ (x +ℤ pos n) → IsInCell s u y i j → ⊥) → cell_shade s (stretch y x w n) i j ≡ Blank
-unfolding cell_shade stretch
-stretch-outside s y x w zero i j positive outside = refl
-stretch-outside s y x w (suc n) i j positive outside =
-    shade-elsewhere s (record { y = y; x = x; weight = w }) (stretch y (x +ℤ pos 1) w n) i j (outside x (omega (arith, ints)) (omega (arith, ints)))
-    ∙ stretch-outside s y (x +ℤ pos 1) w n i j positive (λ u from to. outside u (omega (arith, ints)) (omega (arith, ints)))
+-- equal dots reach no cells outside their row, and none before their first or after their last
+pub equal_dots-outside : (s : ℤ) (y x w : ℤ) (n : ℕ) (i j : ℤ) → pos 1 ≤ℤ s
+    → ((u : ℤ) → x ≤ℤ u → u <ℤ (x +ℤ pos n) → IsInCell s u y i j → ⊥) → cell_shade s (equal_dots y x w n) i j ≡ Blank
+unfolding cell_shade equal_dots
+equal_dots-outside s y x w zero i j positive outside = refl
+equal_dots-outside s y x w (suc n) i j positive outside =
+    shade-elsewhere s (record { y = y; x = x; weight = w }) (equal_dots y (x +ℤ pos 1) w n) i j (outside x (omega (arith, ints)) (omega (arith, ints)))
+    ∙ equal_dots-outside s y (x +ℤ pos 1) w n i j positive (λ u from to. outside u (omega (arith, ints)) (omega (arith, ints)))
 
--- a stretch gives its shade to a cell, or none
-stretch-either : (s : ℤ) (y x w : ℤ) (n : ℕ) (i j : ℤ) → darker (shade_of w) (cell_shade s (stretch y x w n) i j) ≡ shade_of w
-unfolding cell_shade stretch
-stretch-either s y x w zero i j = darker-blank (shade_of w)
-stretch-either s y x w (suc n) i j =
-    let others = stretch-either s y (x +ℤ pos 1) w n i j in
-    by_dot s (record { y = y; x = x; weight = w }) (stretch y (x +ℤ pos 1) w n) i j (λ shade. darker (shade_of w) shade ≡ shade_of w)
+-- they give their shade to a cell, or none
+equal_dots-either : (s : ℤ) (y x w : ℤ) (n : ℕ) (i j : ℤ) → darker (shade_of w) (cell_shade s (equal_dots y x w n) i j) ≡ shade_of w
+unfolding cell_shade equal_dots
+equal_dots-either s y x w zero i j = darker-blank (shade_of w)
+equal_dots-either s y x w (suc n) i j =
+    let others = equal_dots-either s y (x +ℤ pos 1) w n i j in
+    by_dot s (record { y = y; x = x; weight = w }) (equal_dots y (x +ℤ pos 1) w n) i j (λ shade. darker (shade_of w) shade ≡ shade_of w)
     (ap (darker (shade_of w)) others ∙ darker-same (shade_of w)) others
 
--- a stretch gives its shade to each cell of its row from its first to its last
-pub stretch-inside : (s : ℤ) (y x w : ℤ) (n : ℕ) (i j : ℤ) → pos 1 ≤ℤ s → cell_of s y ≡ j → cell_of s x ≤ℤ i → i ≤ℤ cell_of s (x +ℤ pos n)
-    → cell_shade s (stretch y x w (suc n)) i j ≡ shade_of w
-unfolding stretch
-stretch-inside s y x w zero i j positive row left right =
+-- they give their shade to each cell of their row from their first to their last
+pub equal_dots-inside : (s : ℤ) (y x w : ℤ) (n : ℕ) (i j : ℤ) → pos 1 ≤ℤ s → cell_of s y ≡ j → cell_of s x ≤ℤ i → i ≤ℤ cell_of s (x +ℤ pos n)
+    → cell_shade s (equal_dots y x w (suc n)) i j ≡ shade_of w
+unfolding equal_dots
+equal_dots-inside s y x w zero i j positive row left right =
     let same : x +ℤ pos 0 ≡ x = omega (arith, ints) in
     let column : cell_of s x ≡ i = omega (arith, ints, rw same at right) in
     shade-here s (record { y = y; x = x; weight = w }) [] i j (record { column = column; row = row })
     ∙ ap (darker (shade_of w)) (shade-none s i j) ∙ darker-blank (shade_of w)
-stretch-inside s y x w (suc n) i j positive row left right =
+equal_dots-inside s y x w (suc n) i j positive row left right =
     let d : Dot = record { y = y; x = x; weight = w } in
-    let behind = stretch y (x +ℤ pos 1) w (suc n) in
+    let behind = equal_dots y (x +ℤ pos 1) w (suc n) in
     by_lt_z (cell_of s x) i
     (λ after.
     let step = cell-next s x positive in
     let same : x +ℤ pos (suc n) ≡ (x +ℤ pos 1) +ℤ pos n = omega (arith, ints) in
-    let others = stretch-inside s y (x +ℤ pos 1) w n i j positive row (omega (arith, ints)) (rw same at right) in
+    let others = equal_dots-inside s y (x +ℤ pos 1) w n i j positive row (omega (arith, ints)) (rw same at right) in
     by_dot s d behind i j (λ shade. shade ≡ shade_of w) (ap (darker (shade_of w)) others ∙ darker-same (shade_of w)) others)
     (λ first.
     let column : cell_of s x ≡ i = omega (arith, ints) in
-    shade-here s d behind i j (record { column = column; row = row }) ∙ stretch-either s y (x +ℤ pos 1) w (suc n) i j)
+    shade-here s d behind i j (record { column = column; row = row }) ∙ equal_dots-either s y (x +ℤ pos 1) w (suc n) i j)

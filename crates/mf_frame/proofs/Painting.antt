@@ -11,7 +11,7 @@ use Rattle.std.proofs.lemmas.List.Elements.{All-head, All-tail}
 use Rattle.mf_rows.specs.declared.run.Run.{Run}
 use Rattle.mf_rows.specs.Dots.{Dot, IsPicture}
 use Rattle.mf_rows.specs.Order.{IsRun}
-use Rattle.mf_rows.specs.Runs.{dots_of, runs_of, stretch}
+use Rattle.mf_rows.specs.Runs.{dots_of, runs_of, equal_dots}
 use Rattle.mf_rows.proofs.PassedRuns.{ArePassedDots, next_is_lawful, none_passed, one_more_passed, all_passed}
 use Rattle.mf_frame.specs.declared.shade.Shade.{Shade}
 use Rattle.mf_frame.specs.declared.shade.Shade.TheVariants.{Blank}
@@ -19,7 +19,7 @@ use Rattle.mf_frame.specs.declared.window.Window.{Window}
 use Rattle.mf_frame.specs.Cells.{Darkening, cell_of, cell_shade, darker, shade_of, place_in, shade_in, IsCellOf, AreCells, AreDarkened}
 use Rattle.mf_frame.specs.Cells.{ArePainted, IsRunInWindow, AreInWindow}
 use Rattle.mf_frame.specs.Windows.{IsWindow}
-use Rattle.mf_frame.proofs.Darkness.{IsInCell, by_place, darker-blank, shade-append, shade-none, stretch-inside, stretch-outside}
+use Rattle.mf_frame.proofs.Darkness.{IsInCell, by_place, darker-blank, shade-append, shade-none, equal_dots-inside, equal_dots-outside}
 use Rattle.mf_frame.proofs.Floors.{cell-le}
 
 -- ---- a stretch of places
@@ -87,14 +87,14 @@ unreached w r old new i j kept blank = rw blank (kept ∙ sym (darker-blank (get
 outside_run : (w : Window) (r : Run) (i j : ℤ) → pos 1 ≤ℤ w.scale
     → ((u : ℤ) → r.x ≤ℤ u → u <ℤ (r.x +ℤ pos r.len) → IsInCell w.scale u r.y i j → ⊥) → cell_shade w.scale (dots_of r) i j ≡ Blank
 unfolding dots_of
-outside_run w r i j positive outside = stretch-outside w.scale r.y r.x r.weight r.len i j positive outside
+outside_run w r i j positive outside = equal_dots-outside w.scale r.y r.x r.weight r.len i j positive outside
 
 inside_run : (s : ℤ) (y x m : ℤ) (n : ℕ) (i j : ℤ) → pos 1 ≤ℤ s → 1 ≤ n → cell_of s y ≡ j → cell_of s x ≤ℤ i → i ≤ℤ cell_of s ((x +ℤ pos n) -ℤ pos 1)
-    → cell_shade s (stretch y x m n) i j ≡ shade_of m
+    → cell_shade s (equal_dots y x m n) i j ≡ shade_of m
 inside_run s y x m zero i j positive some row left right = absurd (omega arith)
 inside_run s y x m (suc n) i j positive some row left right =
     let last : (x +ℤ pos (suc n)) -ℤ pos 1 ≡ x +ℤ pos n = omega (arith, ints) in
-    stretch-inside s y x m n i j positive row left (rw last at right)
+    equal_dots-inside s y x m n i j positive row left (rw last at right)
 
 within_run : (w : Window) (r : Run) (i j : ℤ) → pos 1 ≤ℤ w.scale → IsRun r → cell_of w.scale r.y ≡ j → cell_of w.scale r.x ≤ℤ i
     → i ≤ℤ cell_of w.scale ((r.x +ℤ pos r.len) -ℤ pos 1) → cell_shade w.scale (dots_of r) i j ≡ shade_of r.weight
@@ -194,28 +194,28 @@ painted_all w ds rs shades none so_far = subst (λ dots. AreCells w dots shades)
 
 -- ---- the next run lies in the window
 
-in_window_first : (w : Window) (y x m : ℤ) (n : ℕ) (es : List Dot) → AreInWindow w (stretch y x m (suc n) ++ es)
+in_window_first : (w : Window) (y x m : ℤ) (n : ℕ) (es : List Dot) → AreInWindow w (equal_dots y x m (suc n) ++ es)
     → IsCellOf w (cell_of w.scale x) (cell_of w.scale y)
-unfolding stretch
+unfolding equal_dots
 in_window_first w y x m n es all =
-    All-head (λ d. IsCellOf w (cell_of w.scale d.x) (cell_of w.scale d.y)) (record { y = y; x = x; weight = m }) (stretch y (x +ℤ pos 1) m n ++ es) all
+    All-head (λ d. IsCellOf w (cell_of w.scale d.x) (cell_of w.scale d.y)) (record { y = y; x = x; weight = m }) (equal_dots y (x +ℤ pos 1) m n ++ es) all
 
-in_window_last : (w : Window) (y x m : ℤ) (n : ℕ) (es : List Dot) → AreInWindow w (stretch y x m (suc n) ++ es)
+in_window_last : (w : Window) (y x m : ℤ) (n : ℕ) (es : List Dot) → AreInWindow w (equal_dots y x m (suc n) ++ es)
     → IsCellOf w (cell_of w.scale (x +ℤ pos n)) (cell_of w.scale y)
-unfolding stretch
+unfolding equal_dots
 in_window_last w y x m zero es all =
     let same : x +ℤ pos 0 ≡ x = omega (arith, ints) in
     rw same (in_window_first w y x m zero es all)
 in_window_last w y x m (suc n) es all =
     let same : x +ℤ pos (suc n) ≡ (x +ℤ pos 1) +ℤ pos n = omega (arith, ints) in
     rw same (in_window_last w y (x +ℤ pos 1) m n es (All-tail (λ d. IsCellOf w (cell_of w.scale d.x) (cell_of w.scale d.y))
-    (record { y = y; x = x; weight = m }) (stretch y (x +ℤ pos 1) m (suc n) ++ es) all))
+    (record { y = y; x = x; weight = m }) (equal_dots y (x +ℤ pos 1) m (suc n) ++ es) all))
 
 in_window_after : (w : Window) (ds es : List Dot) → AreInWindow w (ds ++ es) → AreInWindow w es
 in_window_after w [] es all = all
 in_window_after w (d ∷ ds) es all = in_window_after w ds es (All-tail (λ d. IsCellOf w (cell_of w.scale d.x) (cell_of w.scale d.y)) d (ds ++ es) all)
 
-run_in_window : (w : Window) (y x m : ℤ) (n : ℕ) (es : List Dot) → 1 ≤ n → AreInWindow w (stretch y x m n ++ es)
+run_in_window : (w : Window) (y x m : ℤ) (n : ℕ) (es : List Dot) → 1 ≤ n → AreInWindow w (equal_dots y x m n ++ es)
     → IsCellOf w (cell_of w.scale x) (cell_of w.scale y) × IsCellOf w (cell_of w.scale ((x +ℤ pos n) -ℤ pos 1)) (cell_of w.scale y)
 run_in_window w y x m zero es some all = absurd (omega arith)
 run_in_window w y x m (suc n) es some all =

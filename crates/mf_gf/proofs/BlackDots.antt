@@ -9,7 +9,7 @@ use Rattle.mf_rows.specs.declared.run.Run.{Run}
 use Rattle.mf_edges.specs.LawfulWeights.{IsLawfulWeight}
 use Rattle.mf_rows.specs.Dots.{Dot, IsPicture, AreDotsFrom, place, start_of_field}
 use Rattle.mf_rows.specs.Order.{IsRun}
-use Rattle.mf_rows.specs.Runs.{stretch, dots_of, runs_of}
+use Rattle.mf_rows.specs.Runs.{equal_dots, dots_of, runs_of}
 use Rattle.mf_rows.proofs.DotsLemmas.{dots_from-lower}
 use Rattle.mf_rows.proofs.RunsLemmas.{dots_of-runs_of}
 use Rattle.mf_rows.proofs.PassedRuns.{lawful_runs_of}
@@ -18,20 +18,20 @@ use Rattle.mf_gf.specs.Pixels.{black}
 
 -- ---- all dots of a run are black, or none is
 
-black-stretch : (y x w : ℤ) (n : ℕ) (ds : List Dot) → int_lt (pos 0) w ≡ true → black (stretch y x w n ++ ds) ≡ stretch y x (pos 1) n ++ black ds
-unfolding black stretch
-black-stretch y x w zero ds positive = refl
-black-stretch y x w (suc n) ds positive =
-    let others = stretch y (x +ℤ pos 1) w n ++ ds in
+black-equal_dots : (y x w : ℤ) (n : ℕ) (ds : List Dot) → int_lt (pos 0) w ≡ true → black (equal_dots y x w n ++ ds) ≡ equal_dots y x (pos 1) n ++ black ds
+unfolding black equal_dots
+black-equal_dots y x w zero ds positive = refl
+black-equal_dots y x w (suc n) ds positive =
+    let others = equal_dots y (x +ℤ pos 1) w n ++ ds in
     let first : Dot = record { y = y; x = x; weight = pos 1 } in
     cond-true (int_lt (pos 0) w) (first ∷ black others) (black others) positive
-    ∙ ap (λ dots. first ∷ dots) (black-stretch y (x +ℤ pos 1) w n ds positive)
+    ∙ ap (λ dots. first ∷ dots) (black-equal_dots y (x +ℤ pos 1) w n ds positive)
 
-black-skip : (y x w : ℤ) (n : ℕ) (ds : List Dot) → int_lt (pos 0) w ≡ false → black (stretch y x w n ++ ds) ≡ black ds
-unfolding black stretch
+black-skip : (y x w : ℤ) (n : ℕ) (ds : List Dot) → int_lt (pos 0) w ≡ false → black (equal_dots y x w n ++ ds) ≡ black ds
+unfolding black equal_dots
 black-skip y x w zero ds not_positive = refl
 black-skip y x w (suc n) ds not_positive =
-    let others = stretch y (x +ℤ pos 1) w n ++ ds in
+    let others = equal_dots y (x +ℤ pos 1) w n ++ ds in
     cond-false (int_lt (pos 0) w) (record { y = y; x = x; weight = pos 1 } ∷ black others) (black others) not_positive
     ∙ black-skip y (x +ℤ pos 1) w n ds not_positive
 
@@ -41,7 +41,7 @@ black-runs [] = refl
 black-runs (r ∷ rs) =
     cond_both (int_lt (pos 0) r.weight) (record { y = r.y; x = r.x; len = r.len; weight = pos 1 } ∷ blacks rs)
     (blacks rs) (λ all. black (dots_of r ++ flat_map dots_of rs) ≡ flat_map dots_of all)
-    (λ yes. black-stretch r.y r.x r.weight r.len (flat_map dots_of rs) yes ∙ ap (λ dots. stretch r.y r.x (pos 1) r.len ++ dots) (black-runs rs))
+    (λ yes. black-equal_dots r.y r.x r.weight r.len (flat_map dots_of rs) yes ∙ ap (λ dots. equal_dots r.y r.x (pos 1) r.len ++ dots) (black-runs rs))
     (λ no. black-skip r.y r.x r.weight r.len (flat_map dots_of rs) no ∙ black-runs rs)
 
 -- the black pixels are those of the black runs

@@ -8,7 +8,7 @@ use Rattle.std.proofs.lemmas.List.Elements.{All-nil, All-cons, All-head, All-tai
 use Rattle.mf_rows.specs.declared.run.Run.{Run}
 use Rattle.mf_rows.specs.Dots.{Dot, AreDotsFrom, place}
 use Rattle.mf_rows.specs.Order.{IsRun}
-use Rattle.mf_rows.specs.Runs.{stretch, dots_of, continues, run_from, with_dot, runs_of, IsFollowedBy, AreMaximal}
+use Rattle.mf_rows.specs.Runs.{equal_dots, dots_of, continues, run_from, with_dot, runs_of, IsFollowedBy, AreMaximal}
 use Rattle.mf_rows.proofs.MaximalRuns.{runs_of-dots_of}
 use Rattle.mf_rows.proofs.RunsLemmas.{dots_of-runs_of, maximal_runs_of, runs_of-first}
 use Rattle.mf_gf.specs.Ahead.{AreBlackRuns, with_next}
@@ -34,16 +34,16 @@ pub record IsBegun (all : List Run) (r : Run) (rs : List Run) : Type 0 where
   pub same : flat_map dots_of (r ∷ rs) ≡ flat_map dots_of all
 
 -- two stretches side by side are one
-stretch-joined : (y x w : ℤ) (m n : ℕ) → stretch y x w (m + n) ≡ stretch y x w m ++ stretch y (x +ℤ pos m) w n
-unfolding stretch
-stretch-joined y x w zero n =
+equal_dots-joined : (y x w : ℤ) (m n : ℕ) → equal_dots y x w (m + n) ≡ equal_dots y x w m ++ equal_dots y (x +ℤ pos m) w n
+unfolding equal_dots
+equal_dots-joined y x w zero n =
     let count : 0 + n ≡ n = omega arith in
     let column : x +ℤ pos 0 ≡ x = omega (arith, ints) in
     rw (count, column) refl
-stretch-joined y x w (suc m) n =
+equal_dots-joined y x w (suc m) n =
     let count : suc m + n ≡ suc (m + n) = omega arith in
     let column : (x +ℤ pos 1) +ℤ pos m ≡ x +ℤ pos (suc m) = omega (arith, ints) in
-    rw count (ap (λ dots. record { y = y; x = x; weight = w } ∷ dots) (rw column at (stretch-joined y (x +ℤ pos 1) w m n)))
+    rw count (ap (λ dots. record { y = y; x = x; weight = w } ∷ dots) (rw column at (equal_dots-joined y (x +ℤ pos 1) w m n)))
 
 -- a run starts in the column after the last of another one, in the same row
 pub record IsAdjacent (r s : Run) : Type 0 where
@@ -55,7 +55,7 @@ with_more r s = record { y = r.y; x = r.x; len = r.len + s.len; weight = r.weigh
 
 dots_of-joined : (r s : Run) → r.weight ≡ s.weight → IsAdjacent r s → dots_of (with_more r s) ≡ dots_of r ++ dots_of s
 unfolding dots_of
-dots_of-joined r s weight next = rw (weight, next.row, next.column) (stretch-joined r.y r.x s.weight r.len s.len)
+dots_of-joined r s weight next = rw (weight, next.row, next.column) (equal_dots-joined r.y r.x s.weight r.len s.len)
 
 lengthened_run : (r s : Run) → IsRun r → IsRun s → IsAdjacent r s → IsRun (with_more r s)
 lengthened_run r s run further next = record {
@@ -124,11 +124,11 @@ maximal_before r d ds apart =
     )
 
 maximal_apart : (r : Run) (y x w : ℤ) (n : ℕ) (ds : List Dot) → 1 ≤ n → (IsFollowedBy r (record { y = y; x = x; len = n; weight = w }) → ⊥)
-    → AreMaximal (r ∷ runs_of (stretch y x w n ++ ds))
-unfolding stretch run_from
+    → AreMaximal (r ∷ runs_of (equal_dots y x w n ++ ds))
+unfolding equal_dots run_from
 maximal_apart r y x w zero ds some apart = absurd (omega arith)
 maximal_apart r y x w (suc n) ds some apart =
-    maximal_before r (record { y = y; x = x; weight = w }) (stretch y (x +ℤ pos 1) w n ++ ds)
+    maximal_before r (record { y = y; x = x; weight = w }) (equal_dots y (x +ℤ pos 1) w n ++ ds)
     (λ followed. apart (record { row = followed.row; column = followed.column; weight = followed.weight }))
 
 ended_before : (all : List Run) (r s : Run) (rs : List Run) → (IsAdjacent r s → ⊥) → IsBegun all r (s ∷ rs)

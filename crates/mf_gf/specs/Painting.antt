@@ -3,7 +3,7 @@
 use Rattle.std.specs.Prelude.{◌==◌, ◌&&◌, ◌+◌, ◌-◌, Bool, true, false, not, ℕ, zero, suc, nat_le, ℤ, pos, negsuc, ◌+ℤ◌, ◌-ℤ◌, List, [], ◌∷◌, ◌++◌, length, drop, slice_index, Option, None, Some, option_map, if◌then◌else◌}
 use Rattle.byteorder.specs.Endian.{big_number}
 use Rattle.mf_rows.specs.Dots.{Dot}
-use Rattle.mf_rows.specs.Runs.{stretch}
+use Rattle.mf_rows.specs.Runs.{equal_dots}
 use Rattle.mf_gf.specs.declared.boxes.CharacterBox.{CharacterBox}
 use Rattle.mf_gf.specs.Format as gf
 use Rattle.mf_gf.specs.Numbers.{word_at}
@@ -67,7 +67,7 @@ pen_at left top = record { row = top; column = left; left = left; is_black = fal
 
 -- the pixels that a command makes black
 abbrev pub pixels_of_stroke : Pen → Stroke → List Dot
-pixels_of_stroke pen (Paint k) = if pen.is_black then stretch pen.row pen.column (pos 1) k else []
+pixels_of_stroke pen (Paint k) = if pen.is_black then equal_dots pen.row pen.column (pos 1) k else []
 pixels_of_stroke pen (Skip k) = []
 pixels_of_stroke pen (NewRow k) = []
 

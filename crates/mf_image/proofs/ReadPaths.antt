@@ -11,7 +11,7 @@ use Rattle.std.proofs.lemmas.List.Elements.{All-head, All-tail}
 use Rattle.mf_rows.specs.declared.run.Run.{Run}
 use Rattle.mf_rows.specs.Dots.{Dot, IsPicture, start_of_field, weight_at}
 use Rattle.mf_rows.specs.Order.{IsRun}
-use Rattle.mf_rows.specs.Runs.{stretch, dots_of, runs_of}
+use Rattle.mf_rows.specs.Runs.{equal_dots, dots_of, runs_of}
 use Rattle.mf_rows.proofs.RunsLemmas.{dots_of-runs_of}
 use Rattle.mf_rows.proofs.PassedRuns.{runs_are_lawful}
 use Rattle.mf_show.specs.Boxes.{IsBoxOfField, box_of_dots}
@@ -33,7 +33,7 @@ rectangle_of_read w r rest run =
     elim (cases_Bool (int_eq r.weight w)) [
       | inl matches ↦
           (let same : r.weight ≡ w = (Decides-int_eq r.weight w).0 matches in
-          let dots : dots_with w (stretch r.y r.x r.weight r.len) ≡ stretch r.y r.x w r.len = rw same (dots_with-same w r.y r.x r.len) in
+          let dots : dots_with w (equal_dots r.y r.x r.weight r.len) ≡ equal_dots r.y r.x w r.len = rw same (dots_with-same w r.y r.x r.len) in
           ap (λ text. read true w (text ++ rest)) (cond-true (int_eq r.weight w) (rectangle r) [] matches) ∙ rectangle_read w r rest run
           ∙ ap (λ ds. ds ++ read true w rest) (sym dots))
       | inr differs ↦

@@ -8,7 +8,7 @@ use Rattle.std.proofs.lemmas.Fmt.{decimal_by_steps}
 use Rattle.std.proofs.lemmas.Int.{ints}
 use Rattle.mf_rows.specs.declared.run.Run.{Run}
 use Rattle.mf_rows.specs.Order.{IsRun}
-use Rattle.mf_rows.specs.Runs.{stretch}
+use Rattle.mf_rows.specs.Runs.{equal_dots}
 use Rattle.mf_image.specs.declared.svg_image.ViewBox.{ViewBox}
 use Rattle.mf_image.specs.Reading.{after, after_first, number, read, with_digits}
 use Rattle.mf_image.specs.Svg.{IsSmall, IsSmallBox, axes, cover, grid, opening, rectangle}
@@ -186,7 +186,7 @@ width_found x top n rest column row =
     ∙ pass_number (after_first 104) digits (λ bs. refl) top (104 ∷ width_on n rest) row
 
 -- the line of a run draws its pixels, with the weight of the path
-pub rectangle_read : (w : ℤ) (r : Run) (rest : List ℕ) → IsRun r → read true w (rectangle r ++ rest) ≡ stretch r.y r.x w r.len ++ read true w rest
+pub rectangle_read : (w : ℤ) (r : Run) (rest : List ℕ) → IsRun r → read true w (rectangle r ++ rest) ≡ equal_dots r.y r.x w r.len ++ read true w rest
 unfolding rectangle read after
 rectangle_read w r rest run =
     let top = neg_ℤ (r.y +ℤ pos 1) in
@@ -201,5 +201,5 @@ rectangle_read w r rest run =
     ap (λ t. unsigned_abs (number t)) (width_found r.x top r.len rest column row) ∙ ap unsigned_abs (number_read (pos r.len) 118 _ width refl) in
     let line : rectangle r ++ rest ≡ codes "M" ++ text = simp append_assoc in
     let first : read true w (codes "M" ++ text) ≡
-    stretch (neg_ℤ (number (after_first 32 text) +ℤ pos 1)) (number text) w (unsigned_abs (number (after_first 104 text))) ++ read false w text = refl in
-    ap (read true w) line ∙ first ∙ rw (x, y, len) (ap (λ others. stretch r.y r.x w r.len ++ others) (sides_passed w r.x top r.len column row width rest))
+    equal_dots (neg_ℤ (number (after_first 32 text) +ℤ pos 1)) (number text) w (unsigned_abs (number (after_first 104 text))) ++ read false w text = refl in
+    ap (read true w) line ∙ first ∙ rw (x, y, len) (ap (λ others. equal_dots r.y r.x w r.len ++ others) (sides_passed w r.x top r.len column row width rest))

@@ -8,7 +8,7 @@ use Rattle.std.proofs.lemmas.Int.{ints}
 use Rattle.std.proofs.lemmas.List.Elements.{All-head, All-tail, All-cons, All-nil, All-weaker}
 use Rattle.mf_rows.specs.declared.run.Run.{Run}
 use Rattle.mf_rows.specs.Dots.{Dot, AreDotsFrom, place, weight_at}
-use Rattle.mf_rows.specs.Runs.{stretch, dots_of}
+use Rattle.mf_rows.specs.Runs.{equal_dots, dots_of}
 use Rattle.mf_rows.proofs.DotsLemmas.{IsAt, weight_at-here, weight_at-elsewhere}
 use Rattle.mf_image.specs.Svg.{weights_of}
 
@@ -31,14 +31,14 @@ dots_with-append w (d ∷ ds) es =
     (λ yes. rw yes (ap (λ others. d ∷ others) (dots_with-append w ds es)))
     (λ no. rw no (dots_with-append w ds es))
 
-pub dots_with-same : (w y x : ℤ) (n : ℕ) → dots_with w (stretch y x w n) ≡ stretch y x w n
-unfolding dots_with stretch
+pub dots_with-same : (w y x : ℤ) (n : ℕ) → dots_with w (equal_dots y x w n) ≡ equal_dots y x w n
+unfolding dots_with equal_dots
 dots_with-same w y x zero = refl
 dots_with-same w y x (suc n) =
     cond-true (int_eq w w) _ _ ((Decides-int_eq w w).1 refl) ∙ ap (λ others. record { y = y; x = x; weight = w } ∷ others) (dots_with-same w y (x +ℤ pos 1) n)
 
-pub dots_with-other : (w v y x : ℤ) (n : ℕ) → int_eq v w ≡ false → dots_with w (stretch y x v n) ≡ []
-unfolding dots_with stretch
+pub dots_with-other : (w v y x : ℤ) (n : ℕ) → int_eq v w ≡ false → dots_with w (equal_dots y x v n) ≡ []
+unfolding dots_with equal_dots
 dots_with-other w v y x zero other = refl
 dots_with-other w v y x (suc n) other = cond-false (int_eq v w) _ _ other ∙ dots_with-other w v y (x +ℤ pos 1) n other
 
@@ -150,11 +150,11 @@ found low ds w (suc n) x y dots least greatest =
 
 -- ---- the weights of runs
 
-either : (P : ℤ → Type 0) (y x w : ℤ) (n : ℕ) (es : List Dot) (u v : ℤ) → P w → P (weight_at es u v) → P (weight_at (stretch y x w n ++ es) u v)
-unfolding stretch weight_at
+either : (P : ℤ → Type 0) (y x w : ℤ) (n : ℕ) (es : List Dot) (u v : ℤ) → P w → P (weight_at es u v) → P (weight_at (equal_dots y x w n ++ es) u v)
+unfolding equal_dots weight_at
 either P y x w zero es u v here others = others
 either P y x w (suc n) es u v here others =
-    cond_both (int_eq x u && int_eq y v) w (weight_at (stretch y (x +ℤ pos 1) w n ++ es) u v) P (λ _. here)
+    cond_both (int_eq x u && int_eq y v) w (weight_at (equal_dots y (x +ℤ pos 1) w n ++ es) u v) P (λ _. here)
     (λ _. either P y (x +ℤ pos 1) w n es u v here others)
 
 -- what holds for 0 and for the weights of all runs holds for the weight of each pixel

@@ -4,7 +4,7 @@ use Rattle.std.specs.Char.{is_ascii_digit}
 use Rattle.std.specs.Int.RustNames.{unsigned_abs}
 use Rattle.std.specs.Ordering.{int_eq}
 use Rattle.mf_rows.specs.Dots.{Dot}
-use Rattle.mf_rows.specs.Runs.{stretch}
+use Rattle.mf_rows.specs.Runs.{equal_dots}
 
 -- what comes after these first bytes of a text, if it begins with them
 unfoldable pub after : List ℕ → List ℕ → Option (List ℕ)
@@ -36,7 +36,7 @@ named_weight w (Some text) = number text
 abbrev pub drawn_dots : ℤ → Option (List ℕ) → List Dot
 drawn_dots w None = []
 drawn_dots w (Some text) =
-    stretch (neg_ℤ (number (after_first 32 text) +ℤ pos 1)) (number text) w (unsigned_abs (number (after_first 104 text)))
+    equal_dots (neg_ℤ (number (after_first 32 text) +ℤ pos 1)) (number text) w (unsigned_abs (number (after_first 104 text)))
 
 -- the dots that the lines of a text draw, from the start of a line on or from its middle; a path of weight w is open
 unfoldable pub read : Bool → ℤ → List ℕ → List Dot

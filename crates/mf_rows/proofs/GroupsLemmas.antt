@@ -11,9 +11,10 @@ use Rattle.mf_rows.specs.declared.group.Group.{Group}
 use Rattle.mf_rows.specs.declared.group.TheConstants.{GROUP_HEIGHT}
 use Rattle.mf_rows.specs.Bands.{AreBelow, HasRow, HasNoRow}
 use Rattle.mf_rows.specs.EdgeRows.{EdgeRow, AreRowsFrom, AreRows, weight_in_rows}
-use Rattle.mf_rows.specs.Groups.{rows_at_place, rows_of_groups, IsLayer, AreLayersFrom, AreGroups}
+use Rattle.mf_rows.specs.Groups.{rows_at_place, rows_of_groups, IsLayer, AreLayersFrom, AreGroups, IsPlaceOfRow}
 use Rattle.mf_rows.specs.Sums.{weight_in_all, HaveRowWeights}
-use Rattle.mf_rows.proofs.EdgeRowsLemmas.{weight_in_rows-append, weight_in_rows-above, weight_in_rows-below, weight_in_rows-outside, rows_from-higher, rows_from-below, rows_from-cut, rows_from-append}
+use Rattle.mf_rows.proofs.EdgeRowsLemmas.{weight_in_rows-append, weight_in_rows-above, weight_in_rows-below, weight_in_rows-outside}
+use Rattle.mf_rows.proofs.EdgeRowsLemmas.{rows_from-higher, rows_from-below, rows_from-cut, rows_from-append}
 use Rattle.mf_rows.proofs.RowSumSteps.{stay_within}
 
 -- groups at their places
@@ -60,8 +61,8 @@ rows_in_place_are_rows gs i groups = record {
 
 -- ---- the place that may have row y
 
--- row y is among those of the group at place i
-pub record IsPlaceOfRow (highest y : ℤ) (i : ℕ) : Type 0 where
+-- row y is among those of the group at place i, where the first group has row `highest` as its highest
+pub record IsPlaceFrom (highest y : ℤ) (i : ℕ) : Type 0 where
   pub top : y ≤ℤ top_of highest i
   pub bottom : (top_of highest i -ℤ GROUP_HEIGHT) <ℤ y
 
@@ -75,7 +76,7 @@ weight_below_layer top x y rs layer below =
     (All-weaker (λ r. (top -ℤ GROUP_HEIGHT) <ℤ r.y) (λ r. y <ℤ r.y) (λ r lt. omega (arith, ints)) rs layer.above)
 
 -- and all weight in row y is that of its place
-pub weight_in_place : (top x y : ℤ) (gs : Groups) (i : ℕ) → AreLayersFrom top gs → IsPlaceOfRow top y i
+pub weight_in_place : (top x y : ℤ) (gs : Groups) (i : ℕ) → AreLayersFrom top gs → IsPlaceFrom top y i
     → weight_in_rows (rows_of_groups gs) x y ≡ weight_in_rows (rows_in_place gs i) x y
 weight_in_place top x y [] i layers place = refl
 weight_in_place top x y (g ∷ gs) zero layers place =
@@ -90,16 +91,20 @@ weight_in_place top x y (g ∷ gs) (suc i) layers place =
     (record { top = omega (arith, ints, place.top); bottom = omega (arith, ints, place.bottom) }) in
     omega (arith, ints)
 
-pub found_in_place : (gs : Groups) (y : ℤ) (i : ℕ) (es : List Edge) → AreGroups gs → IsPlaceOfRow last_in_field y i
+in_field : (y : ℤ) (i : ℕ) → IsPlaceOfRow y i → IsPlaceFrom last_in_field y i
+in_field y i place = record { top = place.top; bottom = omega (arith, ints, place.bottom) }
+
+pub found_in_place : (gs : Groups) (y : ℤ) (i : ℕ) (es : List Edge) → AreGroups gs → IsPlaceOfRow y i
     → HasRow (rows_in_place gs i) y es → HasRow (rows_of_groups gs) y es
 found_in_place gs y i es groups place found = record {
   edges = found.edges;
-  weights = λ x. weight_in_place last_in_field x y gs i groups.layers place ∙ found.weights x;
+  weights = λ x. weight_in_place last_in_field x y gs i groups.layers (in_field y i place) ∙ found.weights x;
 }
 
-pub absent_in_place : (gs : Groups) (y : ℤ) (i : ℕ) → AreGroups gs → IsPlaceOfRow last_in_field y i
+pub absent_in_place : (gs : Groups) (y : ℤ) (i : ℕ) → AreGroups gs → IsPlaceOfRow y i
     → HasNoRow (rows_in_place gs i) y → HasNoRow (rows_of_groups gs) y
-absent_in_place gs y i groups place absent = record { weights = λ x. weight_in_place last_in_field x y gs i groups.layers place ∙ absent.weights x }
+absent_in_place gs y i groups place absent =
+    record { weights = λ x. weight_in_place last_in_field x y gs i groups.layers (in_field y i place) ∙ absent.weights x }
 
 pub no_group_there : (rs : List EdgeRow) (y : ℤ) → [] ≡ rs → HasNoRow rs y
 unfolding weight_in_rows

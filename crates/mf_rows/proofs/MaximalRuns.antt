@@ -6,7 +6,7 @@ use Rattle.std.proofs.lemmas.Int.{ints}
 use Rattle.std.proofs.lemmas.List.Elements.{All-head, All-tail, All-cons, All-nil}
 use Rattle.mf_rows.specs.declared.run.Run.{Run}
 use Rattle.mf_rows.specs.Dots.{Dot, IsPicture, place, start_of_field, weight_at}
-use Rattle.mf_rows.specs.Runs.{stretch, dots_of, continues, run_from, with_dot, runs_of, AreMaximal, IsFollowedBy, IsMaximalRun}
+use Rattle.mf_rows.specs.Runs.{equal_dots, dots_of, continues, run_from, with_dot, runs_of, AreMaximal, IsFollowedBy, IsMaximalRun}
 use Rattle.mf_rows.proofs.RunsLemmas.{continued, dots_of-runs_of, maximal_runs_of}
 use Rattle.mf_rows.proofs.DotsLemmas.{weight_at-before}
 use Rattle.mf_rows.proofs.PassedRuns.{runs_from-runs_of}
@@ -29,16 +29,16 @@ maximal-shifted y x w n (r ∷ rs) maximal = (
   maximal.1,
 )
 
--- the first run of dots that begin with a stretch
-runs_of-stretch : (y x w : ℤ) (n : ℕ) (ds : List Dot) → 1 ≤ n → AreMaximal (record { y = y; x = x; len = n; weight = w } ∷ runs_of ds)
-    → runs_of (stretch y x w n ++ ds) ≡ record { y = y; x = x; len = n; weight = w } ∷ runs_of ds
-unfolding runs_of stretch run_from with_dot
-runs_of-stretch y x w zero ds some maximal = absurd (omega arith)
-runs_of-stretch y x w (suc zero) ds some maximal = with_dot-alone (record { y = y; x = x; weight = w }) (runs_of ds) maximal
-runs_of-stretch y x w (suc (suc n)) ds some maximal =
+-- the first run of dots that begin with equal ones
+runs_of-equal_dots : (y x w : ℤ) (n : ℕ) (ds : List Dot) → 1 ≤ n → AreMaximal (record { y = y; x = x; len = n; weight = w } ∷ runs_of ds)
+    → runs_of (equal_dots y x w n ++ ds) ≡ record { y = y; x = x; len = n; weight = w } ∷ runs_of ds
+unfolding runs_of equal_dots run_from with_dot
+runs_of-equal_dots y x w zero ds some maximal = absurd (omega arith)
+runs_of-equal_dots y x w (suc zero) ds some maximal = with_dot-alone (record { y = y; x = x; weight = w }) (runs_of ds) maximal
+runs_of-equal_dots y x w (suc (suc n)) ds some maximal =
     let first : Dot = record { y = y; x = x; weight = w } in
     let others : Run = record { y = y; x = x +ℤ pos 1; len = suc n; weight = w } in
-    ap (with_dot first) (runs_of-stretch y (x +ℤ pos 1) w (suc n) ds (omega arith) (maximal-shifted y x w n (runs_of ds) maximal))
+    ap (with_dot first) (runs_of-equal_dots y (x +ℤ pos 1) w (suc n) ds (omega arith) (maximal-shifted y x w n (runs_of ds) maximal))
     ∙ cond-true (continues first others) (run_from first (suc n) ∷ runs_of ds) (run_from first 0 ∷ others ∷ runs_of ds)
     ((continued first others).1 (record { row = refl; column = refl; weight = refl }))
 
@@ -54,7 +54,7 @@ runs_of-dots_of (r ∷ rs) some maximal =
     let P = λ (r : Run). 1 ≤ r.len in
     let others = runs_of-dots_of rs (All-tail P r rs some) (maximal-tail r rs maximal) in
     let followed = subst (λ all. AreMaximal (r ∷ all)) (sym others) maximal in
-    runs_of-stretch r.y r.x r.weight r.len (flat_map dots_of rs) (All-head P r rs some) followed
+    runs_of-equal_dots r.y r.x r.weight r.len (flat_map dots_of rs) (All-head P r rs some) followed
     ∙ ap (λ all. r ∷ all) others
 
 -- ---- the weights of pixels and neighbours

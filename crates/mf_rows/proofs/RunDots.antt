@@ -11,17 +11,17 @@ use Rattle.mf_edges.specs.LawfulWeights.{IsLawfulWeight}
 use Rattle.mf_rows.specs.Dots.{Dot, IsPicture, AreDotsFrom, place, start_of_field, weight_at}
 use Rattle.mf_rows.specs.Order.{IsRun, Fits}
 use Rattle.mf_rows.specs.Places.{AreBefore}
-use Rattle.mf_rows.specs.Runs.{stretch, dots_of, AreMaximal}
+use Rattle.mf_rows.specs.Runs.{equal_dots, dots_of, AreMaximal}
 use Rattle.mf_rows.proofs.DotsLemmas.{weight_at-here, weight_at-elsewhere, weight_at-before, not_at, dots_from-lower, dots_from-append}
 use Rattle.mf_rows.proofs.PlacesLemmas.{AreFieldColumns, first_column, next_columns, place-next, start_of_field-le}
 
-pub stretch-from : (y x w : ℤ) (n : ℕ) → AreFieldColumns x y n → IsLawfulWeight w → w ≢ pos 0 → AreDotsFrom (place x y) (stretch y x w n)
-unfolding stretch
-stretch-from y x w zero columns lawful nonzero = tt
-stretch-from y x w (suc n) columns lawful nonzero = (
+pub equal_dots-from : (y x w : ℤ) (n : ℕ) → AreFieldColumns x y n → IsLawfulWeight w → w ≢ pos 0 → AreDotsFrom (place x y) (equal_dots y x w n)
+unfolding equal_dots
+equal_dots-from y x w zero columns lawful nonzero = tt
+equal_dots-from y x w (suc n) columns lawful nonzero = (
   record { in_field = first_column x y n columns; lawful = lawful; nonzero = nonzero },
   omega (arith, ints),
-  subst (λ p. AreDotsFrom p (stretch y (x +ℤ pos 1) w n)) (place-next x y) (stretch-from y (x +ℤ pos 1) w n (next_columns x y n columns) lawful nonzero),
+  subst (λ p. AreDotsFrom p (equal_dots y (x +ℤ pos 1) w n)) (place-next x y) (equal_dots-from y (x +ℤ pos 1) w n (next_columns x y n columns) lawful nonzero),
 )
 
 -- a picture followed by a run that fits is a picture
@@ -30,9 +30,9 @@ unfolding dots_of
 picture-push ds r picture fits =
     let run = fits.run in
     let start = start_of_field-le r.x r.y (record { left = run.left; right = omega (arith, ints, run.right, run.some); bottom = run.bottom; top = run.top }) in
-    let stretched =
-    stretch-from r.y r.x r.weight r.len (record { left = run.left; right = run.right; bottom = run.bottom; top = run.top }) run.lawful run.nonzero in
-    record { dots = dots_from-append start_of_field (place r.x r.y) ds (stretch r.y r.x r.weight r.len) start picture.dots fits.after stretched }
+    let columns : AreFieldColumns r.x r.y r.len = record { left = run.left; right = run.right; bottom = run.bottom; top = run.top } in
+    let own = equal_dots-from r.y r.x r.weight r.len columns run.lawful run.nonzero in
+    record { dots = dots_from-append start_of_field (place r.x r.y) ds (equal_dots r.y r.x r.weight r.len) start picture.dots fits.after own }
 
 -- a pixel of a run
 pub record IsOnRun (r : Run) (x y : ℤ) : Type 0 where
@@ -40,24 +40,24 @@ pub record IsOnRun (r : Run) (x y : ℤ) : Type 0 where
   pub left : r.x ≤ℤ x
   pub right : x <ℤ (r.x +ℤ pos r.len)
 
-pub weight_at-stretch : (y x w : ℤ) (n : ℕ) (u : ℤ) → x ≤ℤ u → u <ℤ (x +ℤ pos n) → weight_at (stretch y x w n) u y ≡ w
-unfolding stretch
-weight_at-stretch y x w zero u left right = absurd (omega (arith, ints))
-weight_at-stretch y x w (suc n) u left right =
+pub weight_at-equal_dots : (y x w : ℤ) (n : ℕ) (u : ℤ) → x ≤ℤ u → u <ℤ (x +ℤ pos n) → weight_at (equal_dots y x w n) u y ≡ w
+unfolding equal_dots
+weight_at-equal_dots y x w zero u left right = absurd (omega (arith, ints))
+weight_at-equal_dots y x w (suc n) u left right =
     let first : Dot = record { y = y; x = x; weight = w } in
-    let others = stretch y (x +ℤ pos 1) w n in
+    let others = equal_dots y (x +ℤ pos 1) w n in
     by_lt_z x u
     (λ later. weight_at-elsewhere first others u y (λ here. omega (arith, ints, here.column))
-    ∙ weight_at-stretch y (x +ℤ pos 1) w n u (omega (arith, ints)) (omega (arith, ints)))
+    ∙ weight_at-equal_dots y (x +ℤ pos 1) w n u (omega (arith, ints)) (omega (arith, ints)))
     (λ here. weight_at-here first others u y (record { column = omega (arith, ints); row = refl }))
 
--- a stretch without a pixel does not affect it
+-- equal dots without that pixel do not affect it
 weight_at-skip : (y x w : ℤ) (n : ℕ) (ds : List Dot) (u v : ℤ) → (y ≡ v → x ≤ℤ u → u <ℤ (x +ℤ pos n) → ⊥)
-    → weight_at (stretch y x w n ++ ds) u v ≡ weight_at ds u v
-unfolding stretch
+    → weight_at (equal_dots y x w n ++ ds) u v ≡ weight_at ds u v
+unfolding equal_dots
 weight_at-skip y x w zero ds u v off = refl
 weight_at-skip y x w (suc n) ds u v off =
-    weight_at-elsewhere (record { y = y; x = x; weight = w }) (stretch y (x +ℤ pos 1) w n ++ ds) u v
+    weight_at-elsewhere (record { y = y; x = x; weight = w }) (equal_dots y (x +ℤ pos 1) w n ++ ds) u v
     (λ here. off here.row (omega (arith, ints, here.column)) (omega (arith, ints, here.column)))
     ∙ weight_at-skip y (x +ℤ pos 1) w n ds u v (λ row left right. off row (omega (arith, ints)) (omega (arith, ints)))
 
@@ -85,22 +85,22 @@ unfolding dots_of
 weight_at-on_run ds r x y fits on =
     let further = place-le r.x x r.y on.left in
     let before = All-weaker (λ d. place d.x d.y <ℤ place r.x r.y) (λ d. place d.x d.y <ℤ place x r.y) (λ d lower. omega (arith, ints)) ds fits.after in
-    subst (λ v. weight_at (ds ++ stretch r.y r.x r.weight r.len) x v ≡ r.weight) on.row
-    (weight_at-append_after ds (stretch r.y r.x r.weight r.len) x r.y before ∙ weight_at-stretch r.y r.x r.weight r.len x on.left on.right)
+    subst (λ v. weight_at (ds ++ equal_dots r.y r.x r.weight r.len) x v ≡ r.weight) on.row
+    (weight_at-append_after ds (equal_dots r.y r.x r.weight r.len) x r.y before ∙ weight_at-equal_dots r.y r.x r.weight r.len x on.left on.right)
 
 -- and every other pixel keeps its weight
 pub weight_at-off_run : (ds : List Dot) (r : Run) (x y : ℤ) → (IsOnRun r x y → ⊥) → weight_at (ds ++ dots_of r) x y ≡ weight_at ds x y
 unfolding dots_of weight_at
 weight_at-off_run ds r x y off =
     let skipped = weight_at-skip r.y r.x r.weight r.len [] x y (λ row left right. off (record { row = row; left = left; right = right })) in
-    weight_at-append_none ds (stretch r.y r.x r.weight r.len) x y (rw append-nil at skipped)
+    weight_at-append_none ds (equal_dots r.y r.x r.weight r.len) x y (rw append-nil at skipped)
 
-pub before_stretch-end : (y x w : ℤ) (n : ℕ) (p : ℤ) → place (x +ℤ pos n) y ≤ℤ p → AreBefore p (stretch y x w n)
-unfolding stretch place
-before_stretch-end y x w zero p end = All-nil (λ d. place d.x d.y <ℤ p)
-before_stretch-end y x w (suc n) p end =
-    All-cons (λ d. place d.x d.y <ℤ p) (record { y = y; x = x; weight = w }) (stretch y (x +ℤ pos 1) w n)
-    (omega (arith, ints)) (before_stretch-end y (x +ℤ pos 1) w n p (omega (arith, ints)))
+pub before_equal_dots-end : (y x w : ℤ) (n : ℕ) (p : ℤ) → place (x +ℤ pos n) y ≤ℤ p → AreBefore p (equal_dots y x w n)
+unfolding equal_dots place
+before_equal_dots-end y x w zero p end = All-nil (λ d. place d.x d.y <ℤ p)
+before_equal_dots-end y x w (suc n) p end =
+    All-cons (λ d. place d.x d.y <ℤ p) (record { y = y; x = x; weight = w }) (equal_dots y (x +ℤ pos 1) w n)
+    (omega (arith, ints)) (before_equal_dots-end y (x +ℤ pos 1) w n p (omega (arith, ints)))
 
 -- ---- runs in reading order
 
@@ -126,10 +126,11 @@ dots_from-runs low (r ∷ rs) runs =
     let end = place (r.x +ℤ pos r.len) r.y in
     let start : low ≤ℤ place r.x r.y = runs.1 in
     let further : place r.x r.y ≤ℤ end = place-le r.x (r.x +ℤ pos r.len) r.y (omega (arith, ints)) in
-    let own = stretch-from r.y r.x r.weight r.len (record { left = run.left; right = run.right; bottom = run.bottom; top = run.top }) run.lawful run.nonzero in
-    dots_from-append low end (stretch r.y r.x r.weight r.len) (flat_map dots_of rs) (omega (arith, ints))
-    (dots_from-lower low (place r.x r.y) (stretch r.y r.x r.weight r.len) start own)
-    (before_stretch-end r.y r.x r.weight r.len end (omega (arith, ints)))
+    let columns : AreFieldColumns r.x r.y r.len = record { left = run.left; right = run.right; bottom = run.bottom; top = run.top } in
+    let own = equal_dots-from r.y r.x r.weight r.len columns run.lawful run.nonzero in
+    dots_from-append low end (equal_dots r.y r.x r.weight r.len) (flat_map dots_of rs) (omega (arith, ints))
+    (dots_from-lower low (place r.x r.y) (equal_dots r.y r.x r.weight r.len) start own)
+    (before_equal_dots-end r.y r.x r.weight r.len end (omega (arith, ints)))
     (dots_from-runs end rs runs.2)
 
 -- to the left of the first run of its row a pixel has weight 0
@@ -143,8 +144,8 @@ pub weight_at-on_first : (low : ℤ) (r : Run) (rs : List Run) (x y : ℤ) → A
 unfolding dots_of
 weight_at-on_first low r rs x y runs on =
     subst (λ v. weight_at (flat_map dots_of (r ∷ rs)) x v ≡ r.weight) on.row
-    (weight_at-append_none (stretch r.y r.x r.weight r.len) (flat_map dots_of rs) x r.y (weight_at-left_of (r.x +ℤ pos r.len) r.y x rs runs.2 on.right)
-    ∙ weight_at-stretch r.y r.x r.weight r.len x on.left on.right)
+    (weight_at-append_none (equal_dots r.y r.x r.weight r.len) (flat_map dots_of rs) x r.y (weight_at-left_of (r.x +ℤ pos r.len) r.y x rs runs.2 on.right)
+    ∙ weight_at-equal_dots r.y r.x r.weight r.len x on.left on.right)
 
 pub weight_at-off_first : (r : Run) (rs : List Run) (x y : ℤ) → (IsOnRun r x y → ⊥)
     → weight_at (flat_map dots_of (r ∷ rs)) x y ≡ weight_at (flat_map dots_of rs) x y

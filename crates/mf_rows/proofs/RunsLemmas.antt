@@ -7,7 +7,7 @@ use Rattle.std.proofs.lemmas.Bool.Decides.{Decides-int_eq, Decides-and, Decides-
 use Rattle.std.proofs.lemmas.Int.{ints}
 use Rattle.mf_rows.specs.declared.run.Run.{Run}
 use Rattle.mf_rows.specs.Dots.{Dot}
-use Rattle.mf_rows.specs.Runs.{stretch, dots_of, continues, run_from, with_dot, runs_of, IsFollowedBy, AreMaximal}
+use Rattle.mf_rows.specs.Runs.{equal_dots, dots_of, continues, run_from, with_dot, runs_of, IsFollowedBy, AreMaximal}
 
 -- a dot continues a run exactly where the run follows that of the dot alone
 pub continued : (d : Dot) (r : Run) → Decides (continues d r) (IsFollowedBy (run_from d 0) r)
@@ -19,11 +19,11 @@ continued d r =
 
 -- a run with one more dot at its left end has that dot and its own dots
 lengthened : (d : Dot) (r : Run) → IsFollowedBy (run_from d 0) r → dots_of (run_from d r.len) ≡ d ∷ dots_of r
-unfolding run_from dots_of stretch
+unfolding run_from dots_of equal_dots
 lengthened d r followed = ap (λ others. d ∷ others) (rw (← followed.row, ← followed.column, ← followed.weight) refl)
 
 dots_of-with_dot : (d : Dot) (rs : List Run) → flat_map dots_of (with_dot d rs) ≡ d ∷ flat_map dots_of rs
-unfolding with_dot run_from dots_of stretch
+unfolding with_dot run_from dots_of equal_dots
 dots_of-with_dot d [] = refl
 dots_of-with_dot d (r ∷ rs) =
     cond_both (continues d r) (run_from d r.len ∷ rs) (run_from d 0 ∷ r ∷ rs) (λ all. flat_map dots_of all ≡ d ∷ flat_map dots_of (r ∷ rs))

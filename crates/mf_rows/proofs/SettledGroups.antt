@@ -1,5 +1,6 @@
 -- Groups that are changed place by place: rows are added to them, or they take up what is kept beside them.
-use Rattle.std.proofs.Common.{◌≡◌, ℕ, zero, suc, ◌+◌, ◌<◌, ◌≤◌, ℤ, pos, ◌+ℤ◌, ◌-ℤ◌, ◌<ℤ◌, List, [], ◌∷◌, ◌++◌, length, set, Option, None, refl, ap, sym, subst, ◌∙◌, arith}
+use Rattle.std.proofs.Common.{◌≡◌, ℕ, zero, suc, ◌+◌, ◌<◌, ◌≤◌, ℤ, pos, ◌+ℤ◌, ◌-ℤ◌, ◌<ℤ◌, List, [], ◌∷◌, ◌++◌, length, set, Option, None}
+use Rattle.std.proofs.Common.{refl, ap, sym, subst, ◌∙◌, arith}
 use Rattle.std.proofs.lemmas.Int.{ints, by_lt_z}
 use Rattle.std.proofs.lemmas.List.{length-set}
 use Rattle.std.proofs.lemmas.List.Elements.{All-weaker}
@@ -14,7 +15,8 @@ use Rattle.mf_rows.specs.Piles.{HaveSameSum, ArePiled}
 use Rattle.mf_rows.specs.Sums.{weight_in_all, HaveRowWeights, IsUnlawfulSomewhere}
 use Rattle.mf_rows.proofs.BothRowsLemmas.{weight_in_rows-both}
 use Rattle.mf_rows.proofs.EdgeRowsLemmas.{weight_in_rows-append, weight_in_rows-above, weight_in_rows-below, lawful_weight_in_rows}
-use Rattle.mf_rows.proofs.GroupsLemmas.{Groups, rows_in_place, top_of, none_is_layer, layer_at, sum_is_layer, sum_with_none, rows_of_groups_are_rows, weight_above_layer, weight_below_layer, weight_in_place}
+use Rattle.mf_rows.proofs.GroupsLemmas.{Groups, rows_in_place, top_of, none_is_layer, layer_at, sum_is_layer, sum_with_none}
+use Rattle.mf_rows.proofs.GroupsLemmas.{rows_of_groups_are_rows, weight_above_layer, weight_below_layer, weight_in_place}
 use Rattle.mf_rows.proofs.GroupsMade.{own_is_layer}
 use Rattle.mf_rows.proofs.PictureRows.{unlawful_as}
 use Rattle.mf_rows.proofs.PilesLemmas.{piled}
@@ -82,6 +84,8 @@ none_before i gs = record { rows = λ k less. refl }
 pub before_more : (i : ℕ) (gs gs' : Groups) → AreSameBefore i gs gs' → AreSameBefore i gs (gs' ++ None ∷ [])
 before_more i gs gs' same = record { rows = λ k less. place_more gs' k ∙ same.rows k less }
 
+pub ruleset no_group_more = (groups_more, rows_more, none_before, before_more)
+
 -- ---- rows are added at place i and at later ones
 
 pub record AreAddedFrom (i : ℕ) (gs : Groups) (rs : List EdgeRow) (gs' : Groups) : Type 0 where
@@ -140,7 +144,9 @@ module _ (i : ℕ) (gs : Groups) (rs own others : List EdgeRow)
       by_lt_z (top -ℤ GROUP_HEIGHT) y
       (λ within.
       let there = weight_in_place last_in_field x y gs i groups.layers (record { top = up_to; bottom = within }) in
-      let none = weight_in_rows-below others x y (All-weaker (λ r. r.y <ℤ (top_of_place (i + 1) +ℤ pos 1)) (λ r. r.y <ℤ y) (λ r lt. omega (arith, ints, within)) others split.below) in
+      let none =
+      weight_in_rows-below others x y
+      (All-weaker (λ r. r.y <ℤ (top_of_place (i + 1) +ℤ pos 1)) (λ r. r.y <ℤ y) (λ r lt. omega (arith, ints, within)) others split.below) in
       omega (arith, ints, there, none, weight_parted x y))
       (λ below. absurd (lawful (weight_below_layer top x y _ group below) (weight_below_layer top x y _ added below)))))
 
@@ -154,7 +160,9 @@ module _ (i : ℕ) (gs : Groups) (rs own others : List EdgeRow)
       unlawful_as found (λ inside.
       by_lt_z next y
       (λ above.
-      let none = weight_in_rows-below others x y (All-weaker (λ r. r.y <ℤ (next +ℤ pos 1)) (λ r. r.y <ℤ y) (λ r lt. omega (arith, ints, above)) others split.below) in
+      let none =
+      weight_in_rows-below others x y
+      (All-weaker (λ r. r.y <ℤ (next +ℤ pos 1)) (λ r. r.y <ℤ y) (λ r lt. omega (arith, ints, above)) others split.below) in
       let lawful = lawful_weight_in_rows last_in_field (rows_of_groups gs) x y (rows_of_groups_are_rows gs groups).rows in
       absurd (found.unlawful (record { least = omega (arith, ints, lawful.least, none); greatest = omega (arith, ints, lawful.greatest, none) })))
       (λ up_to.
@@ -225,7 +233,8 @@ all_settled i gs hs gs' hs' all so_far = none_left hs' (λ k inside. so_far.done
 
 -- ---- a pile whose groups took up some of what is beside them
 
-pub piled_same : (gs hs gs' hs' : Groups) (reach : ℤ) → ArePiled gs hs reach → AreGroups gs' → AreGroups hs' → HaveSameSum gs hs gs' hs' → ArePiled gs' hs' reach
+pub piled_same : (gs hs gs' hs' : Groups) (reach : ℤ) → ArePiled gs hs reach → AreGroups gs' → AreGroups hs' → HaveSameSum gs hs gs' hs'
+    → ArePiled gs' hs' reach
 piled_same gs hs gs' hs' reach pile groups recent same = record {
   groups = groups;
   recent = recent;
@@ -257,7 +266,8 @@ rows_same gs hs gs' hs' same = record {
       );
 }
 
-pub rows_settled : (gs hs gs' hs' : Groups) → rows_of_groups hs' ≡ [] → HaveSameSum gs hs gs' hs' → HaveRowWeights (weight_in_rows (piled gs hs)) (rows_of_groups gs')
+pub rows_settled : (gs hs gs' hs' : Groups) → rows_of_groups hs' ≡ [] → HaveSameSum gs hs gs' hs'
+    → HaveRowWeights (weight_in_rows (piled gs hs)) (rows_of_groups gs')
 unfolding weight_in_all weight_in_rows
 rows_settled gs hs gs' hs' none same = record {
   weights = λ x y.

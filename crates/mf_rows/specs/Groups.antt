@@ -1,5 +1,5 @@
 -- Groups of bands: the field has a place for each, and a group has the bands of 256 rows of the field.
-use Rattle.std.specs.Prelude.{◌≡◌, ℕ, ◌+◌, ◌<◌, ℤ, pos, ◌+ℤ◌, ◌-ℤ◌, ◌*ℤ◌, List, [], ◌∷◌, ◌++◌, Option, Some, None, flat_map, slice_index_or}
+use Rattle.std.specs.Prelude.{◌≡◌, ℕ, ◌+◌, ◌<◌, ℤ, pos, ◌+ℤ◌, ◌-ℤ◌, ◌*ℤ◌, ◌≤ℤ◌, ◌<ℤ◌, List, [], ◌∷◌, ◌++◌, Option, Some, None, flat_map, slice_index_or}
 use Rattle.std.specs.Arc.{arc_value}
 use Rattle.std.specs.Borrow.{Bor}
 use Rattle.std.specs.declared.alloc.Global.{Global}
@@ -41,6 +41,11 @@ pub record AreGroups (gs : List (Option (Arc Group Global))) : Type 0 where
 -- the highest row of the field that belongs to the group at place i
 abbrev pub top_of_place : ℕ → ℤ
 top_of_place i = last_in_field -ℤ (GROUP_HEIGHT *ℤ pos i)
+
+-- the group at place i has the bands of row y
+pub record IsPlaceOfRow (y : ℤ) (i : ℕ) : Type 0 where
+  pub top : y ≤ℤ top_of_place i
+  pub bottom : top_of_place (i + 1) <ℤ y
 
 -- rows are split into those that belong to the groups up to place i, and those that belong to later groups
 pub record IsSplitAtPlace (i : ℕ) (rs own others : List EdgeRow) : Type 0 where

@@ -5,13 +5,13 @@ use Rattle.mf_rows.specs.declared.run.Run.{Run}
 use Rattle.mf_rows.specs.Dots.{Dot, weight_at}
 
 -- n dots of weight w in row y, from column x to the right
-unfoldable pub stretch : ℤ → ℤ → ℤ → ℕ → List Dot
-stretch y x w zero = []
-stretch y x w (suc n) = record { y = y; x = x; weight = w } ∷ stretch y (x +ℤ pos 1) w n
+unfoldable pub equal_dots : ℤ → ℤ → ℤ → ℕ → List Dot
+equal_dots y x w zero = []
+equal_dots y x w (suc n) = record { y = y; x = x; weight = w } ∷ equal_dots y (x +ℤ pos 1) w n
 
 -- the dots of a run
 unfoldable pub dots_of : Run → List Dot
-dots_of r = stretch r.y r.x r.weight r.len
+dots_of r = equal_dots r.y r.x r.weight r.len
 
 -- a dot continues a run to the left: it has the same row and weight, and is in the column before the run
 unfoldable pub continues : Dot → Run → Bool

@@ -8,13 +8,12 @@ ghost use Rattle.mf_rows.specs.Sums.{weight_in_all, HaveRowWeights, IsUnlawfulSo
 
 use crate::addend::Addend;
 use crate::fault::AddFault;
-use crate::group::{GROUP_COUNT, GROUP_HEIGHT, Group};
+use crate::group::{GROUP_COUNT, Group};
 use crate::group_sum::{sum_of_two, sum_with};
-use crate::groups::{group_at, split_rows_at_place};
+use crate::groups::{group_at, place_of_row, split_rows_at_place};
 use crate::sign::Sign;
 use crate::slice::RowSlice;
 use mf_base::OutOfMemory;
-use mf_edges::FIELD_END;
 use std::alloc::Global;
 use std::sync::Arc;
 
@@ -36,8 +35,7 @@ pub(crate) fn add_rows(
     let Some((first, _)) = rows.split_first() else {
         return Ok(());
     };
-    let place = ((FIELD_END - 1 - first.y) / GROUP_HEIGHT) as usize;
-    add_rows_from(alloc, groups, place, rows)
+    add_rows_from(alloc, groups, place_of_row(first.y), rows)
 }
 
 /// Does the same with rows of which none is above a place. All sums are made before the first of them is put into its place.
@@ -101,7 +99,7 @@ pub(crate) fn take_up(
 }
 
 /// Makes a list of groups as long as this, with no groups at the further places.
-#[tactic(auto, using(crate::proofs::SettledGroups::groups_more, crate::proofs::SettledGroups::rows_more, crate::proofs::SettledGroups::none_before, crate::proofs::SettledGroups::before_more))]
+#[tactic(auto, using(crate::proofs::SettledGroups::no_group_more))]
 fn lengthen(groups: &mut Vec<Option<Arc<Group>>>, count: usize) -> Result<(), OutOfMemory>
     requires { AreGroups groups.old.items }
     ensures groups { AreGroups groups.new.items }

@@ -2,6 +2,7 @@
 ghost use Rattle.std.specs.Prelude.{◌≡◌, ◌≤ℤ◌, pos};
 ghost use Rattle.mf_edges.specs.LawfulWeights.{IsLawfulWeight, greatest_weight};
 ghost use Rattle.mf_rows.specs.Dots.{total_of};
+ghost use Rattle.mf_rows.specs.EdgeCounts.{edges_in_rows};
 ghost use Rattle.mf_rows.specs.EdgeRows.{picture_of_rows, weight_in_rows};
 ghost use Rattle.mf_rows.specs.Groups.{AreGroups, rows_of_groups};
 ghost use Rattle.mf_rows.specs.Piles.{IsReachOfSum, StayInReach};
@@ -72,7 +73,7 @@ pub(crate) fn reach_of_groups(groups: &[Option<Arc<Group>>]) -> i32
 #[derive(Clone, Copy, Debug)]
 pub(crate) struct Size {
     rows: usize,
-    edges: usize,
+    pub(crate) edges: usize,
 }
 
 impl Size {
@@ -87,12 +88,15 @@ impl Size {
     }
 }
 
-/// The size of groups.
-pub(crate) fn size_of(groups: &[Option<Arc<Group>>]) -> Size {
-    let mut size = Size { rows: 0, edges: 0 };
+/// The size of groups. It looks at each row once.
+pub(crate) fn size_of(groups: &[Option<Arc<Group>>]) -> Size
+    requires { AreGroups groups.now }
+    ensures { result.edges ≡ edges_in_rows (rows_of_groups groups.now) }
+{
+    let (mut rows, mut edges) = (0usize, 0usize);
     for row in Rows::over(groups) {
-        size.rows = size.rows.saturating_add(1);
-        size.edges = size.edges.saturating_add(row.edges.len());
+        rows = rows.saturating_add(1);
+        edges += row.edges.len();
     }
-    size
+    Size { rows, edges }
 }

@@ -30,7 +30,8 @@ pub(crate) fn sum_of_groups(
     requires left { AreGroups left.now }
     requires right { AreGroups right.now }
     ensures groups { IfOk result (λ sum. AreGroups sum.items) }
-    ensures weights { IfOk result (λ sum. HaveRowWeights (weight_in_all (rows_of_groups left.now) (signed sign (rows_of_groups right.now))) (rows_of_groups sum.items)) }
+    ensures weights { IfOk result (λ sum.
+        HaveRowWeights (weight_in_all (rows_of_groups left.now) (signed sign (rows_of_groups right.now))) (rows_of_groups sum.items)) }
     ensures too_large { IfErr result (λ fault. fault ≢ AddFault.OutOfMemory
         → IsUnlawfulSomewhere (weight_in_all (rows_of_groups left.now) (signed sign (rows_of_groups right.now)))) }
 {

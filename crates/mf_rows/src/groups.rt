@@ -1,9 +1,10 @@
 //! Lists of groups: at each place the group of the field that belongs there, or none.
-ghost use Rattle.std.specs.Prelude.{◌≡◌, ◌<◌, IsNone, IfSome, IfOk, None, map, slice_index_or};
+ghost use Rattle.std.specs.Prelude.{◌≡◌, ◌<◌, ◌≤ℤ◌, IsNone, IfSome, IfOk, None, map, slice_index_or};
+ghost use Rattle.mf_geom.specs.Coordinates.{least_coordinate, last_in_field};
 ghost use Rattle.mf_rows.specs.BandNumbers.{HaveRisingNumbers};
 ghost use Rattle.mf_rows.specs.Bands.{edge_rows, rows_of_bands, slice_rows, HasRow, HasNoRow};
 ghost use Rattle.mf_rows.specs.EdgeRows.{AreRows};
-ghost use Rattle.mf_rows.specs.Groups.{AreGroups, IsSplitAtPlace, group_found, rows_at_place, rows_of_groups};
+ghost use Rattle.mf_rows.specs.Groups.{AreGroups, IsPlaceOfRow, IsSplitAtPlace, group_found, rows_at_place, rows_of_groups};
 
 use crate::band::Band;
 use crate::bands::{find_row_in, push_shared, split_bands, split_rows};
@@ -25,9 +26,16 @@ pub(crate) fn find_row(groups: &[Option<Arc<Group>>], y: i32) -> Option<Row<'_>>
     if y < FIELD_START || FIELD_END <= y {
         return None;
     }
-    let place = ((FIELD_END - 1 - y) / GROUP_HEIGHT) as usize;
-    let group = group_at(groups, place)?;
+    let group = group_at(groups, place_of_row(y))?;
     find_row_in(&group.bands, y)
+}
+
+/// The place of the group that row y of the field belongs to.
+pub(crate) fn place_of_row(y: i32) -> usize
+    requires { least_coordinate ≤ℤ y × y ≤ℤ last_in_field }
+    ensures { IsPlaceOfRow y result }
+{
+    ((FIELD_END - 1 - y) / GROUP_HEIGHT) as usize
 }
 
 /// The group at a place, where there is one.

@@ -10,7 +10,6 @@ mod both_rows;
 mod bounds;
 mod builder;
 mod corner;
-mod edge_count;
 mod fault;
 mod group;
 mod group_change;

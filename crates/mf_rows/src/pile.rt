@@ -17,7 +17,6 @@ ghost use Rattle.mf_rows.specs.Sums.{weight_in_all, HaveRowWeights, IsUnlawfulSo
 
 use crate::both_rows::BothRows;
 use crate::bounds::{Box4, Pixels, bounds_of};
-use crate::edge_count::edges_of_groups;
 use crate::fault::AddFault;
 use crate::group::Group;
 use crate::group_change::{add_rows, take_up};
@@ -143,7 +142,7 @@ impl Pile {
         ensures edges { edge_count (runs_of (picture_of_rows self.now)) ≤ result }
         ensures rows { AreRows self.now }
     {
-        edges_of_groups(&self.older) + edges_of_groups(&self.groups)
+        size_of(&self.older).edges + size_of(&self.groups).edges
     }
 
     /// The weight of the pixel (x, y), 0 outside the field.

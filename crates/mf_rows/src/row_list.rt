@@ -184,7 +184,7 @@ impl RowList {
         if start == end {
             return Ok(());
         }
-        let reach = reach_of_sum(left, right, &self.edges[start..end])?;
+        let reach = reach_of_row_sum(left, right, &self.edges[start..end])?;
         self.heads.push(Head {
             y: right.y,
             reach,
@@ -211,7 +211,7 @@ impl RowList {
         if edges.is_empty() {
             return Ok(());
         }
-        let reach = reach_of_sum(left, right, &edges)?;
+        let reach = reach_of_row_sum(left, right, &edges)?;
         give_back_room(&mut edges);
         self.heads.push(Head {
             y: right.y,
@@ -291,7 +291,7 @@ fn place_of(edges: &mut Vec<Edge>, heads: &[Head], row: &Row<'_>) -> Result<Plac
 /// with each contour; otherwise all weights are looked at, and it is the least one. Refused with `WeightTooLarge` where a weight exceeds
 /// 32767 in absolute value.
 #[inline(always)]
-fn reach_of_sum(left: &Row<'_>, right: &Row<'_>, sum: &[Edge]) -> Result<i32, AddFault>
+fn reach_of_row_sum(left: &Row<'_>, right: &Row<'_>, sum: &[Edge]) -> Result<i32, AddFault>
     requires left { AreEdges left.now.edges.now }
     requires right { AreEdges right.now.edges.now }
     requires sum { IsEdgeSum left.now.edges.now right.now.edges.now sum.now }

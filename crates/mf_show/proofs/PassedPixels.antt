@@ -6,10 +6,10 @@ use Rattle.std.proofs.lemmas.List.Elements.{All-nil, All-head, All-tail}
 use Rattle.mf_rows.specs.declared.run.Run.{Run}
 use Rattle.mf_rows.specs.Dots.{Dot, IsPicture, AreDotsFrom, place, start_of_field, weight_at}
 use Rattle.mf_rows.specs.Order.{IsRun}
-use Rattle.mf_rows.specs.Runs.{stretch, dots_of, runs_of}
+use Rattle.mf_rows.specs.Runs.{equal_dots, dots_of, runs_of}
 use Rattle.mf_rows.proofs.DotsLemmas.{weight_at-before}
 use Rattle.mf_rows.proofs.PlacesLemmas.{place-next}
-use Rattle.mf_rows.proofs.RunDots.{IsOnRun, weight_at-on_run, weight_at-off_run, weight_at-append_after, weight_at-append_none, before_stretch-end}
+use Rattle.mf_rows.proofs.RunDots.{IsOnRun, weight_at-on_run, weight_at-off_run, weight_at-append_after, weight_at-append_none, before_equal_dots-end}
 use Rattle.mf_rows.proofs.RunsLemmas.{dots_of-runs_of}
 use Rattle.mf_rows.proofs.PassedRuns.{runs_are_lawful}
 use Rattle.mf_show.specs.RunsAhead.{with_taken, AreInOrder, AreSameFrom, IsNotBefore}
@@ -25,14 +25,14 @@ weight_off r x y off = sym (weight_at-off_run [] r x y off)
 
 -- ---- the runs ahead
 
--- the dots after a stretch start after its end
-dots_behind : (low y x w : ℤ) (n : ℕ) (es : List Dot) → AreDotsFrom low (stretch y x w (suc n) ++ es) → AreDotsFrom (place (x +ℤ pos (suc n)) y) es
-unfolding stretch
+-- the dots after equal ones start after the end of these
+dots_behind : (low y x w : ℤ) (n : ℕ) (es : List Dot) → AreDotsFrom low (equal_dots y x w (suc n) ++ es) → AreDotsFrom (place (x +ℤ pos (suc n)) y) es
+unfolding equal_dots
 dots_behind low y x w zero es dots = subst (λ p. AreDotsFrom p es) (sym (place-next x y)) dots.2
 dots_behind low y x w (suc n) es dots =
     subst (λ u. AreDotsFrom (place u y) es) (omega (arith, ints)) (dots_behind (place x y +ℤ pos 1) y (x +ℤ pos 1) w n es dots.2)
 
-dots_behind_run : (low : ℤ) (y x w : ℤ) (n : ℕ) (es : List Dot) → 1 ≤ n → AreDotsFrom low (stretch y x w n ++ es)
+dots_behind_run : (low : ℤ) (y x w : ℤ) (n : ℕ) (es : List Dot) → 1 ≤ n → AreDotsFrom low (equal_dots y x w n ++ es)
     → AreDotsFrom (place (x +ℤ pos n) y) es
 dots_behind_run low y x w zero es some dots = absurd (omega arith)
 dots_behind_run low y x w (suc n) es some dots = dots_behind low y x w n es dots
@@ -50,8 +50,8 @@ same_behind : (r : Run) (rs : List Run) (p : ℤ) → place (r.x +ℤ pos r.len)
 unfolding dots_of
 same_behind r rs p end = record {
   same = λ x y from.
-      let passed = before_stretch-end r.y r.x r.weight r.len (place x y) (omega (arith, ints)) in
-      sym (weight_at-append_after (stretch r.y r.x r.weight r.len) (flat_map dots_of rs) x y passed);
+      let passed = before_equal_dots-end r.y r.x r.weight r.len (place x y) (omega (arith, ints)) in
+      sym (weight_at-append_after (equal_dots r.y r.x r.weight r.len) (flat_map dots_of rs) x y passed);
 }
 
 -- a pixel that the first run does not end before has the weight that this run gives to it

@@ -31,7 +31,8 @@ pub push_band_sum-requires-clause-number : goal.push_band_sum-requires-clause-nu
 push_band_sum-requires-clause-number c = only_own c.loop-part.invariant c.in-Some.ensures.first c.split_bands.ensures c.split_first_band.ensures
 
 pub push_band_sum-requires-clause-before : goal.push_band_sum-requires-clause-before
-push_band_sum-requires-clause-before c = rise_with_before c.loop-part.invariant c.in-Some.ensures.first c.split_bands.ensures c.in_ok-push_shared.ensures.numbers
+push_band_sum-requires-clause-before c =
+    rise_with_before c.loop-part.invariant c.in-Some.ensures.first c.split_bands.ensures c.in_ok-push_shared.ensures.numbers
 
 pub returns-in_err-push_band_sum-clause-too_large : goal.returns-in_err-push_band_sum-clause-too_large
 returns-in_err-push_band_sum-clause-too_large c =

@@ -4,9 +4,11 @@ use Rattle.mf_rows.proofs.group_change.take_up.Goals as goal
 
 pub loop-place-init : goal.loop-place-init
 loop-place-init c =
-    settled_none _ _ _ c.in_ok-lengthen.ensures.groups c.requires.recent (omega (arith, c.in_ok-lengthen.ensures.count refl, c.len.ensures)) c.in_ok-lengthen.ensures.rows
+    let lengthened = c.in_ok-lengthen.ensures in
+    settled_none _ _ _ lengthened.groups c.requires.recent (omega (arith, lengthened.count refl, c.len.ensures)) lengthened.rows
 
 pub loop-place-preserved : goal.loop-place-preserved
 loop-place-preserved c =
-    settled_more c.loop-place.place _ _ _ _ c.in-Ok.sum (omega (arith, c.loop-place-test.true, c.len-place-end.ensures, c.loop-place.invariant.count)) c.loop-place.invariant c.in-Ok.ensures.rows
+    settled_more c.loop-place.place _ _ _ _ c.in-Ok.sum
+    (omega (arith, c.loop-place-test.true, c.len-place-end.ensures, c.loop-place.invariant.count)) c.loop-place.invariant c.in-Ok.ensures.rows
     (rw (c.group_at.ensures, c.deref.ensures.value, c.group_at-in-loop-place.ensures, c.deref-in-loop-place.ensures.value) at c.in-Ok.ensures.weights)

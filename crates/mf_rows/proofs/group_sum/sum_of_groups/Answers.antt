@@ -11,7 +11,8 @@ use Rattle.mf_rows.proofs.group_sum.sum_of_groups.Goals as goal
 
 pub loop-place-init : goal.loop-place-init
 loop-place-init c =
-    rw (c.in_ok-reserve.ensures.items, c.new-sum.ensures.items) (added_none _ _ (signed_rows c.args.sign _ (rows_of_groups_are_rows c.args.right.now c.requires.right)))
+    rw (c.in_ok-reserve.ensures.items, c.new-sum.ensures.items)
+    (added_none _ _ (signed_rows c.args.sign _ (rows_of_groups_are_rows c.args.right.now c.requires.right)))
 
 pub sum_of_two-requires-clause-left : goal.sum_of_two-requires-clause-left
 sum_of_two-requires-clause-left c = rw c.group_at.ensures (rows_in_place_are_rows c.args.left.now _ c.requires.left)

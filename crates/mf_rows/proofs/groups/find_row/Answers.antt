@@ -1,9 +1,11 @@
-use Rattle.std.proofs.Common.{◌≡◌, to_z, of_z, w32, arith}
+use Rattle.std.proofs.Common.{ℕ, ℤ, to_z, of_z, to_z-of_z, FitsSigned, w32, arith}
 use Rattle.std.proofs.lemmas.Int.{ints}
 use Rattle.std.proofs.lemmas.Option.{IfSome_then}
+use Rattle.mf_rows.specs.Groups.{IsPlaceOfRow}
 use Rattle.mf_rows.proofs.GroupsLemmas.{rows_in_place_are_rows, found_in_place, absent_in_place, no_group_there, absent_outside}
 use Rattle.mf_rows.proofs.groups.find_row.Goals as goal
-use Rattle.mf_rows.proofs.groups.find_row.Goals.{then-y-lt-FIELD_START-via-then-y-lt-FIELD_START, then-y-lt-FIELD_START-via-else-y-lt-FIELD_START+then-y-ge-FIELD_END}
+use Rattle.mf_rows.proofs.groups.find_row.Goals.{then-y-lt-FIELD_START-via-then-y-lt-FIELD_START}
+use Rattle.mf_rows.proofs.groups.find_row.Goals.{then-y-lt-FIELD_START-via-else-y-lt-FIELD_START+then-y-ge-FIELD_END}
 
 pub returns-then-y-lt-FIELD_START-clause-blank : goal.returns-then-y-lt-FIELD_START-clause-blank
 returns-then-y-lt-FIELD_START-clause-blank c = λ none.
@@ -13,9 +15,12 @@ returns-then-y-lt-FIELD_START-clause-blank c = λ none.
       | then-y-lt-FIELD_START-via-else-y-lt-FIELD_START+then-y-ge-FIELD_END w ↦ omega (arith, ints, inside.top, w.if-y-ge-FIELD_END)
     ])
 
+placed : (y : ℤ) (i : ℕ) → FitsSigned w32 y → IsPlaceOfRow (to_z w32 (of_z w32 y)) i → IsPlaceOfRow y i
+placed y i fits place = rw (to_z-of_z fits) at place
+
 pub returns-in_err-group-clause-blank : goal.returns-in_err-group-clause-blank
 returns-in_err-group-clause-blank c = λ none.
-    absent_in_place c.args.groups.now c.args.y _ c.requires (record { top = omega (arith, ints); bottom = omega (arith, ints) })
+    absent_in_place c.args.groups.now c.args.y _ c.requires (placed _ _ c.ranges.y c.place_of_row.ensures)
     (no_group_there _ c.args.y c.in_err-group.ensures)
 
 pub find_row_in-requires-clause-rows : goal.find_row_in-requires-clause-rows
@@ -24,16 +29,11 @@ find_row_in-requires-clause-rows c =
 
 pub returns-clause-found : goal.returns-clause-found
 returns-clause-found c =
-    let y = to_z w32 (of_z w32 c.args.y) in
-    let y_is : y ≡ c.args.y = omega (arith, ints) in
-    let own = rw (c.deref-2.ensures.value, c.deref.ensures, c.in_ok-group.ensures) at c.find_row_in.ensures.found in
+    let own = rw (c.deref-2.ensures.value, c.deref.ensures, c.in_ok-group.ensures, to_z-of_z c.ranges.y) at c.find_row_in.ensures.found in
     IfSome_then c.find_row_in.result own (λ row found.
-    rw (← y_is)
-    (found_in_place c.args.groups.now y _ row.edges.now c.requires (record { top = omega (arith, ints); bottom = omega (arith, ints) }) found))
+    found_in_place c.args.groups.now c.args.y _ row.edges.now c.requires (placed _ _ c.ranges.y c.place_of_row.ensures) found)
 
 pub returns-clause-blank : goal.returns-clause-blank
 returns-clause-blank c = λ none.
-    let y = to_z w32 (of_z w32 c.args.y) in
-    let y_is : y ≡ c.args.y = omega (arith, ints) in
-    let own = rw (c.deref-2.ensures.value, c.deref.ensures, c.in_ok-group.ensures) at c.find_row_in.ensures.blank none in
-    rw (← y_is) (absent_in_place c.args.groups.now y _ c.requires (record { top = omega (arith, ints); bottom = omega (arith, ints) }) own)
+    let own = rw (c.deref-2.ensures.value, c.deref.ensures, c.in_ok-group.ensures, to_z-of_z c.ranges.y) at c.find_row_in.ensures.blank none in
+    absent_in_place c.args.groups.now c.args.y _ c.requires (placed _ _ c.ranges.y c.place_of_row.ensures) own

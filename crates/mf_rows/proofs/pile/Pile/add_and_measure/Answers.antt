@@ -19,12 +19,15 @@ returns-in_err-take_up-clause-unchanged c =
 pub returns-in_err-add_rows-clause-rows : goal.returns-in_err-add_rows-clause-rows
 returns-in_err-add_rows-clause-rows c =
     piled_rows _ _ _ (piled_same _ _ _ _ _ c.self.invariant c.add_rows.ensures.groups c.take_up.ensures.recent
-    (same_among _ _ c.take_up.new.groups.items c.take_up.new.recent.items c.add_rows.new.groups.items c.take_up.ensures.weights c.in_err-add_rows.ensures.unchanged))
+    (same_among _ _ c.take_up.new.groups.items c.take_up.new.recent.items c.add_rows.new.groups.items c.take_up.ensures.weights
+    c.in_err-add_rows.ensures.unchanged))
 
 pub returns-in_err-add_rows-clause-unchanged : goal.returns-in_err-add_rows-clause-unchanged
 returns-in_err-add_rows-clause-unchanged c =
     let p = err_from_is_err_and c.from_residual-in_err-add_rows.result c.from_residual-in_err-add_rows.ensures.1 in
-    let same = rows_same _ _ _ _ (same_among _ _ c.take_up.new.groups.items c.take_up.new.recent.items c.add_rows.new.groups.items c.take_up.ensures.weights c.in_err-add_rows.ensures.unchanged) in
+    let same =
+    rows_same _ _ _ _ (same_among _ _ c.take_up.new.groups.items c.take_up.new.recent.items c.add_rows.new.groups.items c.take_up.ensures.weights
+    c.in_err-add_rows.ensures.unchanged) in
     rw p.1 (same_picture _ _ (piled_rows _ _ _ c.self.invariant) (returns-in_err-add_rows-clause-rows c) same ∙ ap picture_of_rows c.self.view_is)
 
 pub returns-in_err-add_rows-clause-too_large : goal.returns-in_err-add_rows-clause-too_large
@@ -38,7 +41,8 @@ invariant_of-self-2 c =
     let stay = rw c.deref.ensures.value at c.reach_of_groups-reach.ensures in
     let apart = c.keep_apart-older.ensures in
     rw (reach_fits _ _ stay)
-    (are_piled_apart c.keep_apart-older.result.0.items c.keep_apart-older.result.1.items c.replace-sum.result.items _ apart.older apart.groups apart.weights stay)
+    (are_piled_apart c.keep_apart-older.result.0.items c.keep_apart-older.result.1.items c.replace-sum.result.items _ apart.older apart.groups
+    apart.weights stay)
 
 pub returns-clause-weights : goal.returns-clause-weights
 returns-clause-weights c =

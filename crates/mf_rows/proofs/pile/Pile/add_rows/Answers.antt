@@ -21,11 +21,13 @@ invariant_of-self c =
     let sum : to_z w32 (of_z w32 (c.self.inside.reach +ℤ c.reach.result)) ≡ (c.self.inside.reach +ℤ c.reach.result) =
     omega (arith, ints, old.most, more.most, reach_is_no_less _ _ old, reach_is_no_less _ _ more) in
     rw (reach_fits _ _ old, reach_fits _ _ more, sum)
-    (piled_with _ _ _ _ _ _ c.self.invariant c.in-Ok.ensures.groups weights more (omega (arith, ints, rw (reach_fits _ _ old, reach_fits _ _ more, sum) at c.if-reach-gt-MAX_WEIGHT.false)))
+    (piled_with _ _ _ _ _ _ c.self.invariant c.in-Ok.ensures.groups weights more
+    (omega (arith, ints, rw (reach_fits _ _ old, reach_fits _ _ more, sum) at c.if-reach-gt-MAX_WEIGHT.false)))
 
 pub returns-in-Ok-clause-weights : goal.returns-in-Ok-clause-weights
 returns-in-Ok-clause-weights c =
-    rw (← c.self.view_is) (weights_with c.self.inside.older.items c.self.inside.groups.items c.add_rows.new.groups.items (slice_rows c.args.rows) c.in-Ok.ensures.weights)
+    rw (← c.self.view_is)
+    (weights_with c.self.inside.older.items c.self.inside.groups.items c.add_rows.new.groups.items (slice_rows c.args.rows) c.in-Ok.ensures.weights)
 
 pub returns-in-Ok-clause-rows : goal.returns-in-Ok-clause-rows
 returns-in-Ok-clause-rows c = piled_rows _ _ _ (invariant_of-self c)

@@ -3,11 +3,11 @@ use Rattle.mf_rows.proofs.PilesLemmas.{piled_rows, rows_of_pile}
 use Rattle.mf_rows.proofs.EdgeCountsLemmas.{IsCountOfBoth, count-of_both}
 use Rattle.mf_rows.proofs.pile.Pile.edge_count.Goals as goal
 
-both : (c : goal.After-edges_of_groups-2) → IsCountOfBoth (rows_of_groups c.self.inside.groups.items) (rows_of_groups c.self.inside.older.items)
-    c.edges_of_groups.result c.edges_of_groups-2.result
+both : (c : goal.After-struct_known-2-1) → IsCountOfBoth (rows_of_groups c.self.inside.groups.items) (rows_of_groups c.self.inside.older.items)
+    c.size_of.result.edges c.size_of-2.result.edges
 both c =
     count-of_both _ _ _ _ (rows_of_pile _ _ _ c.self.invariant)
-    (rw c.deref.ensures.value at c.edges_of_groups.ensures) (rw c.deref-2.ensures.value at c.edges_of_groups-2.ensures)
+    (rw c.deref.ensures.value at c.size_of.ensures) (rw c.deref-2.ensures.value at c.size_of-2.ensures)
 
 pub overflow_add-result : goal.overflow_add-result
 overflow_add-result c = (both c).fits

@@ -16,4 +16,5 @@ returns-clause-rows c = piled_rows _ _ _ (invariant_of-self c)
 
 pub returns-clause-picture : goal.returns-clause-picture
 returns-clause-picture c =
-    same_picture _ _ (piled_rows _ _ _ c.self.invariant) (returns-clause-rows c) (rows_same _ _ _ _ c.take_up.ensures.weights) ∙ ap picture_of_rows c.self.view_is
+    same_picture _ _ (piled_rows _ _ _ c.self.invariant) (returns-clause-rows c) (rows_same _ _ _ _ c.take_up.ensures.weights)
+    ∙ ap picture_of_rows c.self.view_is

@@ -5,7 +5,8 @@ use Rattle.mf_rows.proofs.pile.Pile.whole.Goals as goal
 
 pub returns-in-Ok-clause-weights : goal.returns-in-Ok-clause-weights
 returns-in-Ok-clause-weights c =
-    rw (← c.self.view_is) (weights_of_pile c.self.inside.older.items c.self.inside.groups.items c.in-Ok.groups.items (rw (c.deref.ensures.value, c.deref-2.ensures.value) at c.in-Ok.ensures.weights))
+    rw (← c.self.view_is) (weights_of_pile c.self.inside.older.items c.self.inside.groups.items c.in-Ok.groups.items
+    (rw (c.deref.ensures.value, c.deref-2.ensures.value) at c.in-Ok.ensures.weights))
 
 pub returns-in-Ok-clause-rows : goal.returns-in-Ok-clause-rows
 returns-in-Ok-clause-rows c = rw c.self.view_is at (piled_rows _ _ _ c.self.invariant)

@@ -14,8 +14,8 @@ use Rattle.mf_rows.proofs.RowListLemmas.{heads_push, rows_push, place_of_own, no
 use Rattle.mf_rows.proofs.RowSums.{unlawful_in_row, sum_of_both-blank, sum_of_both-some}
 use Rattle.mf_rows.proofs.row_list.RowList.push_long_sum.Goals as goal
 
-pub reach_of_sum-requires-clause-sum : goal.reach_of_sum-requires-clause-sum
-reach_of_sum-requires-clause-sum c =
+pub reach_of_row_sum-requires-clause-sum : goal.reach_of_row_sum-requires-clause-sum
+reach_of_row_sum-requires-clause-sum c =
     let pushed = c.in_ok-push_sum_of_edges.ensures.pushed in
     rw (c.deref.ensures.value, pushed.all, c.new-edges.ensures.items) pushed.sum
 

@@ -9,8 +9,8 @@ use Rattle.mf_rows.proofs.RowListLemmas.{heads_push, rows_push, rows_kept, more_
 use Rattle.mf_rows.proofs.RowSums.{unlawful_in_row, sum_of_both-blank, sum_of_both-some}
 use Rattle.mf_rows.proofs.row_list.RowList.push_sum.Goals as goal
 
-pub reach_of_sum-requires-clause-sum : goal.reach_of_sum-requires-clause-sum
-reach_of_sum-requires-clause-sum c =
+pub reach_of_row_sum-requires-clause-sum : goal.reach_of_row_sum-requires-clause-sum
+reach_of_row_sum-requires-clause-sum c =
     let pushed = c.in_ok-push_sum_of_edges.ensures.pushed in
     let placed = place_of_more _ _ (more_of_sum _ _ _ _ pushed) c.len-start.result c.len-end.result (omega arith) (omega arith) in
     rw (c.deref.ensures.value, placed.edges) pushed.sum

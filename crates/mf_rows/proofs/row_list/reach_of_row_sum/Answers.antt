@@ -1,7 +1,7 @@
 use Rattle.std.proofs.Common.{◌≡◌, ◌+ℤ◌, to_z, of_z, w32, arith}
 use Rattle.std.proofs.lemmas.Int.{ints}
 use Rattle.mf_edges.proofs.ReachesLemmas.{sum_is_changes, reach_of_sum, reach_bounds, reach_is, least_is_reach, least_reach_is}
-use Rattle.mf_rows.proofs.row_list.reach_of_sum.Goals as goal
+use Rattle.mf_rows.proofs.row_list.reach_of_row_sum.Goals as goal
 
 pub returns-then-reach-le-MAX_WEIGHT-clause-reach : goal.returns-then-reach-le-MAX_WEIGHT-clause-reach
 returns-then-reach-le-MAX_WEIGHT-clause-reach c =
