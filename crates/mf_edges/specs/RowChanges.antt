@@ -21,7 +21,7 @@ IsRowChange (change.Weights m) = IsWeightMap m
 IsRowChange change.Mirror = Unit {0}
 IsRowChange (change.Columns s) = IsStretch s
 
--- what the edges of a row must be for a change: no stretch takes one of them out of reach
+-- what the edges of a row must be for a change: no stretch takes one of them out of range
 abbrev pub EdgesAllowChange : RowChange → List Edge → Type 0
 EdgesAllowChange (change.Weights m) es = Unit {0}
 EdgesAllowChange change.Mirror es = Unit {0}

@@ -66,6 +66,11 @@ abbrev pub turn_fault : Op → Option OpFault
 turn_fault (Contour ps w On) = option_map OpFault.Cycle (turning_fault ps)
 turn_fault op = None
 
+-- the operation is a contour under the turning check
+abbrev pub IsChecked : Op → Type 0
+IsChecked (Contour ps w On) = Unit {0}
+IsChecked op = ⊥
+
 -- the operation is not a contour, or its cycle passes its turning check
 pub record TurnsLawfully (op : Op) : Type 0 where
   pub none : turn_fault op ≡ None

@@ -18,7 +18,7 @@ ghost use Rattle.mf_rows.specs.Sums.{IsUnlawfulSomewhere};
 ghost use Rattle.mf_ops.specs.Cull.{IsLawfulCull, culled_weight};
 ghost use Rattle.mf_ops.specs.Moves.{Factors, AreFactors, IsFactor, HasPlace, scale_source, turn_once};
 ghost use Rattle.mf_ops.specs.Operations.{AreAccepted, picture_after, revision_after};
-ghost use Rattle.mf_ops.specs.Step.{step_at, next_picture, op_fault, StaysInField, TurnsLawfully, LiesOutside, MayLeave};
+ghost use Rattle.mf_ops.specs.Step.{step_at, next_picture, op_fault, StaysInField, IsChecked, TurnsLawfully, LiesOutside, MayLeave};
 ghost use Rattle.mf_ops.specs.declared.op.Op.{Op};
 ghost use Rattle.mf_ops.specs.declared.cull.CullRule.{CullRule};
 ghost use Rattle.mf_ops.specs.declared.cull.CullRule.TheVariants.{Keeping, Dropping};
@@ -50,7 +50,7 @@ pub fn refused_where_too_large()
 pub fn refused_where_it_turns_back()
     ensures checked { (ds : List Dot) (ps : List Point) (w : ℤ) (fault : CycleFault) →
         (op_fault ds (Contour ps w On) ≡ Some (OpFault.Cycle fault)) ↔ turning_fault ps ≡ Some fault }
-    ensures unchecked { (ds : List Dot) (ps : List Point) (w : ℤ) → TurnsLawfully (Contour ps w Off) }
+    ensures unchecked { (op : Op) → (IsChecked op → ⊥) → TurnsLawfully op }
     ensures lawful { (ds : List Dot) (op : Op) (fault : CycleFault) → TurnsLawfully op → op_fault ds op ≢ Some (OpFault.Cycle fault) }
 {}
 

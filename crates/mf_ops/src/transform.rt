@@ -31,7 +31,7 @@ pub fn shift(alloc: Global, picture: &Picture, right: i32, up: i32) -> Result<Pi
 {
     let columns = stretch(1, right);
     let rows = stretch(1, up);
-    if !stays_inside(picture, &columns, &rows) {
+    if !pixels_stay_inside(picture, &columns, &rows) {
         return Err(OpFault::OutOfField);
     }
     Ok(picture.stretch(alloc, &columns, &rows)?)
@@ -45,7 +45,7 @@ pub fn scale(alloc: Global, picture: &Picture, scale: Scale) -> Result<Picture, 
     ensures out_of_field { op_fault picture.now (ops.Scale scale) ≡ Some OpFault.OutOfField → result ≡ Err OpFault.OutOfField }
 {
     let (x, y) = (scale.x(), scale.y());
-    if !stays_inside(picture, &stretch(x, 0), &stretch(y, 0)) {
+    if !pixels_stay_inside(picture, &stretch(x, 0), &stretch(y, 0)) {
         return Err(OpFault::OutOfField);
     }
     let reflected = reflect(alloc, picture, x < 0, y < 0)?;
@@ -113,7 +113,7 @@ fn reflect(
 
 /// Whether all pixels of nonzero weight lie in the field after the columns and the rows are stretched. The least box decides:
 /// where the pixels at its sides stay in the field, all pixels do. Finding it allocates nothing.
-fn stays_inside(picture: &Picture, columns: &Stretch, rows: &Stretch) -> bool
+fn pixels_stay_inside(picture: &Picture, columns: &Stretch, rows: &Stretch) -> bool
     ensures { IsTrue result ↔ PixelsStayInside columns.now rows.now picture.now }
 {
     match picture.bounds() {

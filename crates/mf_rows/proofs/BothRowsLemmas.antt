@@ -218,9 +218,9 @@ pub first_of_rows : (rs ss ts : List EdgeRow) (r : EdgeRow) → AreRows rs → A
 first_of_rows rs ss ts r left right above is =
     rw is (rows_both-above r ts ss (rows-behind r ts (rw is at left)) (rows-beneath r ts ss right (rw is at above)))
 
-pub first_of_recent : (rs ss ts : List EdgeRow) (s : EdgeRow) → AreRows rs → BeginsAbove ss rs → ss ≡ s ∷ ts
+pub first_of_older : (rs ss ts : List EdgeRow) (s : EdgeRow) → AreRows rs → BeginsAbove ss rs → ss ≡ s ∷ ts
     → rows_of_both rs ss ≡ s ∷ rows_of_both rs ts
-first_of_recent rs ss ts s left above is = rw is (rows_both-below s rs ts (rows-beneath s ts rs left (rw is at above)))
+first_of_older rs ss ts s left above is = rw is (rows_both-below s rs ts (rows-beneath s ts rs left (rw is at above)))
 
 pub first_of_both : (rs ss ts us : List EdgeRow) (r s : EdgeRow) → AreRows rs → (BeginsAbove rs ss → ⊥) → (BeginsAbove ss rs → ⊥)
     → rs ≡ r ∷ ts → ss ≡ s ∷ us → rows_of_both rs ss ≡ unless_blank (row_of_both r s) ++ rows_of_both ts us
@@ -235,7 +235,7 @@ unfolding rows_of_both
 none_of_rows rs [] above is = rw is refl
 none_of_rows rs (s ∷ ss) above is = absurd (rw is at above)
 
-pub none_of_recent : (rs ss : List EdgeRow) → BeginsAbove ss rs → ss ≡ [] → rows_of_both rs ss ≡ []
+pub none_of_older : (rs ss : List EdgeRow) → BeginsAbove ss rs → ss ≡ [] → rows_of_both rs ss ≡ []
 unfolding rows_of_both
-none_of_recent [] ss above is = is
-none_of_recent (r ∷ rs) ss above is = absurd (rw is at above)
+none_of_older [] ss above is = is
+none_of_older (r ∷ rs) ss above is = absurd (rw is at above)

@@ -14,7 +14,7 @@ use Rattle.mf_rows.specs.Groups.{rows_at_place, rows_of_groups, AreGroups}
 use Rattle.mf_edges.specs.declared.edge.Edge.{Edge}
 use Rattle.mf_rows.specs.declared.row_list.Head.{Head}
 use Rattle.mf_rows.specs.RowLists.{row_at, rows_at}
-use Rattle.mf_rows.specs.Piles.{IsReachOfSum, StayInReach, ArePiled}
+use Rattle.mf_rows.specs.Piles.{IsReachOfSum, IsReachOf, ArePiled}
 use Rattle.mf_rows.specs.Sums.{weight_in_all, HaveRowWeights, IsUnlawfulSomewhere}
 use Rattle.mf_rows.proofs.BothRowsLemmas.{weight_in_rows-both, rows-both, rows_both-none}
 use Rattle.mf_rows.proofs.EdgeRowsLemmas.{lawful_weight_in_rows, weight_in_rows-below, weight_in_rows-elsewhere, weight_in_rows-here, rows_from-below}
@@ -51,12 +51,12 @@ pub piled_alone : (hs : Groups) → AreGroups hs → piled [] hs ≡ rows_of_gro
 piled_alone hs groups = rows_both-none (rows_of_groups hs) (rows_of_groups_are_rows hs groups)
 
 -- weights that are the same stay in the same reach
-pub stay_as : {reach : ℤ} {f g : ℤ → ℤ → ℤ} → StayInReach reach f → ((x y : ℤ) → g x y ≡ f x y) → StayInReach reach g
+pub stay_as : {reach : ℤ} {f g : ℤ → ℤ → ℤ} → IsReachOf reach f → ((x y : ℤ) → g x y ≡ f x y) → IsReachOf reach g
 stay_as stay same = record { most = stay.most; least = λ x y. rw (same x y) (stay.least x y); greatest = λ x y. rw (same x y) (stay.greatest x y) }
 
 -- groups that are kept apart as two lists
 pub are_piled_apart : (gs hs sum : Groups) (reach : ℤ) → AreGroups gs → AreGroups hs
-    → HaveRowWeights (weight_in_all (rows_of_groups gs) (rows_of_groups hs)) (rows_of_groups sum) → StayInReach reach (weight_in_rows (rows_of_groups sum))
+    → HaveRowWeights (weight_in_all (rows_of_groups gs) (rows_of_groups hs)) (rows_of_groups sum) → IsReachOf reach (weight_in_rows (rows_of_groups sum))
     → ArePiled gs hs reach
 are_piled_apart gs hs sum reach groups recent apart stay =
     record { groups = groups; recent = recent; reached = stay_as stay (λ x y. sym (apart.weights x y)) }
@@ -101,7 +101,7 @@ pub same_piled : (gs hs gs' hs' : Groups) → map rows_at_place gs' ≡ map rows
 same_piled gs hs gs' hs' same other = rw (rows_of_same gs' gs same, rows_of_same hs' hs other) refl
 
 -- any rows stay in the greatest weight
-pub stay_in_greatest : (rs : List EdgeRow) → AreRows rs → StayInReach greatest_weight (weight_in_rows rs)
+pub stay_in_greatest : (rs : List EdgeRow) → AreRows rs → IsReachOf greatest_weight (weight_in_rows rs)
 stay_in_greatest rs rows = record {
   most = omega (arith, ints);
   least = λ x y. let lawful = lawful_weight_in_rows last_in_field rs x y rows.rows in omega (arith, ints, lawful.least, lawful.greatest);
@@ -118,7 +118,7 @@ none_piled = piled_alone [] none_are_groups
 -- ---- rows are added to what is beside the groups
 
 pub piled_with : (gs hs sum : Groups) (rs : List EdgeRow) (reach more : ℤ) → ArePiled gs hs reach → AreGroups sum
-    → HaveRowWeights (weight_in_all (rows_of_groups hs) rs) (rows_of_groups sum) → StayInReach more (weight_in_rows rs) → (reach +ℤ more) ≤ℤ greatest_weight
+    → HaveRowWeights (weight_in_all (rows_of_groups hs) rs) (rows_of_groups sum) → IsReachOf more (weight_in_rows rs) → (reach +ℤ more) ≤ℤ greatest_weight
     → ArePiled gs sum (reach +ℤ more)
 unfolding weight_in_all
 piled_with gs hs sum rs reach more pile groups weights stay most = record {
@@ -201,7 +201,7 @@ all_passed : (reach w u : ℤ) → pos 0 ≤ℤ reach → u ≡ pos 0 → (w ≡
 all_passed reach w u least none (inl same) = (omega (arith, ints), omega (arith, ints))
 all_passed reach w u least none (inr within) = within
 
-pub reach_all : (rs rest : List EdgeRow) (reach : ℤ) → rest ≡ [] → AreRows rs → IsReachSoFar rs rest reach → StayInReach reach (weight_in_rows rs)
+pub reach_all : (rs rest : List EdgeRow) (reach : ℤ) → rest ≡ [] → AreRows rs → IsReachSoFar rs rest reach → IsReachOf reach (weight_in_rows rs)
 unfolding weight_in_rows
 reach_all rs rest reach none rows passed =
     let within = λ (x y : ℤ). all_passed reach _ _ passed.least (ap (λ ss. weight_in_rows ss x y) none) (passed.so_far x y) in
@@ -215,25 +215,25 @@ reach_read all es heads k head r reach inside read is so_far =
     ap (rows_at es) (drop_more heads k head inside) ∙ ap (λ h. row_at es h ∷ rows_at es (drop (k + 1) heads)) (sym read)
     ∙ ap (λ s. s ∷ rows_at es (drop (k + 1) heads)) (sym is)
 
-pub reach_fits : (reach : ℤ) (f : ℤ → ℤ → ℤ) → StayInReach reach f → to_z w32 (of_z w32 reach) ≡ reach
+pub reach_fits : (reach : ℤ) (f : ℤ → ℤ → ℤ) → IsReachOf reach f → to_z w32 (of_z w32 reach) ≡ reach
 reach_fits reach f stay = omega (arith, ints, stay.most, stay.least (pos 0) (pos 0), stay.greatest (pos 0) (pos 0))
 
-pub reach_is_no_less : (reach : ℤ) (f : ℤ → ℤ → ℤ) → StayInReach reach f → pos 0 ≤ℤ reach
+pub reach_is_no_less : (reach : ℤ) (f : ℤ → ℤ → ℤ) → IsReachOf reach f → pos 0 ≤ℤ reach
 reach_is_no_less reach f stay = omega (arith, ints, stay.least (pos 0) (pos 0), stay.greatest (pos 0) (pos 0))
 
 -- ---- two piles are added
 
-pub stay_in_sum : (left right reach : ℤ) (rs ss sum : List EdgeRow) → StayInReach left (weight_in_rows rs) → StayInReach right (weight_in_rows ss)
-    → AreRows sum → HaveRowWeights (weight_in_all rs ss) sum → IsReachOfSum left right reach → StayInReach reach (weight_in_rows sum)
+pub stay_in_sum : (left right reach : ℤ) (rs ss sum : List EdgeRow) → IsReachOf left (weight_in_rows rs) → IsReachOf right (weight_in_rows ss)
+    → AreRows sum → HaveRowWeights (weight_in_all rs ss) sum → IsReachOfSum left right reach → IsReachOf reach (weight_in_rows sum)
 unfolding weight_in_all
 stay_in_sum left right reach rs ss sum f g rows has (inl within) = record {
   most = omega (arith, ints, within.0, within.1);
   least = λ x y. omega (arith, ints, within.1, has.weights x y, f.least x y, g.least x y);
   greatest = λ x y. omega (arith, ints, within.1, has.weights x y, f.greatest x y, g.greatest x y);
 }
-stay_in_sum left right reach rs ss sum f g rows has (inr beyond) = subst (λ r. StayInReach r (weight_in_rows sum)) (sym beyond.1) (stay_in_greatest sum rows)
+stay_in_sum left right reach rs ss sum f g rows has (inr beyond) = subst (λ r. IsReachOf r (weight_in_rows sum)) (sym beyond.1) (stay_in_greatest sum rows)
 
-pub stay_in_pile : (gs hs : Groups) (reach : ℤ) → ArePiled gs hs reach → StayInReach reach (weight_in_rows (piled gs hs))
+pub stay_in_pile : (gs hs : Groups) (reach : ℤ) → ArePiled gs hs reach → IsReachOf reach (weight_in_rows (piled gs hs))
 stay_in_pile gs hs reach pile = stay_as pile.reached (pile_is gs hs)
 
 pub same_rows : (rs : List EdgeRow) → HaveRowWeights (weight_in_rows rs) rs

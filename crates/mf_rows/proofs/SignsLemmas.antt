@@ -14,7 +14,7 @@ use Rattle.mf_rows.specs.declared.sign.Sign.TheVariants.{Plus, Minus}
 use Rattle.mf_rows.specs.BandSums.{AreSplitAtBand, lowest_of}
 use Rattle.mf_rows.specs.EdgeRows.{EdgeRow, AreRowsFrom, AreRows, weight_in_rows}
 use Rattle.mf_rows.specs.Groups.{IsSplitAtPlace, top_of_place}
-use Rattle.mf_rows.specs.Piles.{StayInReach}
+use Rattle.mf_rows.specs.Piles.{IsReachOf}
 use Rattle.mf_rows.specs.Signs.{negated_edge, negated_edges, negated_row, negated_rows, signed}
 use Rattle.mf_rows.specs.Sums.{HaveRowWeights}
 use Rattle.mf_rows.proofs.EdgeRowsLemmas.{weight_in_rows-here, weight_in_rows-elsewhere}
@@ -151,7 +151,7 @@ signed_same Minus rs ss same = record {
   weights = λ x y. omega (arith, ints, same.weights x y, weight_in_rows-negated rs x y, weight_in_rows-negated ss x y);
 }
 
-pub signed_reach : (s : Sign) (reach : ℤ) (rs : List EdgeRow) → StayInReach reach (weight_in_rows rs) → StayInReach reach (weight_in_rows (signed s rs))
+pub signed_reach : (s : Sign) (reach : ℤ) (rs : List EdgeRow) → IsReachOf reach (weight_in_rows rs) → IsReachOf reach (weight_in_rows (signed s rs))
 signed_reach Plus reach rs stay = stay
 signed_reach Minus reach rs stay = record {
   most = stay.most;

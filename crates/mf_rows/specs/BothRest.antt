@@ -31,4 +31,4 @@ BeginsAbove (r ∷ rs) (s ∷ ss) = s.y <ℤ r.y
 
 -- the rows that are still to come
 abbrev pub remaining_both_rows : BothRows → List EdgeRow
-remaining_both_rows r = rows_of_both (rows_ahead r.rows) (rows_ahead r.recent)
+remaining_both_rows r = rows_of_both (rows_ahead r.rows) (rows_ahead r.older)

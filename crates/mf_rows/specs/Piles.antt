@@ -8,7 +8,7 @@ use Rattle.mf_rows.specs.Groups.{rows_of_groups, AreGroups}
 use Rattle.mf_rows.specs.Sums.{weight_in_all}
 
 -- no weight exceeds a reach in absolute value, and the reach is at most 32767
-pub record StayInReach (reach : ℤ) (f : ℤ → ℤ → ℤ) : Type 0 where
+pub record IsReachOf (reach : ℤ) (f : ℤ → ℤ → ℤ) : Type 0 where
   pub most : reach ≤ℤ greatest_weight
   pub least : (x y : ℤ) → pos 0 ≤ℤ (f x y +ℤ reach)
   pub greatest : (x y : ℤ) → f x y ≤ℤ reach
@@ -21,7 +21,7 @@ IsReachOfSum a b reach = (((a +ℤ b) ≤ℤ greatest_weight) × (reach ≡ (a +
 pub record ArePiled (gs hs : List (Option (Arc Group Global))) (reach : ℤ) : Type 0 where
   pub groups : AreGroups gs
   pub recent : AreGroups hs
-  pub reached : StayInReach reach (weight_in_all (rows_of_groups gs) (rows_of_groups hs))
+  pub reached : IsReachOf reach (weight_in_all (rows_of_groups gs) (rows_of_groups hs))
 
 -- two lists of groups have the same weights together as two others
 pub record HaveSameSum (gs hs gs' hs' : List (Option (Arc Group Global))) : Type 0 where

@@ -1,5 +1,5 @@
 //! Two lists of rows together, from the top down.
-ghost use Rattle.std.specs.Prelude.{◌≡◌, [], ◌∷◌, ◌++◌, length, ◌↔◌, IsTrue, IsNone, IsSome, IfSome};
+ghost use Rattle.std.specs.Prelude.{◌≡◌, [], ◌∷◌, ◌++◌, length, ◌↔◌, IsTrue, IsNone, IfSome};
 ghost use Rattle.mf_edges.specs.Edges.{AreEdges};
 ghost use Rattle.mf_rows.specs.Bands.{edge_row};
 ghost use Rattle.mf_rows.specs.BlankRows.{unless_blank};
@@ -35,11 +35,11 @@ pub(crate) struct RowsAhead<'a> {
 }
 
 /// An iterator over the rows of two lists together, from the top down. Rows of one height are one row, which is left out where it
-/// is blank. Its steps are inlined, as those of `Walk` are, and after the last recent row they look at one list alone.
+/// is blank. Its steps are inlined, as those of `Walk` are, and after the last older row they look at one list alone.
 #[derive(Clone, Copy)]
 pub(crate) struct BothRows<'a> {
     rows: RowsAhead<'a>,
-    recent: RowsAhead<'a>,
+    older: RowsAhead<'a>,
 }
 
 impl<'a> BothRow<'a> {
@@ -59,12 +59,12 @@ impl<'a> BothRow<'a> {
 
     /// Two rows of one height together, unless that is blank.
     #[inline(always)]
-    fn of_both(row: Row<'a>, recent: Row<'a>) -> Option<BothRow<'a>>
-        requires { AreEdges row.edges.now × AreEdges recent.edges.now }
-        ensures some { IfSome result (λ both. unless_blank (row_of_both (edge_row row.entry) (edge_row recent.entry)) ≡ both_row both ∷ []) }
-        ensures blank { IsNone result → unless_blank (row_of_both (edge_row row.entry) (edge_row recent.entry)) ≡ [] }
+    fn of_both(row: Row<'a>, older: Row<'a>) -> Option<BothRow<'a>>
+        requires { AreEdges row.edges.now × AreEdges older.edges.now }
+        ensures some { IfSome result (λ both. unless_blank (row_of_both (edge_row row.entry) (edge_row older.entry)) ≡ both_row both ∷ []) }
+        ensures blank { IsNone result → unless_blank (row_of_both (edge_row row.entry) (edge_row older.entry)) ≡ [] }
     {
-        let edges = BothEdges::of_both(row.edges, recent.edges);
+        let edges = BothEdges::of_both(row.edges, older.edges);
         if edges.is_empty() {
             return None;
         }
@@ -132,17 +132,17 @@ impl<'a> RowsAhead<'a> {
 impl<'a> BothRows<'a> {
     ghost use Rattle.mf_rows.specs.BothRest.{both_row, rows_ahead, remaining_both_rows, BeginsAbove};
 
-    /// The rows of these groups and the recent ones together.
+    /// The rows of these groups and the older ones together.
     pub(crate) fn over(
         groups: &'a [Option<Arc<Group>>],
-        recent: &'a [Option<Arc<Group>>],
+        older: &'a [Option<Arc<Group>>],
     ) -> BothRows<'a>
-        requires { AreRows (rows_of_groups groups.now) × AreRows (rows_of_groups recent.now) }
-        ensures { remaining_both_rows result ≡ rows_of_both (rows_of_groups groups.now) (rows_of_groups recent.now) }
+        requires { AreRows (rows_of_groups groups.now) × AreRows (rows_of_groups older.now) }
+        ensures { remaining_both_rows result ≡ rows_of_both (rows_of_groups groups.now) (rows_of_groups older.now) }
     {
         BothRows {
             rows: RowsAhead::over(groups),
-            recent: RowsAhead::over(recent),
+            older: RowsAhead::over(older),
         }
     }
 
@@ -150,22 +150,22 @@ impl<'a> BothRows<'a> {
     #[tactic(auto, using(crate::proofs::BothRowsLemmas::first_of_rows, crate::proofs::BothRowsLemmas::none_of_rows))]
     #[inline(always)]
     fn next_of_rows(&mut self) -> Option<BothRow<'a>>
-        requires { BeginsAbove (rows_ahead self.old.rows) (rows_ahead self.old.recent) }
+        requires { BeginsAbove (rows_ahead self.old.rows) (rows_ahead self.old.older) }
         ensures next { IfSome result (λ row. remaining_both_rows self.old ≡ both_row row ∷ remaining_both_rows self.new) }
         ensures none { IsNone result → (remaining_both_rows self.old ≡ []) × (remaining_both_rows self.new ≡ []) }
     {
         Some(BothRow::of(self.rows.take_first()?))
     }
 
-    /// The next row, where it is one of the recent ones alone.
-    #[tactic(auto, using(crate::proofs::BothRowsLemmas::first_of_recent, crate::proofs::BothRowsLemmas::none_of_recent))]
+    /// The next row, where it is one of the older ones alone.
+    #[tactic(auto, using(crate::proofs::BothRowsLemmas::first_of_older, crate::proofs::BothRowsLemmas::none_of_older))]
     #[inline(always)]
-    fn next_of_recent(&mut self) -> Option<BothRow<'a>>
-        requires { BeginsAbove (rows_ahead self.old.recent) (rows_ahead self.old.rows) }
+    fn next_of_older(&mut self) -> Option<BothRow<'a>>
+        requires { BeginsAbove (rows_ahead self.old.older) (rows_ahead self.old.rows) }
         ensures next { IfSome result (λ row. remaining_both_rows self.old ≡ both_row row ∷ remaining_both_rows self.new) }
         ensures none { IsNone result → (remaining_both_rows self.old ≡ []) × (remaining_both_rows self.new ≡ []) }
     {
-        Some(BothRow::of(self.recent.take_first()?))
+        Some(BothRow::of(self.older.take_first()?))
     }
 }
 
@@ -181,21 +181,21 @@ impl<'a> Iterator for BothRows<'a> {
 
     #[inline(never)]
     fn next(&mut self) -> Option<BothRow<'a>> {
-        if self.recent.is_over {
+        if self.older.is_over {
             return self.next_of_rows();
         }
         loop {
             self.rows.look();
-            self.recent.look();
-            if self.rows.is_above(&self.recent) {
+            self.older.look();
+            if self.rows.is_above(&self.older) {
                 return self.next_of_rows();
             }
-            if self.recent.is_above(&self.rows) {
-                return self.next_of_recent();
+            if self.older.is_above(&self.rows) {
+                return self.next_of_older();
             }
             let row = self.rows.take_first()?;
-            let recent = self.recent.take_first()?;
-            if let Some(both) = BothRow::of_both(row, recent) {
+            let older = self.older.take_first()?;
+            if let Some(both) = BothRow::of_both(row, older) {
                 return Some(both);
             }
         }

@@ -67,19 +67,19 @@ fn with_columns(above: Option<Box4>, y: i32, columns: Columns) -> Box4
     }
 }
 
-/// The least box of these pixels of the rows of these groups and the recent ones together, `None` where there are none. It looks at
+/// The least box of these pixels of the rows of these groups and the older ones together, `None` where there are none. It looks at
 /// the ends of each row.
 #[tactic(auto, using(crate::proofs::PixelBoxes::no_bounds, crate::proofs::PixelBoxes::all_bounds))]
 pub(crate) fn bounds_of(
     groups: &[Option<Arc<Group>>],
-    recent: &[Option<Arc<Group>>],
+    older: &[Option<Arc<Group>>],
     pixels: Pixels,
 ) -> Option<Box4>
-    requires { AreRowsOfBoth (rows_of_groups groups.now) (rows_of_groups recent.now) }
-    ensures { AreBounds (among_rows pixels (rows_of_both (rows_of_groups groups.now) (rows_of_groups recent.now))) result }
+    requires { AreRowsOfBoth (rows_of_groups groups.now) (rows_of_groups older.now) }
+    ensures { AreBounds (among_rows pixels (rows_of_both (rows_of_groups groups.now) (rows_of_groups older.now))) result }
 {
     let mut bounds = None;
-    for row in BothRows::over(groups, recent) {
+    for row in BothRows::over(groups, older) {
         if let Some(columns) = row.edges.columns(pixels) {
             bounds = Some(with_columns(bounds, row.y, columns));
         }

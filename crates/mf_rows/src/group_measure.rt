@@ -5,7 +5,7 @@ ghost use Rattle.mf_rows.specs.Dots.{total_of};
 ghost use Rattle.mf_rows.specs.EdgeCounts.{edges_in_rows};
 ghost use Rattle.mf_rows.specs.EdgeRows.{picture_of_rows, weight_in_rows};
 ghost use Rattle.mf_rows.specs.Groups.{AreGroups, rows_of_groups};
-ghost use Rattle.mf_rows.specs.Piles.{IsReachOfSum, StayInReach};
+ghost use Rattle.mf_rows.specs.Piles.{IsReachOfSum, IsReachOf};
 
 use crate::group::Group;
 use crate::groups::find_row;
@@ -60,7 +60,7 @@ pub(crate) fn reach_of_sum(left: i32, right: i32) -> i32
 #[tactic(auto, using(crate::proofs::GroupsLemmas::rows_of_groups_are_rows, crate::proofs::PilesLemmas::reach_start))]
 pub(crate) fn reach_of_groups(groups: &[Option<Arc<Group>>]) -> i32
     requires { AreGroups groups.now }
-    ensures { StayInReach result (weight_in_rows (rows_of_groups groups.now)) }
+    ensures { IsReachOf result (weight_in_rows (rows_of_groups groups.now)) }
 {
     let mut reach = 0;
     for row in Rows::over(groups) {

@@ -2,7 +2,7 @@
 ghost use Rattle.std.specs.Prelude.{◌≡◌, ◌≢◌, IfOk, IfErr, pos};
 ghost use Rattle.mf_rows.specs.Addends.{IsAddedFrom, addend_rows};
 ghost use Rattle.mf_rows.specs.BandNumbers.{HaveRisingNumbers};
-ghost use Rattle.mf_rows.specs.Bands.{rows_of_bands, slice_rows};
+ghost use Rattle.mf_rows.specs.Bands.{rows_of_bands};
 ghost use Rattle.mf_rows.specs.EdgeRows.{AreRows};
 ghost use Rattle.mf_rows.specs.Groups.{AreGroups, group_found, rows_at_place, rows_of_groups};
 ghost use Rattle.mf_rows.specs.Signs.{signed};

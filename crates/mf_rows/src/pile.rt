@@ -1,15 +1,12 @@
 //! The rows of a picture, the newest contours beside the others.
-ghost use Rattle.std.specs.Prelude.{◌≡◌, ◌≢◌, ◌≤◌, ◌≤ℤ◌, [], pos, IsOk, IsTrue, IfOk, IfErr, OnOk, OnErr, length};
-ghost use Rattle.mf_edges.specs.LawfulWeights.{IsLawfulWeight, greatest_weight};
+ghost use Rattle.std.specs.Prelude.{◌≡◌, ◌≢◌, ◌≤◌, [], IsTrue, IfOk, IfErr, OnOk, OnErr};
 ghost use Rattle.mf_rows.specs.Bands.{slice_rows};
 ghost use Rattle.mf_rows.specs.EdgeRows.{AreRows, picture_of_rows, weight_in_rows};
 ghost use Rattle.mf_rows.specs.BothRest.{remaining_both_rows};
 ghost use Rattle.mf_rows.specs.Bounds.{AreBounds};
 ghost use Rattle.mf_rows.specs.Dots.{total_of};
-ghost use Rattle.mf_rows.specs.Dots.{total_of};
 ghost use Rattle.mf_rows.specs.EdgeCounts.{edge_count};
 ghost use Rattle.mf_rows.specs.Groups.{AreGroups, rows_of_groups};
-ghost use Rattle.mf_rows.specs.Piles.{HaveSameSum, IsReachOfSum, StayInReach};
 ghost use Rattle.mf_rows.specs.PixelsOfRows.{among_rows};
 ghost use Rattle.mf_rows.specs.Runs.{runs_of};
 ghost use Rattle.mf_rows.specs.Signs.{signed};

@@ -32,16 +32,16 @@ impl<'a> Runs<'a> {
     ghost use Rattle.std.specs.Prelude.{◌≡◌};
     ghost use Rattle.mf_rows.specs.Runs.{runs_of};
 
-    /// The runs of these groups and the recent ones together.
+    /// The runs of these groups and the older ones together.
     pub(crate) fn over(
         groups: &'a [Option<Arc<Group>>],
-        recent: &'a [Option<Arc<Group>>],
+        older: &'a [Option<Arc<Group>>],
     ) -> Runs<'a>
-        requires { AreRowsOfBoth (rows_of_groups groups.now) (rows_of_groups recent.now) }
-        ensures { result ≡ runs_of (picture_of_rows (rows_of_both (rows_of_groups groups.now) (rows_of_groups recent.now))) }
+        requires { AreRowsOfBoth (rows_of_groups groups.now) (rows_of_groups older.now) }
+        ensures { result ≡ runs_of (picture_of_rows (rows_of_both (rows_of_groups groups.now) (rows_of_groups older.now))) }
     {
         Runs {
-            walk: Walk::over(groups, recent),
+            walk: Walk::over(groups, older),
         }
     }
 }

@@ -32,16 +32,16 @@ impl<'a> Walk<'a> {
     ghost use Rattle.mf_rows.specs.Runs.{runs_of};
     ghost use Rattle.mf_rows.specs.Walk.{remaining_runs, IsEdgeTaken};
 
-    /// The walk over these groups and the recent ones together.
+    /// The walk over these groups and the older ones together.
     pub(crate) fn over(
         groups: &'a [Option<Arc<Group>>],
-        recent: &'a [Option<Arc<Group>>],
+        older: &'a [Option<Arc<Group>>],
     ) -> Walk<'a>
-        requires { AreRowsOfBoth (rows_of_groups groups.now) (rows_of_groups recent.now) }
-        ensures { remaining_runs result ≡ runs_of (picture_of_rows (rows_of_both (rows_of_groups groups.now) (rows_of_groups recent.now))) }
+        requires { AreRowsOfBoth (rows_of_groups groups.now) (rows_of_groups older.now) }
+        ensures { remaining_runs result ≡ runs_of (picture_of_rows (rows_of_both (rows_of_groups groups.now) (rows_of_groups older.now))) }
     {
         Walk {
-            rows: BothRows::over(groups, recent),
+            rows: BothRows::over(groups, older),
             edges: BothEdges::none(),
             y: 0,
             weight: 0,

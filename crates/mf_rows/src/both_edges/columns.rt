@@ -1,5 +1,5 @@
 //! The columns that the edges of a row reach.
-ghost use Rattle.std.specs.Prelude.{◌≡◌, IfNone, IfSome};
+ghost use Rattle.std.specs.Prelude.{IfNone, IfSome};
 ghost use Rattle.mf_edges.specs.Edges.{AreEdges};
 ghost use Rattle.mf_rows.specs.BothRest.{both_edges};
 ghost use Rattle.mf_rows.specs.PixelsOfRows.{AreColumns, HasNone, IsFirstColumn, IsLastColumn};

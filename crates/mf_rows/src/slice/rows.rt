@@ -3,7 +3,7 @@ ghost use Rattle.std.specs.Prelude.{◌≡◌, [], ◌∷◌, ◌++◌, ◌≤�
 ghost use Rattle.mf_rows.specs.Bands.{edge_row, slice_rows, HasRow, HasNoRow, AreAbove};
 ghost use Rattle.mf_rows.specs.EdgeRows.{AreRows, AreRowsFrom, weight_in_rows};
 ghost use Rattle.mf_rows.specs.Merging.{row_found, IsSplitAtHeight};
-ghost use Rattle.mf_rows.specs.Piles.{StayInReach};
+ghost use Rattle.mf_rows.specs.Piles.{IsReachOf};
 ghost use Rattle.mf_rows.specs.RowLists.{row_at, rows_at, IsHead};
 
 use super::RowSlice;
@@ -89,7 +89,7 @@ impl<'a> RowSlice<'a> {
     /// A reach of all rows: no weight exceeds it in absolute value.
     pub(crate) fn reach(self) -> i32
         requires { AreRows (slice_rows self) }
-        ensures { StayInReach result (weight_in_rows (slice_rows self.entry)) }
+        ensures { IsReachOf result (weight_in_rows (slice_rows self.entry)) }
     {
         let mut reach = 0;
         for head in self.heads {

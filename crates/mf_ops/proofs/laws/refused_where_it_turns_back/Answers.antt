@@ -1,10 +1,22 @@
 use Rattle.std.proofs.Common.{refl, ap}
 use Rattle.std.specs.Option.{option_map}
-use Rattle.mf_ops.specs.declared.op.Op.TheVariants.{Contour}
+use Rattle.mf_ops.specs.declared.op.Op.{Op}
+use Rattle.mf_ops.specs.declared.op.Op.TheVariants.{Contour, Also, Cull, Shift, Scale, Quarter, Clear}
 use Rattle.mf_ops.specs.declared.op.OpFault.TheVariants.{Cycle}
-use Rattle.mf_geom.specs.declared.check.Check.TheVariants.{On}
+use Rattle.mf_geom.specs.declared.check.Check.TheVariants.{On, Off}
+use Rattle.mf_ops.specs.Step.{IsChecked, TurnsLawfully}
 use Rattle.mf_ops.proofs.Faults.{op_fault-turn, turning_fault-refused, not_turning}
 use Rattle.mf_ops.proofs.laws.refused_where_it_turns_back.Goals as goal
+
+not_checked : (op : Op) → (IsChecked op → ⊥) → TurnsLawfully op
+not_checked (Contour ps w On) none = absurd (none tt)
+not_checked (Contour ps w Off) none = record { none = refl }
+not_checked (Also es s) none = record { none = refl }
+not_checked (Cull c) none = record { none = refl }
+not_checked (Shift dx dy) none = record { none = refl }
+not_checked (Scale s) none = record { none = refl }
+not_checked (Quarter q) none = record { none = refl }
+not_checked Clear none = record { none = refl }
 
 pub returns : goal.returns
 returns c = record {
@@ -12,6 +24,6 @@ returns c = record {
     turning_fault-refused ds ps w fault,
     λ is. op_fault-turn ds (Contour ps w On) (Cycle fault) (ap (option_map Cycle) is),
   );
-  unchecked = λ ds ps w. record { none = refl };
+  unchecked = not_checked;
   lawful = not_turning;
 }

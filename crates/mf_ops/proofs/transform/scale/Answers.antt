@@ -5,15 +5,15 @@ use Rattle.mf_ops.specs.declared.op.Op.TheVariants.{Scale}
 use Rattle.mf_ops.proofs.Faults.{IsForWeights, made-from_weights, op_fault-leaves, not_out}
 use Rattle.mf_ops.proofs.Leaving.{some_leaves, stays_in_field-scale}
 use Rattle.mf_ops.proofs.Scaling.{factor_passed, stretches_made, IsStretch-made, HasWeights-scale, PixelsStayInside-scale}
-use Rattle.mf_ops.proofs.transform.scale.Goals.{After-stays_inside}
+use Rattle.mf_ops.proofs.transform.scale.Goals.{After-pixels_stay_inside}
 use Rattle.mf_ops.proofs.transform.scale.Goals as goal
 
-pub returns-then-not-stays_inside-clause-refused : goal.returns-then-not-stays_inside-clause-refused
-returns-then-not-stays_inside-clause-refused c other =
+pub returns-then-not-pixels_stay_inside-clause-refused : goal.returns-then-not-pixels_stay_inside-clause-refused
+returns-then-not-pixels_stay_inside-clause-refused c other =
     let columns = c.stretch.ensures ∙ ap scale_by (factor_passed _ _ c.x-x.ensures.factor c.x-x.ensures.value) in
     let rows = c.stretch-2.ensures ∙ ap scale_by (factor_passed _ _ c.y-y.ensures.factor c.y-y.ensures.value) in
     op_fault-leaves c.args.picture.now (Scale c.args.scale) (record { none = refl })
-    (some_leaves _ _ _ (λ inside. both_ways _ c.if-not-stays_inside.true (c.stays_inside.ensures.1 (rw (columns, rows) inside))))
+    (some_leaves _ _ _ (λ inside. both_ways _ c.if-not-pixels_stay_inside.true (c.pixels_stay_inside.ensures.1 (rw (columns, rows) inside))))
 
 pub stretch-requires-5 : goal.stretch-requires-5
 stretch-requires-5 c =
@@ -24,7 +24,7 @@ stretch-requires-5 c =
       columns = IsStretch-made _ _ _ _ x;
       rows = IsStretch-made _ _ _ _ y;
       inside = PixelsStayInside-scale _ _ c.args.scale _ _ _ _ _ _ x y reflected.lawful reflected.weights
-          (c.stays_inside.ensures.0 c.if-not-stays_inside.false);
+          (c.pixels_stay_inside.ensures.0 c.if-not-pixels_stay_inside.false);
     }
 
 pub returns : goal.returns
@@ -34,21 +34,21 @@ returns c =
     let x = stretches_made _ _ _ _ _ c.x-x.ensures.factor c.x-x.ensures.value c.stretch.ensures c.abs.ensures.value c.stretch-3.ensures in
     let y = stretches_made _ _ _ _ _ c.y-y.ensures.factor c.y-y.ensures.value c.stretch-2.ensures c.abs-2.ensures.value c.stretch-4.ensures in
     let has = HasWeights-scale ds _ _ s _ _ _ _ _ _ x y c.in_ok-reflected.ensures.weights c.in_ok-stretch.ensures.weights in
-    let stays = stays_in_field-scale ds s (rw (x.signed_is, y.signed_is) at (c.stays_inside.ensures.0 c.if-not-stays_inside.false)) in
+    let stays = stays_in_field-scale ds s (rw (x.signed_is, y.signed_is) at (c.pixels_stay_inside.ensures.0 c.if-not-pixels_stay_inside.false)) in
     let picture = c.in_ok-stretch.ensures.lawful in
     let made = made-from_weights ds (Scale s) _ stays picture has in
     record { step = made.0; accepted = made.1; refused = tt; out_of_field = λ out. absurd (not_out ds (Scale s) stays out) }
 
-stays : (c : After-stays_inside) → IsTrue c.stays_inside.result → IsForWeights c.args.picture.now (Scale c.args.scale)
+stays : (c : After-pixels_stay_inside) → IsTrue c.pixels_stay_inside.result → IsForWeights c.args.picture.now (Scale c.args.scale)
 stays c inside =
     let columns = c.stretch.ensures ∙ ap scale_by (factor_passed _ _ c.x-x.ensures.factor c.x-x.ensures.value) in
     let rows = c.stretch-2.ensures ∙ ap scale_by (factor_passed _ _ c.y-y.ensures.factor c.y-y.ensures.value) in
-    stays_in_field-scale c.args.picture.now c.args.scale (rw (columns, rows) at (c.stays_inside.ensures.0 inside))
+    stays_in_field-scale c.args.picture.now c.args.scale (rw (columns, rows) at (c.pixels_stay_inside.ensures.0 inside))
 
 pub returns-in_err-reflected-clause-out_of_field : goal.returns-in_err-reflected-clause-out_of_field
 returns-in_err-reflected-clause-out_of_field c out =
-    absurd (not_out _ _ (stays (goal.at.returns-in_err-reflected-clause-out_of_field c).After-stays_inside c.if-not-stays_inside.false) out)
+    absurd (not_out _ _ (stays (goal.at.returns-in_err-reflected-clause-out_of_field c).After-pixels_stay_inside c.if-not-pixels_stay_inside.false) out)
 
 pub returns-in_err-stretch-clause-out_of_field : goal.returns-in_err-stretch-clause-out_of_field
 returns-in_err-stretch-clause-out_of_field c out =
-    absurd (not_out _ _ (stays (goal.at.returns-in_err-stretch-clause-out_of_field c).After-stays_inside c.if-not-stays_inside.false) out)
+    absurd (not_out _ _ (stays (goal.at.returns-in_err-stretch-clause-out_of_field c).After-pixels_stay_inside c.if-not-pixels_stay_inside.false) out)

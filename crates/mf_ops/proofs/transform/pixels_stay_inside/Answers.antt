@@ -1,8 +1,8 @@
 use Rattle.std.proofs.Common.{sym, ◌∙◌}
 use Rattle.std.proofs.lemmas.Bool.{both_ways}
 use Rattle.mf_ops.proofs.Leaving.{PixelsStayInside-from_sides, sides_from_StayInside, read_back, IsLeastBox-read_back, sides_read_back}
-use Rattle.mf_ops.proofs.transform.stays_inside.Goals as goal
-use Rattle.mf_ops.proofs.transform.stays_inside.Goals.{then-lies_inside, else-lies_inside, then-lies_inside-2, else-lies_inside-2}
+use Rattle.mf_ops.proofs.transform.pixels_stay_inside.Goals as goal
+use Rattle.mf_ops.proofs.transform.pixels_stay_inside.Goals.{then-lies_inside, else-lies_inside, then-lies_inside-2, else-lies_inside-2}
 
 pub lies_inside-requires : goal.lies_inside-requires
 lies_inside-requires c = (sides_read_back _ _ c.bounds.ensures.lawful c.in-Some.ensures.least).left
