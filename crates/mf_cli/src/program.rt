@@ -14,10 +14,11 @@ ghost use Rattle.mf_desk.specs.Streams.{Passes, streams_of};
 
 use crate::fault::ProgramFault;
 use mf_base::write_text;
-use mf_desk::{OpenGate, Outcome, RunFault, Settings};
+use mf_desk::{Outcome, RunFault, Settings};
 use mf_gf::{FontWords, GfBytes};
 use mf_options::WordsFault;
 use mf_session::{MAX_BYTES, MAX_OPS};
+use mf_watch::OpenGate;
 use mf_words::{USAGE, Words, read_words};
 use std::alloc::Global;
 use std::fs;

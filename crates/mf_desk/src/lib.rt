@@ -13,8 +13,6 @@ mod script;
 mod settings;
 
 pub use fault::RunFault;
-pub use mf_session::{EndFault, Session};
-pub use mf_watch::{Gate, Glance, OpenGate};
 pub use outcome::Outcome;
 pub use performance::perform;
 pub use script::run;

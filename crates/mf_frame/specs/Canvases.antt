@@ -28,7 +28,7 @@ pub record IsSize (s : Size) : Type 0 where
 abbrev pub size_in : ℕ → ℕ → Size
 size_in columns rows = record { columns = min columns greatest_size.columns; rows = min rows greatest_size.rows }
 
--- the lines of a frame: all rows but that of the cursor
+-- the lines of a colored frame: all rows but that of the cursor
 abbrev pub frame_lines : Size → ℕ
 frame_lines canvas = canvas.rows - 1
 

@@ -9,7 +9,7 @@ use Rattle.mf_gf.specs.declared.boxes.CharacterBox.{CharacterBox}
 abbrev pub no_box : CharacterBox
 no_box = record { min_m = pos 0; max_m = pos 0; min_n = pos 0; max_n = pos 0 }
 
--- the box of a pixel: m may be at its left and its right edge
+-- the box of a pixel: m may be at its left and its right end
 abbrev pub box_of_pixel : Dot → CharacterBox
 box_of_pixel d = record { min_m = d.x; max_m = d.x +ℤ pos 1; min_n = d.y; max_n = d.y }
 

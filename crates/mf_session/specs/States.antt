@@ -33,6 +33,6 @@ most_operations = 1000000
 abbrev pub most_bytes : ℕ
 most_bytes = 16777216
 
--- the number of bytes of the shortest font file, a preamble without a comment
+-- the number of bytes with which a font file can be begun: those of a preamble without a comment
 abbrev pub least_bytes : ℕ
 least_bytes = 3

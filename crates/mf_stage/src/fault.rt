@@ -16,8 +16,8 @@ pub enum StageFault {
     /// The limit of the font file is below the 3 bytes of the shortest preamble. Nothing was read or written.
     #[error("FileTooLong")]
     FileTooLong,
-    /// The reader answered with an error other than an interruption or a lack of memory, or the script has more than
-    /// 18,446,744,073,709,551,615 lines.
+    /// The reader answered with an error other than an interruption or a lack of memory, or the script has
+    /// 18,446,744,073,709,551,615 lines or more.
     #[error("ReadFault")]
     ReadFault,
     /// The writer of the transcript answered with an error, also where it was flushed, or took no byte.

@@ -19,7 +19,8 @@ pub enum TextFault {
     BadScale,
     /// The angle is not 90, 180 or 270 degrees.
     BadTurn,
-    /// An allocation failed. This comes only for a contour, instead of `Cycle`, of `BadWeight` or of the command.
+    /// An allocation failed. This comes only for a contour, instead of `Cycle` (other than `TooManyPoints`), of `BadWeight` or of the
+    /// command.
     OutOfMemory,
     /// The line has more than 65,536 bytes.
     LineTooLong,

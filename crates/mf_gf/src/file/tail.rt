@@ -48,7 +48,8 @@ impl GfFile {
     }
 
     /// Finishes the file as `finish` does, if a character was shipped; `None` exactly where none was. Refused with `FileTooLong`
-    /// exactly where it would have more bytes than it may have, and with `OutOfMemory` where an allocation fails.
+    /// exactly where it would have more bytes than it may have, and with `OutOfMemory` where an allocation fails. A refusal does not
+    /// hand the file back.
     pub fn finish_if_any(self, words: FontWords) -> Result<Option<GfBytes>, GfFault>
         ensures value { IfOk result (λ bytes. (comment : List ℕ) (characters : List Character)
             → Keeps self comment characters → bytes ≡ file_if_any words comment characters) }
