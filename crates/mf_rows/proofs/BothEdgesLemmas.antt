@@ -124,12 +124,6 @@ both-append x (e ∷ es) fs gs hs left right gs_from hs_from =
     (begin_from (e.x +ℤ pos 1) (edges_of_both gs hs)
     (edges_from-lower (e.x +ℤ pos 1) x (edges_of_both gs hs) (omega (arith, ints)) (edges_from-both x gs hs gs_from hs_from)))
 
-pub both-none : (low : ℤ) (es : List Edge) → AreEdgesFrom low es → edges_of_both es [] ≡ es
-unfolding edges_of_both with_edge
-both-none low [] edges = refl
-both-none low (e ∷ es) edges =
-    rw (both-none (e.x +ℤ pos 1) es edges.2) (with_edge-append e [] es (begin_from (e.x +ℤ pos 1) es edges.2))
-
 -- ---- their first edge, which is in the left row or in both (in the right one: `both-right`)
 
 pub both-left : (e : Edge) (es fs : List Edge) → AreEdgesFrom (e.x +ℤ pos 1) es → AreEdgesFrom (e.x +ℤ pos 1) fs

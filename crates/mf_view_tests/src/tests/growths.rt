@@ -1,10 +1,12 @@
-//! Calls whose allocations are refused, one after another: a look that is drawn, and a line that publishes with a plate.
+//! Calls whose allocations are refused, one after another: a look that is drawn, a line that publishes with a plate, and a stage that
+//! is made, performs a script, and is finished.
 use super::assertions::assert_same;
+use super::paces::Held;
 use mf_easel::{Easel, EaselFault};
 use mf_frame::{Canvas, Style};
 use mf_live::Desk;
 use mf_stage::{Limits, Plates, Stage, StageFault};
-use mf_testing::{Sink, grow_again, refuse_growths};
+use mf_testing::{Pieces, Sink, grow_again, refuse_growths};
 use std::alloc::Global;
 use std::process::Abort;
 use std::sync::Wait;
@@ -89,4 +91,73 @@ fn a_publish_has_a_plate(rt: HostRuntime) {
         Err(fault) => assert_same(&rt, fault, StageFault::OutOfMemory, "the refusal"),
     }
     stage.discard(&rt);
+}
+
+/// A stage that cannot be made has no desk; with ample memory it is made.
+#[test]
+fn a_stage_is_made(rt: HostRuntime) {
+    let alloc = rt.alloc();
+    refuse_growths(alloc);
+    let made = Stage::new(&rt, alloc, &LIMITS, None);
+    grow_again(alloc);
+    let stage = match made {
+        Ok((stage, _)) => stage,
+        Err(fault) => {
+            assert_same(&rt, fault, StageFault::OutOfMemory, "the refusal");
+            stage_and_desk(&rt, alloc, None).0
+        }
+    };
+    stage.discard(&rt);
+}
+
+/// A script that runs out of memory has printed the texts of its first lines, each whole; with ample memory all of them.
+#[test]
+fn a_script_is_performed(rt: HostRuntime) {
+    let alloc = rt.alloc();
+    let (mut stage, _) = stage_and_desk(&rt, alloc, None);
+    let mut transcript = Sink::reserved(alloc, 1000).expect(&rt, "there is room for a text");
+    refuse_growths(alloc);
+    let performed = stage.perform(
+        &rt,
+        alloc,
+        Pieces::whole(b"show totalweight a\nshow totalweight\n"),
+        &mut transcript,
+        &Held::new(),
+    );
+    grow_again(alloc);
+    let told = transcript.taken();
+    match performed {
+        Ok(()) => assert_same(
+            &rt,
+            told,
+            b"totalweight 0\ntotalweight 2\n".as_slice(),
+            "all",
+        ),
+        Err(fault) => {
+            assert_same(&rt, fault, StageFault::OutOfMemory, "the refusal");
+            let is_whole = told.is_empty() || told == b"totalweight 0\n".as_slice();
+            assert_same(&rt, is_whole, true, "whole texts");
+        }
+    }
+    stage.discard(&rt);
+}
+
+/// A stage that cannot be finished is discarded; with ample memory its font file has no character.
+#[test]
+fn a_stage_is_finished(rt: HostRuntime) {
+    let alloc = rt.alloc();
+    let (mut stage, mut desk) = stage_and_desk(&rt, alloc, None);
+    answer(&rt, alloc, &mut stage, b"publish");
+    let viewer = desk.viewer().expect(&rt, "there is a place");
+    refuse_growths(alloc);
+    let finished = stage.finish(&rt, alloc);
+    grow_again(alloc);
+    match finished {
+        Ok((ended, file)) => {
+            assert_same(&rt, file.count(), 0, "the characters");
+            ended.discard(&rt);
+        }
+        Err(fault) => assert_same(&rt, fault, StageFault::OutOfMemory, "the refusal"),
+    }
+    drop(viewer);
 }
