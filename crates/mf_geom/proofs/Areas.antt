@@ -14,7 +14,8 @@ use Rattle.mf_geom.specs.Sum.{sum_below}
 use Rattle.mf_geom.specs.Winding.{winding, filling_weight, contour}
 use Rattle.mf_geom.proofs.Crossings.{unit_step-reached, unit_step-beyond, winding-crossings}
 use Rattle.mf_geom.proofs.Products.{mul-sub, mul-self, sub-mul, int_div-mul}
-use Rattle.mf_geom.proofs.Sums.{next_place-below, sum_below-same, sum_below-sub, sum_below-mul_and_differences, sum_over_field-mul, sum_over_field-product, sum_over_field-sum}
+use Rattle.mf_geom.proofs.Sums.{next_place-below, sum_below-same, sum_below-sub, sum_below-mul_and_differences}
+use Rattle.mf_geom.proofs.Sums.{sum_over_field-mul, sum_over_field-product, sum_over_field-sum}
 
 -- of the n numbers from a on, n - k are at least a + k
 sum_below-unit_step_after : (n k : ℕ) (a : ℤ) → sum_below n (λ i. unit_step (a +ℤ pos i) (a +ℤ pos k)) ≡ pos (n - k)

@@ -7,7 +7,8 @@ use Rattle.std.proofs.lemmas.Bool.Decides.{nat_tests}
 use Rattle.std.proofs.lemmas.Int.{ints}
 use Rattle.mf_geom.specs.declared.cycle.CycleFault.TheVariants.{TooFewPoints, TooManyPoints, PointOutOfRange, NotRectilinear, Backtracks}
 use Rattle.mf_geom.specs.declared.point.Point.{Point}
-use Rattle.mf_geom.specs.Faults.{fault_from_turning, first_not_rectilinear, first_out_of_range, first_reversal, form_fault, is_not_rectilinear, is_out_of_range, is_reversal, turning_fault}
+use Rattle.mf_geom.specs.Faults.{fault_from_turning, first_not_rectilinear, first_out_of_range, first_reversal}
+use Rattle.mf_geom.specs.Faults.{form_fault, is_not_rectilinear, is_out_of_range, is_reversal, turning_fault}
 use Rattle.mf_geom.specs.Lawful.{HasLawfulLength, StaysInRange, IsRectilinearCycle, NeverReverses, PassesCheck, most_points}
 use Rattle.mf_geom.specs.Path.{Segment, across, IsInRange, IsRectilinear, IsReversal}
 use Rattle.mf_geom.proofs.FirstPlaces.{first_place-none, neither, none_passes}

@@ -7,11 +7,14 @@ use Rattle.std.proofs.lemmas.Int.{ints}
 use Rattle.mf_geom.specs.declared.cycle.CycleFault.{CycleFault}
 use Rattle.mf_geom.specs.declared.cycle.CycleFault.TheVariants.{TooFewPoints, TooManyPoints, PointOutOfRange, NotRectilinear, Backtracks, TurningZero}
 use Rattle.mf_geom.specs.declared.point.Point.{Point}
-use Rattle.mf_geom.specs.Faults.{fault_from_turning, first_not_rectilinear, first_out_of_range, first_reversal, form_fault, is_not_rectilinear, is_out_of_range, is_reversal, turning_fault}
+use Rattle.mf_geom.specs.Faults.{fault_from_turning, first_not_rectilinear, first_out_of_range, first_reversal}
+use Rattle.mf_geom.specs.Faults.{form_fault, is_not_rectilinear, is_out_of_range, is_reversal, turning_fault}
 use Rattle.mf_geom.specs.Lawful.{HasLawfulLength, StaysInRange, IsRectilinearCycle, NeverReverses, IsFault, most_points}
 use Rattle.mf_geom.specs.Path.{segment_into, point_at, segment_at, IsInRange, IsRectilinear, IsReversal}
 use Rattle.mf_geom.specs.Turning.{turning}
-use Rattle.mf_geom.proofs.FirstFaults.{IsReversal-from_true, form_fault-few, form_fault-many, form_fault-sized, is_cycle-straight, is_not_rectilinear-false, is_not_rectilinear-true, is_out_of_range-false, is_out_of_range-true, is_reversal-true, never_reverses, no_form_fault, stays_in_range, turning_fault-onward}
+use Rattle.mf_geom.proofs.FirstFaults.{IsReversal-from_true, form_fault-few, form_fault-many, form_fault-sized, is_cycle-straight}
+use Rattle.mf_geom.proofs.FirstFaults.{is_not_rectilinear-false, is_not_rectilinear-true, is_out_of_range-false, is_out_of_range-true}
+use Rattle.mf_geom.proofs.FirstFaults.{is_reversal-true, never_reverses, no_form_fault, stays_in_range, turning_fault-onward}
 use Rattle.mf_geom.proofs.FirstPlaces.{first-first_place, first_place-first, first_place-none}
 
 -- ---- what the tests mean

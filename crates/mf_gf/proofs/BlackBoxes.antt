@@ -1,5 +1,6 @@
 -- The box of the black pixels of a picture, from the least box round its pixels of positive weight.
-use Rattle.std.proofs.Common.{◌≡◌, Bool, true, false, not, ℤ, pos, ◌+ℤ◌, ◌-ℤ◌, ◌≤ℤ◌, List, [], ◌∷◌, FitsSigned, to_z, of_z, w32, refl, sym, ap, subst, ◌∙◌, arith}
+use Rattle.std.proofs.Common.{◌≡◌, Bool, true, false, not, ℤ, pos, ◌+ℤ◌, ◌-ℤ◌, ◌≤ℤ◌, List, []}
+use Rattle.std.proofs.Common.{◌∷◌, FitsSigned, to_z, of_z, w32, refl, sym, ap, subst, ◌∙◌, arith}
 use Rattle.std.specs.Prelude.{int_lt, if◌then◌else◌}
 use Rattle.std.specs.Int.{int_max, int_min}
 use Rattle.std.specs.Ordering.{int_eq}

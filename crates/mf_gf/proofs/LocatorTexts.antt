@@ -1,5 +1,6 @@
 -- The bytes of locators, one code more at a time.
-use Rattle.std.proofs.Common.{◌≡◌, ◌+◌, ◌<◌, ◌==◌, ℕ, zero, suc, List, [], ◌∷◌, ◌++◌, Option, None, Some, option_map, length, slice_index_or, set, take, refl, ap, ap₂, sym, subst, ◌∙◌, append_assoc, eq-eqb, arith}
+use Rattle.std.proofs.Common.{◌≡◌, ◌+◌, ◌<◌, ◌==◌, ℕ, zero, suc, List, [], ◌∷◌, ◌++◌, Option, None, Some, option_map, length}
+use Rattle.std.proofs.Common.{slice_index_or, set, take, refl, ap, ap₂, sym, subst, ◌∙◌, append_assoc, eq-eqb, arith}
 use Rattle.std.specs.List.{flat_map}
 use Rattle.std.proofs.lemmas.Bool.{cond_both, eqb-true, false≢true}
 use Rattle.std.proofs.lemmas.Grind.{flat_map-append}

@@ -1,5 +1,6 @@
 -- The postamble of a file, found from its end, and the locators after it.
-use Rattle.std.proofs.Common.{◌≡◌, ◌+◌, ◌≤◌, ◌==◌, ℕ, zero, suc, pos, List, [], ◌∷◌, ◌++◌, reverse, replicate, length, drop, slice_index, Option, None, Some, refl, ap, sym, ◌∙◌, append_assoc, length-append, eq-eqb, arith}
+use Rattle.std.proofs.Common.{◌≡◌, ◌+◌, ◌≤◌, ◌==◌, ℕ, zero, suc, pos, List, [], ◌∷◌, ◌++◌, reverse, replicate, length, drop}
+use Rattle.std.proofs.Common.{slice_index, Option, None, Some, refl, ap, sym, ◌∙◌, append_assoc, length-append, eq-eqb, arith}
 use Rattle.std.proofs.Math.Seq.{drop-append_seam, get_or-append_seam}
 use Rattle.std.proofs.lemmas.Bool.{cond-true}
 use Rattle.std.proofs.lemmas.List.{reverse-append}
@@ -8,7 +9,8 @@ use Rattle.byteorder.specs.Endian.{big_number}
 use Rattle.byteorder.specs.Numbers.{big_number-reads_back}
 use Rattle.mf_gf.specs.declared.file.FontWords.{FontWords}
 use Rattle.mf_gf.specs.declared.locator.Locator.{Locator}
-use Rattle.mf_gf.specs.Files.{Character, Shipment, body, box_of_all, bytes_so_far, ending, file_of, last_shipment, locator_of, locators_from, padding, post, shipments}
+use Rattle.mf_gf.specs.Files.{Character, Shipment, body, box_of_all, bytes_so_far, ending, file_of}
+use Rattle.mf_gf.specs.Files.{last_shipment, locator_of, locators_from, padding, post, shipments}
 use Rattle.mf_gf.specs.Format as gf
 use Rattle.mf_gf.specs.Numbers.{code_count, greatest_word, word}
 use Rattle.mf_gf.specs.Pointers.{locators_after, locators_of, locators_within, post_place, post_place_back}

@@ -1,5 +1,6 @@
 -- The bytes of painting commands, read back.
-use Rattle.std.proofs.Common.{◌≡◌, ℕ, zero, suc, ◌+◌, ◌-◌, ◌≤◌, nat_le, ◌==◌, List, [], ◌∷◌, ◌++◌, length, Option, None, Some, option_map, refl, sym, ap, ◌∙◌, append_assoc, append-nil, length-append, arith, le-leb, ne_eqb}
+use Rattle.std.proofs.Common.{◌≡◌, ℕ, zero, suc, ◌+◌, ◌-◌, ◌≤◌, nat_le, ◌==◌, List, [], ◌∷◌, ◌++◌, length, Option, None, Some}
+use Rattle.std.proofs.Common.{option_map, refl, sym, ap, ◌∙◌, append_assoc, append-nil, length-append, arith, le-leb, ne_eqb}
 use Rattle.std.proofs.lemmas.Bool.{cond-true, cond_both, lt-leb, eqb-true}
 use Rattle.std.proofs.lemmas.Iterator.Adapters.{option_map_id}
 use Rattle.byteorder.specs.Endian.{big_bytes, big_number}

@@ -4,7 +4,8 @@ use Rattle.mf_rows.specs.Dots.{Dot}
 use Rattle.mf_gf.specs.declared.file.FontWords.{FontWords}
 use Rattle.mf_gf.specs.declared.file.GfFile.{GfFile}
 use Rattle.mf_gf.specs.Boxes.{box_of_pixels, join, widen}
-use Rattle.mf_gf.specs.Files.{Character, FileSoFar, Shipment, body, box_of_all, bytes_so_far, ending, file_of, file_so_far, last_place, locator_of, locators_from, post, shipments, spell_after, with_character, with_characters}
+use Rattle.mf_gf.specs.Files.{Character, FileSoFar, Shipment, body, box_of_all, bytes_so_far, ending, file_of, file_so_far}
+use Rattle.mf_gf.specs.Files.{last_place, locator_of, locators_from, post, shipments, spell_after, with_character, with_characters}
 use Rattle.mf_gf.specs.Keeping.{HasLasts, IsAppended, Keeps, bounds_of}
 use Rattle.mf_gf.specs.Numbers.{code_count}
 use Rattle.mf_gf.specs.Spelling.{pointer, spell}

@@ -1,7 +1,8 @@
 -- The characters of a finished file, as a reader finds them. The last bytes give the place of the postamble. Each locator after
 -- it gives the place of the last character with its code. Each character gives the place of the one before it as p (The
 -- METAFONTbook, Appendix G; gftype.web).
-use Rattle.std.specs.Prelude.{◌≡◌, ◌<◌, ◌≤◌, ◌+◌, ◌*◌, ◌==◌, ◌↔◌, ℕ, zero, suc, ℤ, pos, negsuc, All, AllPairs, Any, List, [], ◌∷◌, length, take, drop, reverse, filter, slice_index, Option, None, Some, option_map, if◌then◌else◌}
+use Rattle.std.specs.Prelude.{◌≡◌, ◌<◌, ◌≤◌, ◌+◌, ◌*◌, ◌==◌, ◌↔◌, ℕ, zero, suc, ℤ, pos, negsuc, All, AllPairs, Any, List, [], ◌∷◌}
+use Rattle.std.specs.Prelude.{length, take, drop, reverse, filter, slice_index, Option, None, Some, option_map, if◌then◌else◌}
 use Rattle.byteorder.specs.Endian.{big_number}
 use Rattle.mf_gf.specs.declared.locator.Locator.{Locator}
 use Rattle.mf_gf.specs.Boxes.{box_of_pixels}

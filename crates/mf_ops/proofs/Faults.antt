@@ -1,5 +1,6 @@
 -- The picture after an operation, and when the operation is refused.
-use Rattle.std.proofs.Common.{◌≡◌, ◌≢◌, ◌↔◌, ◌⊎◌, inl, inr, Bool, true, false, cond, Option, None, Some, ℤ, pos, ◌+ℤ◌, List, [], ◌∷◌, refl, sym, ap, ◌∙◌, subst, arith}
+use Rattle.std.proofs.Common.{◌≡◌, ◌≢◌, ◌↔◌, ◌⊎◌, inl, inr, Bool, true, false, cond, Option, None}
+use Rattle.std.proofs.Common.{Some, ℤ, pos, ◌+ℤ◌, List, [], ◌∷◌, refl, sym, ap, ◌∙◌, subst, arith}
 use Rattle.std.proofs.lemmas.Int.{ints}
 use Rattle.std.proofs.lemmas.Bool.{cond_both, false_from_ne_true, or_from, true_from_ne_false, or_parts, both_ways}
 use Rattle.std.proofs.lemmas.List.Elements.{All-contains}
@@ -21,7 +22,8 @@ use Rattle.mf_rows.specs.Weights.{picture_of}
 use Rattle.mf_rows.proofs.WeightsLemmas.{IsDotOf, weight_at-picture_of, lawful_picture_of, picture_of-from_weights, picture_of-dots}
 use Rattle.mf_ops.specs.Faults.{sum_fault}
 use Rattle.mf_ops.specs.Sides.{FillsWith}
-use Rattle.mf_ops.specs.Step.{is_too_large, step_at, next_picture, leaves, MayLeave, StaysInField, TurnsLawfully, weight_fault, pixel_fault, turn_fault, op_fault}
+use Rattle.mf_ops.specs.Step.{is_too_large, step_at, next_picture, leaves, MayLeave, StaysInField}
+use Rattle.mf_ops.specs.Step.{TurnsLawfully, weight_fault, pixel_fault, turn_fault, op_fault}
 use Rattle.mf_ops.specs.declared.op.Op.{Op}
 use Rattle.mf_ops.specs.declared.op.Op.TheVariants as ops
 use Rattle.mf_ops.specs.declared.op.Op.TheVariants.{Contour}

@@ -1,5 +1,6 @@
 -- When a picture leaves the field as its columns and rows are stretched, as a shift and a scale do: its least box decides.
-use Rattle.std.proofs.Common.{◌≡◌, ◌↔◌, ◌&&◌, Bool, true, false, not, ℕ, ◌+◌, ◌*◌, ◌≤◌, mul-le-mul_right, ℤ, pos, negsuc, ◌+ℤ◌, ◌*ℤ◌, ◌≤ℤ◌, List, [], ◌∷◌, refl, subst, sym, w32, to_z, of_z, arith}
+use Rattle.std.proofs.Common.{◌≡◌, ◌↔◌, ◌&&◌, Bool, true, false, not, ℕ, ◌+◌, ◌*◌, ◌≤◌, mul-le-mul_right, ℤ, pos}
+use Rattle.std.proofs.Common.{negsuc, ◌+ℤ◌, ◌*ℤ◌, ◌≤ℤ◌, List, [], ◌∷◌, refl, subst, sym, w32, to_z, of_z, arith}
 use Rattle.std.proofs.lemmas.Bool.{and_from, and_parts, or_parts, not-false, not_from_true, true_from_ne_false}
 use Rattle.std.proofs.lemmas.Int.{ints}
 use Rattle.std.proofs.lemmas.List.Elements.{All-nil, All-cons, All-contains}

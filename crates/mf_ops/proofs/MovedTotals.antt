@@ -1,5 +1,6 @@
 -- The total weight of a picture that was shifted, scaled or turned.
-use Rattle.std.proofs.Common.{◌≡◌, ℕ, zero, suc, ◌*◌, Bool, true, false, not, ◌&&◌, None, ℤ, pos, negsuc, ◌+ℤ◌, ◌-ℤ◌, ◌*ℤ◌, ◌≤ℤ◌, ◌<ℤ◌, nat_abs, List, [], ◌∷◌, refl, sym, ◌∙◌, ap, subst, arith}
+use Rattle.std.proofs.Common.{◌≡◌, ℕ, zero, suc, ◌*◌, Bool, true, false, not, ◌&&◌, None, ℤ, pos, negsuc, ◌+ℤ◌}
+use Rattle.std.proofs.Common.{◌-ℤ◌, ◌*ℤ◌, ◌≤ℤ◌, ◌<ℤ◌, nat_abs, List, [], ◌∷◌, refl, sym, ◌∙◌, ap, subst, arith}
 use Rattle.std.specs.Int.RustNames.{unsigned_abs}
 use Rattle.std.specs.List.{list_any}
 use Rattle.std.specs.Ordering.{int_eq}
@@ -23,7 +24,8 @@ use Rattle.mf_ops.specs.declared.quarter.Quarter.TheVariants.{Once, Twice, Thric
 use Rattle.mf_ops.proofs.AxisSums.{IsMove, sum_over_field-moved, sum_over_field-turn_once}
 use Rattle.mf_ops.proofs.Faults.{stays-accepted}
 use Rattle.mf_ops.proofs.Leaving.{is_coordinate-true, stays_inside-true}
-use Rattle.mf_ops.proofs.Places.{IsStretch-size, end-negative, opposite-opposite, scale_source-negative, scale_source-positive, source_of-end, source_of-start, start-negative}
+use Rattle.mf_ops.proofs.Places.{IsStretch-size, end-negative, opposite-opposite, scale_source-negative}
+use Rattle.mf_ops.proofs.Places.{scale_source-positive, source_of-end, source_of-start, start-negative}
 
 sum_over_field-turn_by : (q : Quarter) (f : ℤ → ℤ → ℤ) → sum_over_field (turn_by q f) ≡ sum_over_field f
 sum_over_field-turn_by Once f = sum_over_field-turn_once f

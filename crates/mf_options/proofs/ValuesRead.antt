@@ -1,5 +1,7 @@
 -- What a parse gives for an option: a text that the parser of the option accepted.
-use Rattle.std.proofs.Common.{◌≡◌, ◌∙◌, ◌<◌, ◌&&◌, ◌||◌, ◌==◌, ℕ, Bool, not, zero, suc, All, Bor, IfSome, List, [], ◌∷◌, None, Option, Some, ap, ap₂, arith, bytes_eq, codes, eqb-true, false, inl, inr, length, map, option_map, pos, refl, slice_get, slice_index_or, subst, sym, true, unwrap_or}
+use Rattle.std.proofs.Common.{◌≡◌, ◌∙◌, ◌<◌, ◌&&◌, ◌||◌, ◌==◌, ℕ, Bool, not, zero, suc, All, Bor, IfSome, List, [], ◌∷◌}
+use Rattle.std.proofs.Common.{None, Option, Some, ap, ap₂, arith, bytes_eq, codes, eqb-true, false, inl, inr, length}
+use Rattle.std.proofs.Common.{map, option_map, pos, refl, slice_get, slice_index_or, subst, sym, true, unwrap_or}
 use Rattle.std.proofs.lemmas.Bool.{cases_lt}
 use Rattle.std.proofs.lemmas.List.Elements.{All-get_or}
 use Rattle.std.proofs.lemmas.Slice.Eq.{bytes_eq-Decides}

@@ -1,5 +1,6 @@
 -- From the texts that clap's parsers accept to numbers and flags, and from these to what the typed getters give.
-use Rattle.std.proofs.Common.{◌≡◌, ◌∙◌, ◌<◌, ◌≤◌, ◌==◌, ◌||◌, ◌^◌, ℕ, Bool, cond, IfSome, List, [], ◌∷◌, None, Ok, Err, Option, Result, Some, ap, arith, bytes_eq, codes, drop, false, inl, inr, pos, refl, subst, sym, true, unwrap_or}
+use Rattle.std.proofs.Common.{◌≡◌, ◌∙◌, ◌<◌, ◌≤◌, ◌==◌, ◌||◌, ◌^◌, ℕ, Bool, cond, IfSome, List, [], ◌∷◌, None, Ok, Err, Option}
+use Rattle.std.proofs.Common.{Result, Some, ap, arith, bytes_eq, codes, drop, false, inl, inr, pos, refl, subst, sym, true, unwrap_or}
 use Rattle.std.proofs.lemmas.Bool.{ne_eqb}
 use Rattle.std.proofs.lemmas.Int.{ints}
 use Rattle.std.proofs.lemmas.Slice.Eq.{bytes_eq-Decides}

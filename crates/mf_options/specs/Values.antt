@@ -1,5 +1,6 @@
 -- The values that the words give, by the names of their options.
-use Rattle.std.specs.Prelude.{◌≡◌, ◌⊎◌, ◌<◌, ◌≤◌, ◌^◌, ◌&&◌, ◌||◌, ◌==◌, ℕ, Bool, IfSome, List, Option, Some, String, Vec, [], codes, false, map, not, pos, string_bytes, true}
+use Rattle.std.specs.Prelude.{◌≡◌, ◌⊎◌, ◌<◌, ◌≤◌, ◌^◌, ◌&&◌, ◌||◌, ◌==◌, ℕ, Bool, IfSome, List, Option}
+use Rattle.std.specs.Prelude.{Some, String, Vec, [], codes, false, map, not, pos, string_bytes, true}
 use Rattle.std.specs.Global.{Global}
 use Rattle.std.specs.List.{list_all}
 use Rattle.std.specs.Option.{option_map_or}

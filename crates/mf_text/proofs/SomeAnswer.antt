@@ -14,7 +14,8 @@ use Rattle.mf_text.specs.declared.command.Command.TheVariants as command
 use Rattle.mf_text.specs.declared.fault.TextFault.TheVariants as faults
 use Rattle.mf_text.specs.Grammar.{Line, Point, Name}
 use Rattle.mf_text.specs.Lines.{is_text_byte, IsText, line_ahead, longest_line, Gives, IsRefused}
-use Rattle.mf_text.specs.Meaning.{Value, Points, AWeight, ACull, AScale, Angle, Meaning, Is, If, Turns, HasRefusal, IsLawfulValue, IsUnlawful, Means, Refuses, meaning, CycleFault, IsContourWeight, IsLawfulCull, CullRule, Keeping, Dropping, Quarter, Command, TextFault}
+use Rattle.mf_text.specs.Meaning.{Value, Points, AWeight, ACull, AScale, Angle, Meaning, Is, If, Turns, HasRefusal, IsLawfulValue, IsUnlawful, Means}
+use Rattle.mf_text.specs.Meaning.{Refuses, meaning, CycleFault, IsContourWeight, IsLawfulCull, CullRule, Keeping, Dropping, Quarter, Command, TextFault}
 use Rattle.mf_text.specs.Rests.{from, line}
 use Rattle.mf_text.specs.Syntax.{IsLine}
 use Rattle.mf_text.specs.Tokens.{kinds, tokens}

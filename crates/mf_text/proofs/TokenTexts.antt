@@ -1,9 +1,11 @@
 -- The token at the front of bytes, and the text that it has there.
-use Rattle.std.proofs.Common.{◌≡◌, ◌⊎◌, inl, inr, ℕ, suc, ◌+◌, ◌-◌, ◌<◌, ◌≤◌, Bool, true, false, not, bytes_eq, eqb, leb, List, [], ◌∷◌, ◌++◌, Option, None, Some, length, get_or, take, drop, if◌then◌else◌, refl, sym, ap, subst, ◌∙◌, arith, rules}
+use Rattle.std.proofs.Common.{◌≡◌, ◌⊎◌, inl, inr, ℕ, suc, ◌+◌, ◌-◌, ◌<◌, ◌≤◌, Bool, true, false, not, bytes_eq, eqb, leb, List, [], ◌∷◌}
+use Rattle.std.proofs.Common.{◌++◌, Option, None, Some, length, get_or, take, drop, if◌then◌else◌, refl, sym, ap, subst, ◌∙◌, arith, rules}
 use Rattle.std.specs.Char.{is_ascii_alphabetic, is_ascii_digit}
 use Rattle.std.specs.List.{All, list_all, prefix_len, starts_with, take_while}
 use Rattle.std.specs.Option.{option_map_or}
-use Rattle.std.proofs.lemmas.Bool.{and_parts, cases_Bool, cases_lt, cond_both, eqb-true, false_from_ne_true, false≢true, leb-true, lt-ltb, ne_eqb, true_from_ne_false}
+use Rattle.std.proofs.lemmas.Bool.{and_parts, cases_Bool, cases_lt, cond_both, eqb-true, false_from_ne_true}
+use Rattle.std.proofs.lemmas.Bool.{false≢true, leb-true, lt-ltb, ne_eqb, true_from_ne_false}
 use Rattle.std.proofs.lemmas.Bool.Decides.{Decides-eqb, nat_tests}
 use Rattle.std.proofs.lemmas.List.{take-append-drop}
 use Rattle.std.proofs.lemmas.List.Elements.{All-cons, All-head, All-nil, All-tail}
@@ -14,7 +16,8 @@ use Rattle.std.proofs.lemmas.Slice.Eq.{bytes_eq-Decides, starts_is}
 use Rattle.mf_text.specs.declared.token.Mark.TheVariants as mark
 use Rattle.mf_text.specs.declared.token.Word.TheVariants as word
 use Rattle.mf_text.specs.Token as token
-use Rattle.mf_text.specs.Tokens.{Taken, first_token, first_is, is_blank, is_letter, is_longer, mark_among, mark_text, marks, number_token, word_among, word_text, word_token, words, is_token, Mark, Token, Word}
+use Rattle.mf_text.specs.Tokens.{Taken, first_token, first_is, is_blank, is_letter, is_longer, mark_among, mark_text, marks}
+use Rattle.mf_text.specs.Tokens.{number_token, word_among, word_text, word_token, words, is_token, Mark, Token, Word}
 use Rattle.mf_text.specs.TokenTexts.{AMark, Digits, IsRow, IsTokenText, Letters, OtherByte}
 
 pub same_token : (t : Token) → is_token t t ≡ true

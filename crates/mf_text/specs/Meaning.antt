@@ -15,7 +15,9 @@ pub use Rattle.mf_text.specs.declared.command.Command.{Command}
 use Rattle.mf_text.specs.declared.command.Command.TheVariants as command
 pub use Rattle.mf_text.specs.declared.fault.TextFault.{TextFault}
 use Rattle.mf_text.specs.declared.fault.TextFault.TheVariants as faults
-use Rattle.mf_text.specs.Grammar.{Form, Nothing, AddContour, AddPicture, CullKeeping, CullDropping, Clear, Move, ShowTotal, ShowPicture, ShowProof, ShipOut, SetCheck, PublishAll, Shifted, Scaled, XScaled, YScaled, Rotated, weight_value, path_value, Point, Name, int_value, pair_value}
+use Rattle.mf_text.specs.Grammar.{Form, Nothing, AddContour, AddPicture, CullKeeping, CullDropping, Clear, Move}
+use Rattle.mf_text.specs.Grammar.{ShowTotal, ShowPicture, ShowProof, ShipOut, SetCheck, PublishAll, Shifted, Scaled}
+use Rattle.mf_text.specs.Grammar.{XScaled, YScaled, Rotated, weight_value, path_value, Point, Name, int_value, pair_value}
 
 -- a value of a form that is checked
 pub data Value : Type 0 where

@@ -1,6 +1,7 @@
 -- The tokens of a line of a script: words, letters, numbers and marks. Blanks may come between tokens, and `%` begins a comment,
 -- which goes to the end of the line.
-use Rattle.std.specs.Prelude.{◌≡◌, ◌≤◌, false, ℕ, zero, suc, ◌+◌, ◌-◌, ◌==◌, ◌||◌, ◌&&◌, Bool, List, [], ◌∷◌, Option, None, Some, length, drop, get_or, take_while, map, nat_eq, nat_le, nat_lt, if◌then◌else◌}
+use Rattle.std.specs.Prelude.{◌≡◌, ◌≤◌, false, ℕ, zero, suc, ◌+◌, ◌-◌, ◌==◌, ◌||◌, ◌&&◌, Bool, List, [], ◌∷◌, Option}
+use Rattle.std.specs.Prelude.{None, Some, length, drop, get_or, take_while, map, nat_eq, nat_le, nat_lt, if◌then◌else◌}
 use Rattle.std.specs.Char.{is_ascii_alphabetic, is_ascii_digit}
 use Rattle.std.specs.List.{starts_with}
 use Rattle.std.specs.Option.{option_map, option_map_or}

@@ -2,7 +2,8 @@
 ghost use Rattle.std.specs.Prelude.{IfOk, IfErr};
 ghost use Rattle.mf_text.specs.Rests as rests;
 ghost use Rattle.mf_text.specs.Lines.{Gives, IsRefused};
-ghost use Rattle.mf_text.specs.Grammar.{Nothing, AddContour, AddPicture, CullKeeping, CullDropping, Clear, Move, ShowTotal, ShowProof, PublishAll, Rotated, Scaled, Shifted, XScaled, YScaled};
+ghost use Rattle.mf_text.specs.Grammar.{Nothing, AddContour, AddPicture, CullKeeping, CullDropping, Clear, Move};
+ghost use Rattle.mf_text.specs.Grammar.{ShowTotal, ShowProof, PublishAll, Rotated, Scaled, Shifted, XScaled, YScaled};
 ghost use Rattle.mf_text.specs.Reads.{AnswersLine, ahead};
 ghost use Rattle.mf_text.specs.Rests.{from};
 

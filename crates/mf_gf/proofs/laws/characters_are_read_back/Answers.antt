@@ -1,4 +1,5 @@
-use Rattle.std.proofs.Common.{◌≡◌, ◌<◌, ◌==◌, ℕ, true, pos, List, ◌∷◌, map, Option, None, Some, is_some, option_map, refl, ap, sym, subst, ◌∙◌, arith, eq-eqb, eqb-true}
+use Rattle.std.proofs.Common.{◌≡◌, ◌<◌, ◌==◌, ℕ, true, pos, List, ◌∷◌, map, Option, None, Some}
+use Rattle.std.proofs.Common.{is_some, option_map, refl, ap, sym, subst, ◌∙◌, arith, eq-eqb, eqb-true}
 use Rattle.std.specs.List.{Any}
 use Rattle.std.proofs.lemmas.List.Elements.{All-weaker}
 use Rattle.std.proofs.lemmas.List.Folds.{Any-from_list_any, list_any-from_Any}
@@ -8,7 +9,8 @@ use Rattle.mf_gf.specs.Files.{Character, Shipment, bytes_so_far, file_of, last_s
 use Rattle.mf_gf.specs.Numbers.{code_count}
 use Rattle.mf_gf.specs.Pointers.{AreShippable, HasCode, LeadsBack, LeadsToAll, characters_of}
 use Rattle.mf_gf.specs.Spelling.{pointer}
-use Rattle.mf_gf.proofs.CharactersRead.{AllStand, all_before, all_stand, character_of, characters_shipped, has_last, has_last-shipped, last_is_first, last_stands, leads_back, of_code}
+use Rattle.mf_gf.proofs.CharactersRead.{AllStand, all_before, all_stand, character_of, characters_shipped, has_last}
+use Rattle.mf_gf.proofs.CharactersRead.{has_last-shipped, last_is_first, last_stands, leads_back, of_code}
 use Rattle.mf_gf.proofs.LocatorsRead.{IsLastFrom, IsReadable, lasts_are_last, lasts_from, lasts_have, lasts_rise}
 use Rattle.mf_gf.proofs.PostFound.{locators_found}
 use Rattle.mf_gf.proofs.Shipped.{file-begins}

@@ -1,4 +1,5 @@
-use Rattle.mf_ops.proofs.OutOfField.{shift-refused, shift-outside, scale-refused, scale-outside, contour-inside, also-inside, cull-inside, turn-inside, clear-inside}
+use Rattle.mf_ops.proofs.OutOfField.{shift-refused, shift-outside, scale-refused, scale-outside}
+use Rattle.mf_ops.proofs.OutOfField.{contour-inside, also-inside, cull-inside, turn-inside, clear-inside}
 use Rattle.mf_ops.proofs.Faults.{may_leave}
 use Rattle.mf_ops.proofs.laws.refused_where_a_pixel_leaves.Goals as goal
 
