@@ -7,7 +7,7 @@ use Rattle.mf_text.specs.Reads.{TakesToken, TakesValue, ahead, next_value, remai
 use Rattle.mf_text.specs.Token.{Ahead, Token, Unknown, this_in}
 use Rattle.mf_text.specs.Tokens.{IsClear, first_token, mark_among, token_at, tokens_from}
 use Rattle.mf_text.proofs.LineTokens.{tokens_at_comment, tokens_at_end, tokens-step}
-use Rattle.mf_text.proofs.Reading.{fewer}
+use Rattle.mf_text.proofs.Reading.{fewer, this_missed, this_passed}
 
 -- the token at the front is the first that remains, unless none does
 data IsAtFront (column : ℕ) (text : List ℕ) : Type 0 where
@@ -58,3 +58,6 @@ module _ (old : Tokens) (column : ℕ) (text : List ℕ) (same : remaining_token
     pub token_fewer : (new : Tokens) (n : ℕ) → (this_in u (first_token text).token ≡ Some tt) × (n ≡ bytes) × (n ≤ length text)
         → new.rest.now ≡ drop n text → new.column ≡ column + n → length (remaining_tokens new) < length (remaining_tokens old)
     token_fewer new n found rest column_is = fewer (this_in u) tt (remaining_tokens old) (ahead new) (token_taken new n found rest column_is)
+
+-- what the search needs where a given token is taken, or is not there
+pub ruleset this_taken = (value_missed, token_taken, this_passed, this_missed)

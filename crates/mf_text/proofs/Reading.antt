@@ -158,6 +158,11 @@ other_name name old after r took other = (by_this (next_value (this_in (name_tok
       (taken_as (this_in (name_token name)) name_in tt name (λ t this. ap name_in (this_only (name_token name) t this) ∙ name_of name)
       (remaining_tokens old) v is)))
 
+-- what the search needs where a name is taken, or a given one
+pub ruleset name_taken = (letter_taken, current_taken, no_name_taken, or_passed, or_missed)
+
+pub ruleset same_name_taken = (one_passed, one_missed, this_name, other_name)
+
 -- ---- the end of a line
 
 pub line_ends : (line : Line) (past : ℕ) (ps : List Placed) → ps ≡ [] → from (Ends line) (record { tokens = ps; past = past }) ≡ Ok line

@@ -44,7 +44,7 @@ impl Tokens<'_> {
     }
 
     /// Passes a name, if it is the next token.
-    #[tactic(auto, using(crate::proofs::Reading::letter_taken, crate::proofs::Reading::current_taken, crate::proofs::Reading::no_name_taken, crate::proofs::Reading::or_passed, crate::proofs::Reading::or_missed))]
+    #[tactic(auto, using(crate::proofs::Reading::name_taken))]
     #[inline(always)]
     pub fn takes_name(&mut self) -> Option<Name>
         ensures took { TakesValue name_in self.old self.new result }
@@ -72,7 +72,7 @@ impl Tokens<'_> {
     }
 
     /// Passes this name, which must come next.
-    #[tactic(auto, using(crate::proofs::Reading::one_passed, crate::proofs::Reading::one_missed, crate::proofs::Reading::this_name, crate::proofs::Reading::other_name))]
+    #[tactic(auto, using(crate::proofs::Reading::same_name_taken))]
     pub fn pass_name(&mut self, name: Name) -> Result<(), SyntaxFault>
         ensures { (this : Rest) → from (rests.One (rests.name_token name) this) (ahead self.old) ≡ then_from (λ _. this) (ahead self.new) result }
     {

@@ -85,7 +85,7 @@ impl<'a> Tokens<'a> {
 
     /// Passes this word, if it is the next token, and returns whether it was. The word is compared with the bytes, and no table
     /// is searched for the word that is there: only a few words may come at any place.
-    #[tactic(auto, using(crate::proofs::FirstTokens::value_missed, crate::proofs::FirstTokens::token_taken, crate::proofs::Reading::this_passed, crate::proofs::Reading::this_missed))]
+    #[tactic(auto, using(crate::proofs::FirstTokens::this_taken))]
     pub fn takes_word(&mut self, word: Word) -> bool
         ensures read { (this other : Rest)
             → from (Or (token.Word word) this other) (ahead self.old) ≡ (if result then from this (ahead self.new) else from other (ahead self.new)) }
@@ -105,7 +105,7 @@ impl<'a> Tokens<'a> {
     /// Passes this mark, if it is the next token, and returns whether it was. The mark is compared with the bytes, too: most
     /// tokens of a contour are marks, and a search of their table would look at several entries for each.
     #[inline(always)]
-    #[tactic(auto, using(crate::proofs::FirstTokens::value_missed, crate::proofs::FirstTokens::token_taken, crate::proofs::FirstTokens::token_fewer, crate::proofs::Reading::this_passed, crate::proofs::Reading::this_missed))]
+    #[tactic(auto, using(crate::proofs::FirstTokens::this_taken, crate::proofs::FirstTokens::token_fewer))]
     pub fn takes_mark(&mut self, mark: Mark) -> bool
         ensures read { (this other : Rest)
             → from (Or (token.Mark mark) this other) (ahead self.old) ≡ (if result then from this (ahead self.new) else from other (ahead self.new)) }
