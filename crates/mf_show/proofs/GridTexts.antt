@@ -11,7 +11,7 @@ use Rattle.mf_rows.specs.Runs.{dots_of, runs_of}
 use Rattle.mf_rows.proofs.BoxesJoined.{box_of_some}
 use Rattle.mf_rows.proofs.RunsLemmas.{dots_of-runs_of}
 use Rattle.mf_show.specs.Boxes.{IsBoxOfField}
-use Rattle.mf_show.specs.Grid.{grid_character, greatest_grid_side, extent, shown_row, row_text, box_text, IsGridText, IsTooLarge}
+use Rattle.mf_show.specs.Grid.{grid_character, greatest_grid_side, extent, shown_row, box_text, IsGridText, IsTooLarge}
 use Rattle.mf_show.specs.RunsAhead.{AreInOrder, AreSameFrom}
 use Rattle.mf_show.proofs.LeastBoxes.{same_least_box, some_least_box}
 use Rattle.mf_show.proofs.ShownRows.{IsBoxSoFar, IsRowSoFar, ShownBox, ShownRow, box_more, box_none, row_more, row_none}
@@ -49,12 +49,12 @@ line_more r x text new k rs others column pushed shown ordered later so_far =
 
 -- ---- a box
 
-row_text-same : (ds es : List Dot) (y x : ℤ) (n : ℕ) → AreSameFrom (place x y) ds es → row_text es y x n ≡ row_text ds y x n
+shown_row-same : (show : ℤ → ℕ) (ds es : List Dot) (y x : ℤ) (n : ℕ) → AreSameFrom (place x y) ds es → shown_row show es y x n ≡ shown_row show ds y x n
 unfolding shown_row place
-row_text-same ds es y x zero same = refl
-row_text-same ds es y x (suc n) same =
+shown_row-same show ds es y x zero same = refl
+shown_row-same show ds es y x (suc n) same =
     let weight : weight_at es x y ≡ weight_at ds x y = same.same x y (omega (arith, ints)) in
-    let others = row_text-same ds es y (x +ℤ pos 1) n (record { same = λ u v from. same.same u v (omega (arith, ints)) }) in
+    let others = shown_row-same show ds es y (x +ℤ pos 1) n (record { same = λ u v from. same.same u v (omega (arith, ints)) }) in
     rw (weight, others) refl
 
 -- the grid of a box
@@ -62,28 +62,28 @@ abbrev pub grid_box : List Dot → Box4 → ShownBox
 grid_box ds b = record { show = grid_character; end = codes "\n"; ds = ds; bounds = b; head = [] }
 
 -- the box is written down to the row above row y, and the runs that are left show its pixels from row y on
-pub record IsGridSoFar (ds : List Dot) (b : Box4) (y : ℤ) (text : List ℕ) (rs : List Run) : Type 0 where
-  pub box : IsBoxSoFar (grid_box ds b) y text
+pub record IsGridSoFar (s : ShownBox) (y : ℤ) (text : List ℕ) (rs : List Run) : Type 0 where
+  pub box : IsBoxSoFar s y text
   pub order : AreInOrder rs
-  pub same : AreSameFrom (place b.min_x y) ds (flat_map dots_of rs)
+  pub same : AreSameFrom (place s.bounds.min_x y) s.ds (flat_map dots_of rs)
 
 pub grid_none : (ds : List Dot) (b : Box4) (y : ℤ) (text : List ℕ) (rs : List Run) → IsPicture ds → IsBoxOfField b → y ≡ b.max_y → text ≡ []
-    → rs ≡ runs_of ds → IsGridSoFar ds b y text rs
+    → rs ≡ runs_of ds → IsGridSoFar (grid_box ds b) y text rs
 grid_none ds b y text rs picture box start empty all = record {
   box = box_none (grid_box ds b) y text box start empty;
   order = all_in_order ds rs picture all;
   same = rw (all, dots_of-runs_of ds) (same_all (place b.min_x y) ds);
 }
 
-pub grid_more : (ds : List Dot) (b : Box4) (y : ℤ) (text new : List ℕ) (rs others : List Run) → IsBoxOfField b → b.min_y ≤ℤ y
-    → new ≡ text ++ row_text (flat_map dots_of rs) y b.min_x (extent b.min_x b.max_x) ++ codes "\n" → AreInOrder others
-    → AreSameFrom (place (b.max_x +ℤ pos 1) y) (flat_map dots_of rs) (flat_map dots_of others) → IsGridSoFar ds b y text rs
-    → IsGridSoFar ds b (y -ℤ pos 1) new others
+pub grid_more : (s : ShownBox) (y : ℤ) (text new : List ℕ) (rs others : List Run) → IsBoxOfField s.bounds → s.bounds.min_y ≤ℤ y
+    → new ≡ text ++ shown_row s.show (flat_map dots_of rs) y s.bounds.min_x (extent s.bounds.min_x s.bounds.max_x) ++ s.end → AreInOrder others
+    → AreSameFrom (place (s.bounds.max_x +ℤ pos 1) y) (flat_map dots_of rs) (flat_map dots_of others) → IsGridSoFar s y text rs
+    → IsGridSoFar s (y -ℤ pos 1) new others
 unfolding place
-grid_more ds b y text new rs others box row pushed ordered later so_far =
-    let line = row_text-same ds (flat_map dots_of rs) y b.min_x (extent b.min_x b.max_x) so_far.same in
+grid_more s y text new rs others box row pushed ordered later so_far =
+    let line = shown_row-same s.show s.ds (flat_map dots_of rs) y s.bounds.min_x (extent s.bounds.min_x s.bounds.max_x) so_far.same in
     record {
-      box = box_more (grid_box ds b) y text new row (rw line at pushed) so_far.box;
+      box = box_more s y text new row (rw line at pushed) so_far.box;
       order = ordered;
       same = record {
         same = λ u v from. later.same u v (omega (arith, ints, box.left, box.right)) ∙ so_far.same.same u v (omega (arith, ints));

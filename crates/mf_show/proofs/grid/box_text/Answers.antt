@@ -29,7 +29,7 @@ loop-y-preserved c =
     let right : to_z w32 (of_z w32 bounds.max_x) ≡ bounds.max_x = omega (arith, ints) in
     let pushed = rw (row, left, right) at c.in_ok-push_row.ensures.text in
     let later = rw (right, row) at c.in_ok-push_row.ensures.later in
-    rw row (grid_more _ _ _ _ _ _ _ box inside pushed c.in_ok-push_row.ensures.order later so_far)
+    rw row (grid_more _ _ _ _ _ _ box inside pushed c.in_ok-push_row.ensures.order later so_far)
 
 pub returns : goal.returns
 returns c =
