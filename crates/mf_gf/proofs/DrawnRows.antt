@@ -45,14 +45,14 @@ drawn_run : (left y x : ℤ) (r : Run) (others : List Stroke) → y ≡ r.y → 
 unfolding pixels_of_strokes dots_of
 drawn_run left y x r others row column weight = rw (row, column, weight) refl
 
--- bytes that take the pen from a position to the start of a run
-record Approaches (left row column : ℤ) (r : Run) (bytes : List ℕ) : Type 0 where
+-- bytes that take a pen to the start of a run
+record Approaches (pen : Pen) (r : Run) (bytes : List ℕ) : Type 0 where
   commands : List Stroke
   spelled : Spells bytes commands
-  drawn : (others : List Stroke) → pixels_of_strokes (white_at left row column) (commands ++ Paint r.len ∷ others)
-      ≡ dots_of r ++ pixels_of_strokes (white_at left r.y (r.x +ℤ pos r.len)) others
+  drawn : (others : List Stroke) → pixels_of_strokes pen (commands ++ Paint r.len ∷ others)
+      ≡ dots_of r ++ pixels_of_strokes (white_at pen.left r.y (r.x +ℤ pos r.len)) others
 
-in_row : (left row column : ℤ) (r : Run) → IsNext left row column r → r.y ≡ row → Approaches left row column r (paint (distance r.x column))
+in_row : (left row column : ℤ) (r : Run) → IsNext left row column r → r.y ≡ row → Approaches (white_at left row column) r (paint (distance r.x column))
 unfolding pixels_of_strokes
 in_row left row column r next same =
     let behind = next.behind same in
@@ -64,7 +64,7 @@ in_row left row column r next same =
     }
 
 in_next_row : (left row column : ℤ) (r : Run) → IsNext left row column r → distance row r.y ≡ 1
-    → distance r.x left ≤ gf.most_new_row → Approaches left row column r (new_row (distance r.x left))
+    → distance r.x left ≤ gf.most_new_row → Approaches (white_at left row column) r (new_row (distance r.x left))
 unfolding pixels_of_strokes
 in_next_row left row column r next one few =
     let n = distance r.x left in
@@ -75,7 +75,7 @@ in_next_row left row column r next one few =
     }
 
 in_lower_row : (left row column : ℤ) (r : Run) → IsNext left row column r → (r.y ≡ row → ⊥)
-    → Approaches left row column r (skip (distance row r.y - 1) ++ paint (distance r.x left))
+    → Approaches (white_at left row column) r (skip (distance row r.y - 1) ++ paint (distance r.x left))
 unfolding pixels_of_strokes
 in_lower_row left row column r next other =
     let m = distance row r.y - 1 in
@@ -88,10 +88,10 @@ in_lower_row left row column r next other =
       drawn = λ others. drawn_run left (row -ℤ pos (m + 1)) (left +ℤ pos n) r others (omega (arith, ints, next, other)) (omega (arith, ints, next)) next.weight;
     }
 
-approaches : (left row column : ℤ) (r : Run) → IsNext left row column r → Approaches left row column r (approach left row column r)
+approaches : (left row column : ℤ) (r : Run) → IsNext left row column r → Approaches (white_at left row column) r (approach left row column r)
 approaches left row column r next =
     let near = distance row r.y == 1 && nat_le (distance r.x left) gf.most_new_row in
-    let Fits = Approaches left row column r in
+    let Fits = Approaches (white_at left row column) r in
     let lower = skip (distance row r.y - 1) ++ paint (distance r.x left) in
     cond_both (int_eq r.y row) (paint (distance r.x column)) (if near then new_row (distance r.x left) else lower) Fits
     (λ yes. in_row left row column r next ((Decides-int_eq r.y row).0 yes))
@@ -101,13 +101,14 @@ approaches left row column r next =
     (eqb-true (distance row r.y) 1 tests.0) (leb-true (distance r.x left) gf.most_new_row tests.1))
     (λ far. in_lower_row left row column r next (λ same. false≢true (sym no ∙ (Decides-int_eq r.y row).1 same))))
 
--- bytes that make these pixels black, starting at a position
-record Draws (left row column : ℤ) (bytes : List ℕ) (ds : List Dot) : Type 0 where
+-- bytes by which a pen makes these pixels black
+record Draws (pen : Pen) (bytes : List ℕ) (ds : List Dot) : Type 0 where
   commands : List Stroke
   spelled : Spells bytes commands
-  drawn : pixels_of_strokes (white_at left row column) commands ≡ ds
+  drawn : pixels_of_strokes pen commands ≡ ds
 
-draws_rows : (left row column : ℤ) (rs : List Run) → AreNext left row column rs → Draws left row column (rows left row column rs) (flat_map dots_of rs)
+draws_rows : (left row column : ℤ) (rs : List Run) → AreNext left row column rs
+    → Draws (white_at left row column) (rows left row column rs) (flat_map dots_of rs)
 unfolding rows pixels_of_strokes
 draws_rows left row column [] next = record { commands = []; spelled = spells_none; drawn = refl }
 draws_rows left row column (r ∷ rs) next =
