@@ -55,15 +55,15 @@ bounds_of-more [] c = refl
 bounds_of-more (b ∷ cs) c = ap (λ box. Some box) (box_of_all-more b cs c)
 
 pub keeps-more : (before after : GfFile) (comment : List ℕ) (cs : List Character) (c : Character)
-    → IsAppended before after (locator_of (shipment_after before.bytes.items c)) (box_of_pixels c.black) (spell_after (file_so_far comment cs) c)
-    → Keeps before comment cs → Keeps after comment (cs ++ c ∷ [])
-keeps-more before after comment cs c appended keeps = record {
+    → IsAppended before after (locator_of (shipment_after before.bytes.items c)) (spell_after (file_so_far comment cs) c)
+    → after.bounds ≡ Some (widen before.bounds (box_of_pixels c.black)) → Keeps before comment cs → Keeps after comment (cs ++ c ∷ [])
+keeps-more before after comment cs c appended widened keeps = record {
   bytes = appended.bytes ∙ ap (λ bytes. bytes ++ spell_after (file_so_far comment cs) c) keeps.bytes ∙ sym (bytes_so_far-more comment cs c);
   locators =
       subst (HasLasts after.locators) (ap (λ bytes. shipment_after bytes c ∷ shipments comment cs) keeps.bytes ∙ sym (shipments-more comment cs c))
       (appended.locators (shipment_after before.bytes.items c) (shipments comment cs) refl keeps.locators);
   count = let one_more = length-append cs (c ∷ []) in let counted = appended.count in let count = keeps.count in omega (arith, one_more, counted, count);
-  bounds = appended.bounds ∙ ap (λ bounds. Some (widen bounds (box_of_pixels c.black))) keeps.bounds ∙ sym (bounds_of-more cs c);
+  bounds = widened ∙ ap (λ bounds. Some (widen bounds (box_of_pixels c.black))) keeps.bounds ∙ sym (bounds_of-more cs c);
 }
 
 -- a file begins with its preamble and its characters

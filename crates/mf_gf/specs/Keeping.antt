@@ -7,7 +7,6 @@ use Rattle.mf_gf.specs.declared.file.GfFile.{GfFile}
 use Rattle.mf_gf.specs.declared.finished.GfBytes.{GfBytes}
 use Rattle.mf_gf.specs.declared.locator.Locator.{Locator}
 use Rattle.mf_gf.specs.declared.locators.Locators.{Locators}
-use Rattle.mf_gf.specs.Boxes.{widen}
 use Rattle.mf_gf.specs.Files.{Character, Shipment, box_of_all, bytes_so_far, last_shipment, locator_if, locator_of, shipments}
 use Rattle.mf_gf.specs.Numbers.{code_count}
 use Rattle.mf_gf.specs.Pixels.{black}
@@ -48,11 +47,10 @@ pub record IsSameFile (before after : GfFile) : Type 0 where
   pub max_bytes : after.max_bytes ≡ before.max_bytes
 
 -- a character with these bytes was appended to a file
-pub record IsAppended (before after : GfFile) (l : Locator) (b : CharacterBox) (spelled : List ℕ) : Type 0 where
+pub record IsAppended (before after : GfFile) (l : Locator) (spelled : List ℕ) : Type 0 where
   pub bytes : after.bytes.items ≡ before.bytes.items ++ spelled
   pub locators : (s : Shipment) (shipped : List Shipment) → locator_of s ≡ l → HasLasts before.locators shipped → HasLasts after.locators (s ∷ shipped)
   pub count : after.count ≡ before.count + 1
-  pub bounds : after.bounds ≡ Some (widen before.bounds b)
 
 -- the file comes back with this refusal
 abbrev pub IsRefusedAs : GfFault → Result GfBytes (GfFile × GfFault) → Type 0

@@ -1,6 +1,6 @@
 //! How a file is made, up to its end.
-ghost use Rattle.std.specs.Prelude.{◌≡◌, ◌⊎◌, ◌<◌, ◌≤◌, ◌↔◌, ◌++◌, ◌∷◌, [], Err, IfErr, IfOk, OnErr, OnOk, List, ℕ, length, min};
-ghost use Rattle.mf_gf.specs.Boxes.{box_of_pixels};
+ghost use Rattle.std.specs.Prelude.{◌≡◌, ◌⊎◌, ◌<◌, ◌≤◌, ◌↔◌, ◌++◌, ◌∷◌, [], Err, IfErr, IfOk, OnErr, OnOk, Some, List, ℕ, length, min};
+ghost use Rattle.mf_gf.specs.Boxes.{box_of_pixels, widen};
 ghost use Rattle.mf_gf.specs.Spelling as spelling;
 ghost use Rattle.mf_gf.specs.Spelling.{pointer};
 ghost use Rattle.mf_gf.specs.Files.{Character, bytes_so_far, preamble};
@@ -128,7 +128,8 @@ impl GfFile {
     ) -> Result<(), OutOfMemory>
         requires within { length (self.old.bytes.items ++ spelled.now) ≤ self.old.max_bytes }
         requires some { 1 ≤ length spelled.now }
-        ensures appended { OnOk result (IsAppended self.old self.new locator bounds spelled.now) }
+        ensures appended { OnOk result (IsAppended self.old self.new locator spelled.now) }
+        ensures bounds { OnOk result (self.new.bounds ≡ Some (widen self.old.bounds bounds)) }
         ensures unchanged { OnErr result (IsSameFile self.old self.new) }
         ensures max_bytes { max_bytes_of self.new ≡ max_bytes_of self.old }
     {

@@ -21,7 +21,7 @@ returns-clause-shipped c = λ comment characters keeps.
     let earlier = c.last_place-earlier.ensures (shipments comment characters) keeps.locators in
     let spelled = c.deref.ensures.value ∙ c.in_ok-spelled.ensures.bytes ∙ ap (λ p. spell c.args.code (pointer p) (black c.args.picture.now)) earlier in
     keeps-more c.args.self.now c.append.new.self comment characters (character c.args.code c.args.dx c.args.width c.args.picture.now)
-    (rw (dx, width, place, c.of_black-bounds.ensures.value, spelled) at c.in_ok-append.ensures.appended) keeps
+    (rw (dx, width, place, spelled) at c.in_ok-append.ensures.appended) (rw c.of_black-bounds.ensures.value at c.in_ok-append.ensures.bounds) keeps
 
 whole : (c : After-last_place-earlier) (comment : List ℕ) (characters : List Character) → Keeps c.args.self.now comment characters
     → bytes_so_far comment (characters ++ character c.args.code c.args.dx c.args.width c.args.picture.now ∷ [])
