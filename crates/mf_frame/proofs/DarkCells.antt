@@ -2,7 +2,7 @@
 use Rattle.std.proofs.Common.{◌≡◌, ◌⊎◌, inl, inr, ⊎_elim, ◌≤◌, ◌&&◌, if◌then◌else◌, true, ℤ, pos, ◌+ℤ◌, ◌<ℤ◌, int_lt, List, [], ◌∷◌, refl, sym, ap, ◌∙◌, arith}
 use Rattle.std.specs.Bool.{nat_lt}
 use Rattle.std.specs.Ordering.{int_eq}
-use Rattle.std.proofs.lemmas.Bool.{false≢true, cond-false, cond_both, and_from, and_parts}
+use Rattle.std.proofs.lemmas.Bool.{false≢true, cond-false, cond_both, and_parts}
 use Rattle.std.proofs.lemmas.Bool.Decides.{Decides-int_eq, Decides-ltb}
 use Rattle.std.proofs.lemmas.Int.{ints, by_lt_z}
 use Rattle.mf_rows.specs.Dots.{Dot, AreDotsFrom, place, weight_at}
@@ -10,7 +10,7 @@ use Rattle.mf_rows.proofs.DotsLemmas.{IsAt, weight_at-before, weight_at-elsewher
 use Rattle.mf_frame.specs.declared.shade.Shade.{Shade}
 use Rattle.mf_frame.specs.declared.shade.Shade.TheVariants.{Blank, Negative, One, Two, More}
 use Rattle.mf_frame.specs.Cells.{cell_of, cell_shade, darker, depth, is_dark, shade_of, HasPositivePixel}
-use Rattle.mf_frame.proofs.Darkness.{IsInCell, by_dot, darker-above, in_cell_test, shade-elsewhere, shade-here}
+use Rattle.mf_frame.proofs.Darkness.{by_dot, darker-above, in_cell_passes, in_cell_test, shade-elsewhere, shade-here}
 use Rattle.mf_frame.proofs.Windows.{by_test}
 
 -- ---- shades
@@ -57,10 +57,6 @@ dark_from_positive w positive =
 
 -- ---- cells
 
-in_cell_passes : (s x y i j : ℤ) → IsInCell s x y i j → (int_eq (cell_of s x) i && int_eq (cell_of s y) j) ≡ true
-in_cell_passes s x y i j here =
-    and_from (int_eq (cell_of s x) i) (int_eq (cell_of s y) j) ((Decides-int_eq (cell_of s x) i).1 here.column) ((Decides-int_eq (cell_of s y) j).1 here.row)
-
 -- a pixel of other dots is a pixel of all of them
 lifted : (s low : ℤ) (d : Dot) (ds : List Dot) (i j : ℤ) → AreDotsFrom low (d ∷ ds) → HasPositivePixel s ds i j → HasPositivePixel s (d ∷ ds) i j
 lifted s low d ds i j dots pixel =
@@ -88,29 +84,29 @@ pixel_of_dark s low (d ∷ ds) i j dots dark =
     ⊎_elim (λ own. record {
       x = d.x;
       y = d.y;
-      column = here.column;
-      row = here.row;
+      column = here.0;
+      row = here.1;
       positive = rw (weight_at-here d ds d.x d.y (record { column = refl; row = refl })) (positive_from_dark d.weight own);
-    }) others (dark_either (shade_of d.weight) (cell_shade s ds i j) (rw (shade-here s d ds i j here) at dark)))
+    }) others (dark_either (shade_of d.weight) (cell_shade s ds i j) (rw (shade-here s d ds i j here.0 here.1) at dark)))
     (λ failed.
-    let away : IsInCell s d.x d.y i j → ⊥ = λ here. false≢true (sym failed ∙ in_cell_passes s d.x d.y i j here) in
-    others (rw (shade-elsewhere s d ds i j away) at dark))
+    let away = shade-elsewhere s d ds i j (λ column row. false≢true (sym failed ∙ in_cell_passes s d.x d.y i j column row)) in
+    others (rw away at dark))
 
-dark_at : (s : ℤ) (ds : List Dot) (i j x y : ℤ) → IsInCell s x y i j → pos 0 <ℤ weight_at ds x y → is_dark (cell_shade s ds i j) ≡ true
+dark_at : (s : ℤ) (ds : List Dot) (i j x y : ℤ) → cell_of s x ≡ i → cell_of s y ≡ j → pos 0 <ℤ weight_at ds x y → is_dark (cell_shade s ds i j) ≡ true
 unfolding weight_at
-dark_at s [] i j x y inside positive = absurd (omega (arith, ints))
-dark_at s (d ∷ ds) i j x y inside positive =
+dark_at s [] i j x y at_i at_j positive = absurd (omega (arith, ints))
+dark_at s (d ∷ ds) i j x y at_i at_j positive =
     by_test (int_eq d.x x && int_eq d.y y)
     (λ test.
     let parts = and_parts (int_eq d.x x) (int_eq d.y y) test in
     let column = (Decides-int_eq d.x x).0 parts.0 in
     let row = (Decides-int_eq d.y y).0 parts.1 in
     let weight = rw (weight_at-here d ds x y (record { column = column; row = row })) at positive in
-    let here : IsInCell s d.x d.y i j = record { column = ap (cell_of s) column ∙ inside.column; row = ap (cell_of s) row ∙ inside.row } in
-    rw (shade-here s d ds i j here) (dark-left (shade_of d.weight) (cell_shade s ds i j) (dark_from_positive d.weight weight)))
+    let here = shade-here s d ds i j (ap (cell_of s) column ∙ at_i) (ap (cell_of s) row ∙ at_j) in
+    rw here (dark-left (shade_of d.weight) (cell_shade s ds i j) (dark_from_positive d.weight weight)))
     (λ failed.
-    let rest = dark_at s ds i j x y inside (rw (cond-false _ d.weight (weight_at ds x y) failed) at positive) in
+    let rest = dark_at s ds i j x y at_i at_j (rw (cond-false _ d.weight (weight_at ds x y) failed) at positive) in
     by_dot s d ds i j (λ shade. is_dark shade ≡ true) (dark-right (shade_of d.weight) (cell_shade s ds i j) rest) rest)
 
 pub dark_from_pixel : (s : ℤ) (ds : List Dot) (i j : ℤ) → HasPositivePixel s ds i j → is_dark (cell_shade s ds i j) ≡ true
-dark_from_pixel s ds i j pixel = dark_at s ds i j pixel.x pixel.y (record { column = pixel.column; row = pixel.row }) pixel.positive
+dark_from_pixel s ds i j pixel = dark_at s ds i j pixel.x pixel.y pixel.column pixel.row pixel.positive

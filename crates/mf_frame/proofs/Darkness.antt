@@ -93,29 +93,29 @@ darker-assoc a b c =
 
 -- ---- the shade of a cell
 
--- the pixel of a dot is in the cell (i, j)
-pub record IsInCell (s : ℤ) (x y i j : ℤ) : Type 0 where
-  pub column : cell_of s x ≡ i
-  pub row : cell_of s y ≡ j
-
-pub in_cell_test : (s x y i j : ℤ) → (int_eq (cell_of s x) i && int_eq (cell_of s y) j) ≡ true → IsInCell s x y i j
+-- the test of a pixel of the cell (i, j) passes exactly where its column and row are those of the cell
+pub in_cell_test : (s x y i j : ℤ) → (int_eq (cell_of s x) i && int_eq (cell_of s y) j) ≡ true → (cell_of s x ≡ i) × (cell_of s y ≡ j)
 in_cell_test s x y i j test =
     let parts = and_parts (int_eq (cell_of s x) i) (int_eq (cell_of s y) j) test in
-    record { column = (Decides-int_eq (cell_of s x) i).0 parts.0; row = (Decides-int_eq (cell_of s y) j).0 parts.1 }
+    ((Decides-int_eq (cell_of s x) i).0 parts.0, (Decides-int_eq (cell_of s y) j).0 parts.1)
 
-pub shade-here : (s : ℤ) (d : Dot) (ds : List Dot) (i j : ℤ) → IsInCell s d.x d.y i j
+pub in_cell_passes : (s x y i j : ℤ) → cell_of s x ≡ i → cell_of s y ≡ j → (int_eq (cell_of s x) i && int_eq (cell_of s y) j) ≡ true
+in_cell_passes s x y i j column row =
+    and_from (int_eq (cell_of s x) i) (int_eq (cell_of s y) j) ((Decides-int_eq (cell_of s x) i).1 column) ((Decides-int_eq (cell_of s y) j).1 row)
+
+pub shade-here : (s : ℤ) (d : Dot) (ds : List Dot) (i j : ℤ) → cell_of s d.x ≡ i → cell_of s d.y ≡ j
     → cell_shade s (d ∷ ds) i j ≡ darker (shade_of d.weight) (cell_shade s ds i j)
 unfolding cell_shade
-shade-here s d ds i j here =
-    cond-true _ (darker (shade_of d.weight) (cell_shade s ds i j)) (cell_shade s ds i j)
-    (and_from (int_eq (cell_of s d.x) i) (int_eq (cell_of s d.y) j) ((Decides-int_eq (cell_of s d.x) i).1 here.column)
-    ((Decides-int_eq (cell_of s d.y) j).1 here.row))
+shade-here s d ds i j column row =
+    cond-true _ (darker (shade_of d.weight) (cell_shade s ds i j)) (cell_shade s ds i j) (in_cell_passes s d.x d.y i j column row)
 
-pub shade-elsewhere : (s : ℤ) (d : Dot) (ds : List Dot) (i j : ℤ) → (IsInCell s d.x d.y i j → ⊥) → cell_shade s (d ∷ ds) i j ≡ cell_shade s ds i j
+pub shade-elsewhere : (s : ℤ) (d : Dot) (ds : List Dot) (i j : ℤ) → (cell_of s d.x ≡ i → cell_of s d.y ≡ j → ⊥)
+    → cell_shade s (d ∷ ds) i j ≡ cell_shade s ds i j
 unfolding cell_shade
 shade-elsewhere s d ds i j elsewhere =
     cond-false _ (darker (shade_of d.weight) (cell_shade s ds i j)) (cell_shade s ds i j)
-    (false_from_ne_true (int_eq (cell_of s d.x) i && int_eq (cell_of s d.y) j) (λ test. elsewhere (in_cell_test s d.x d.y i j test)))
+    (false_from_ne_true (int_eq (cell_of s d.x) i && int_eq (cell_of s d.y) j)
+    (λ test. let here = in_cell_test s d.x d.y i j test in elsewhere here.0 here.1))
 
 pub shade-none : (s i j : ℤ) → cell_shade s [] i j ≡ Blank
 unfolding cell_shade
@@ -146,7 +146,7 @@ shade-append s (d ∷ ds) es i j =
 
 -- equal dots reach no cells outside their row, and none before their first or after their last
 pub equal_dots-outside : (s : ℤ) (y x w : ℤ) (n : ℕ) (i j : ℤ) → pos 1 ≤ℤ s
-    → ((u : ℤ) → x ≤ℤ u → u <ℤ (x +ℤ pos n) → IsInCell s u y i j → ⊥) → cell_shade s (equal_dots y x w n) i j ≡ Blank
+    → ((u : ℤ) → x ≤ℤ u → u <ℤ (x +ℤ pos n) → cell_of s u ≡ i → cell_of s y ≡ j → ⊥) → cell_shade s (equal_dots y x w n) i j ≡ Blank
 unfolding cell_shade equal_dots
 equal_dots-outside s y x w zero i j positive outside = refl
 equal_dots-outside s y x w (suc n) i j positive outside =
@@ -169,7 +169,7 @@ unfolding equal_dots
 equal_dots-inside s y x w zero i j positive row left right =
     let same : x +ℤ pos 0 ≡ x = omega (arith, ints) in
     let column : cell_of s x ≡ i = omega (arith, ints, rw same at right) in
-    shade-here s (record { y = y; x = x; weight = w }) [] i j (record { column = column; row = row })
+    shade-here s (record { y = y; x = x; weight = w }) [] i j column row
     ∙ ap (darker (shade_of w)) (shade-none s i j) ∙ darker-blank (shade_of w)
 equal_dots-inside s y x w (suc n) i j positive row left right =
     let d : Dot = record { y = y; x = x; weight = w } in
@@ -182,4 +182,4 @@ equal_dots-inside s y x w (suc n) i j positive row left right =
     by_dot s d behind i j (λ shade. shade ≡ shade_of w) (ap (darker (shade_of w)) others ∙ darker-same (shade_of w)) others)
     (λ first.
     let column : cell_of s x ≡ i = omega (arith, ints) in
-    shade-here s d behind i j (record { column = column; row = row }) ∙ equal_dots-either s y (x +ℤ pos 1) w (suc n) i j)
+    shade-here s d behind i j column row ∙ equal_dots-either s y (x +ℤ pos 1) w (suc n) i j)

@@ -19,7 +19,7 @@ use Rattle.mf_frame.specs.declared.window.Window.{Window}
 use Rattle.mf_frame.specs.Cells.{Darkening, cell_of, cell_shade, darker, shade_of, place_in, shade_in, IsCellOf, AreCells, AreDarkened}
 use Rattle.mf_frame.specs.Cells.{ArePainted, IsRunInWindow, AreInWindow}
 use Rattle.mf_frame.specs.Windows.{IsWindow}
-use Rattle.mf_frame.proofs.Darkness.{IsInCell, by_place, darker-blank, shade-append, shade-none, equal_dots-inside, equal_dots-outside}
+use Rattle.mf_frame.proofs.Darkness.{by_place, darker-blank, shade-append, shade-none, equal_dots-inside, equal_dots-outside}
 use Rattle.mf_frame.proofs.Floors.{cell-le}
 
 -- ---- a stretch of places
@@ -85,7 +85,7 @@ unreached w r old new i j kept blank = rw blank (kept ∙ sym (darker-blank (get
 
 -- a run reaches no cell that none of its columns and rows is in
 outside_run : (w : Window) (r : Run) (i j : ℤ) → pos 1 ≤ℤ w.scale
-    → ((u : ℤ) → r.x ≤ℤ u → u <ℤ (r.x +ℤ pos r.len) → IsInCell w.scale u r.y i j → ⊥) → cell_shade w.scale (dots_of r) i j ≡ Blank
+    → ((u : ℤ) → r.x ≤ℤ u → u <ℤ (r.x +ℤ pos r.len) → cell_of w.scale u ≡ i → cell_of w.scale r.y ≡ j → ⊥) → cell_shade w.scale (dots_of r) i j ≡ Blank
 unfolding dots_of
 outside_run w r i j positive outside = equal_dots-outside w.scale r.y r.x r.weight r.len i j positive outside
 
@@ -117,13 +117,13 @@ in_row w r old new i window within cell dark =
     (λ left.
     let before : p < run_start w r = omega (arith, ints, cell.left, within.first.left) in
     unreached w r old new i row (dark.before p before)
-    (outside_run w r i row positive (λ u from to here. let le = cell-le w.scale r.x u positive from in omega (arith, ints, here.column))))
+    (outside_run w r i row positive (λ u from to column _. let le = cell-le w.scale r.x u positive from in omega (arith, ints, column))))
     (λ from. by_lt_z last i
     (λ right.
     let after : run_end w r ≤ p = omega (arith, ints, cell.left, within.last.left) in
     unreached w r old new i row (dark.after p after)
     (outside_run w r i row positive
-    (λ u start to here. let le = cell-le w.scale u ((r.x +ℤ pos r.len) -ℤ pos 1) positive (omega (arith, ints)) in omega (arith, ints, here.column))))
+    (λ u start to column _. let le = cell-le w.scale u ((r.x +ℤ pos r.len) -ℤ pos 1) positive (omega (arith, ints)) in omega (arith, ints, column))))
     (λ to.
     let above : run_start w r ≤ p = omega (arith, ints, cell.left, within.first.left) in
     let below : p < run_end w r = omega (arith, ints, cell.left, within.last.left) in
@@ -143,12 +143,12 @@ painted_cell w r old new i j window within cell dark =
     (λ below.
     let apart = row-apart a b w.columns (omega (arith, ints, cell.bottom, within.first.bottom)) in
     let before : place_in w i j < run_start w r = omega (arith, ints, cell.left, cell.right) in
-    unreached w r old new i j (dark.before (place_in w i j) before) (outside_run w r i j positive (λ u from to here. omega (arith, ints, here.row))))
+    unreached w r old new i j (dark.before (place_in w i j) before) (outside_run w r i j positive (λ u from to _ same. omega (arith, ints, same))))
     (λ from_row. by_lt_z row j
     (λ above.
     let apart = row-apart b a w.columns (omega (arith, ints, cell.bottom, within.first.bottom)) in
     let after : run_end w r ≤ place_in w i j = omega (arith, ints, within.last.left, within.last.right) in
-    unreached w r old new i j (dark.after (place_in w i j) after) (outside_run w r i j positive (λ u from to here. omega (arith, ints, here.row))))
+    unreached w r old new i j (dark.after (place_in w i j) after) (outside_run w r i j positive (λ u from to _ same. omega (arith, ints, same))))
     (λ to_row.
     let same : j ≡ row = omega (arith, ints) in
     rw same (in_row w r old new i window within (rw same at cell) dark)))
