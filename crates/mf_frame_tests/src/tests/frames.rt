@@ -90,8 +90,11 @@ const PLAIN_SIGNS: &str =
     "▄▁▄▁\n ░▏▄\nrevision 7  totalweight 4\ncolumns -2..1  rows -2..0  scale 1\n";
 
 /// The colors of a tile are those of its upper and its lower half: 255 blank, 208 negative, 238, 25 and 16 for 1, 2 and more.
-const COLORED_SIGNS: &str =
-    "\x1B[K\n\x1B[K\x1B[38;5;255;48;5;238m▀\x1B[38;5;250;48;5;255m▁\x1B[38;5;255;48;5;16m▀\x1B[38;5;250;48;5;255m▁\x1B[0m\n\x1B[K\x1B[38;5;255;48;5;255m▀\x1B[38;5;208;48;5;255m▀\x1B[38;5;250;48;5;255m▏\x1B[38;5;255;48;5;25m▀\x1B[0m\n\x1B[Krevision 7  totalweight 4\n\x1B[Kcolumns -2..1  rows -2..0  scale 1\n";
+const COLORED_SIGNS: &str = "\x1B[K\n\
+    \x1B[K\x1B[38;5;255;48;5;238m▀\x1B[38;5;250;48;5;255m▁\x1B[38;5;255;48;5;16m▀\x1B[38;5;250;48;5;255m▁\x1B[0m\n\
+    \x1B[K\x1B[38;5;255;48;5;255m▀\x1B[38;5;208;48;5;255m▀\x1B[38;5;250;48;5;255m▏\x1B[38;5;255;48;5;25m▀\x1B[0m\n\
+    \x1B[Krevision 7  totalweight 4\n\
+    \x1B[Kcolumns -2..1  rows -2..0  scale 1\n";
 
 #[test]
 fn signs_and_axes_are_drawn(rt: HostRuntime) {
