@@ -1,8 +1,15 @@
--- That a run of the program which ends well has the font file that its words ask for.
-use Rattle.std.proofs.Common.{◌≡◌, ◌∷◌, [], List, None, Result, Ok, Err, refl}
-use Rattle.std.specs.Prelude.{IfErr, OnOk}
-use Rattle.mf_gf.specs.Files.{Character, file_if_any}
+-- Whether a script has the font file that its words ask for.
+use Rattle.std.proofs.Common.{◌≡◌, ◌⊎◌, ◌↔◌, ◌∷◌, [], inl, inr, List, None, Option, Some, Result, Ok, Err, refl, subst, sym}
+use Rattle.std.specs.Prelude.{IfErr, IfSome, IsSome, OnOk}
+use Rattle.mf_gf.specs.Files.{Character, IsLongFile, file_if_any}
+use Rattle.mf_gf.specs.Keeping.{Keeps, max_bytes_of}
 use Rattle.mf_gf.specs.declared.file.FontWords.{FontWords}
+use Rattle.mf_gf.specs.declared.file.GfFile.{GfFile}
+use Rattle.mf_view.specs.Faults.{LosesFont}
+use Rattle.mf_view.specs.Fonts.{font_words}
+use Rattle.mf_view.specs.declared.fault.ProgramFault.{ProgramFault}
+use Rattle.mf_view.specs.declared.fault.ProgramFault.TheVariants.{OutOfMemory, FileTooLong, WriteFault, NoCharacters}
+use Rattle.mf_view_words.specs.declared.words.Words.{Words}
 
 -- what holds where a result is no refusal
 pub on-ok-from : {A E : Type 0} (r : Result A E) (P : Type 0) → (((fault : E) → r ≡ Err fault → ⊥) → P) → OnOk r P
@@ -14,7 +21,19 @@ pub no-file : (font : FontWords) (characters : List Character) → file_if_any f
 no-file font [] none = refl
 no-file font (c ∷ cs) none = cc
 
--- what holds of each fault
-pub of-each-fault : {A E : Type 0} (r : Result A E) (P : E → Type 0) → ((fault : E) → P fault) → IfErr r P
-of-each-fault (Ok x) P each = tt
-of-each-fault (Err fault) P each = each fault
+-- no font file could be made
+pub unmade : (asked : Words) (file : GfFile) (fault : ProgramFault) → (fault ≡ FileTooLong) ⊎ (fault ≡ OutOfMemory)
+    → ((characters : List Character) → Keeps file [] characters → fault ≡ FileTooLong
+    → IsLongFile (max_bytes_of file) (font_words asked.design_size asked.resolution) [] characters)
+    → LosesFont asked file fault
+unmade asked file fault (inl long) too_long = subst (LosesFont asked file) (sym long) (λ characters keeps. too_long characters keeps long)
+unmade asked file fault (inr memory) too_long = subst (LosesFont asked file) (sym memory) tt
+
+-- the font file that was asked for could not be written, or there is none
+pub unwritten : {A : Type 0} (asked : Words) (file : GfFile) (made : Option A) (r : Result (Unit {0}) ProgramFault) (P : ProgramFault → Type 0)
+    → IsSome asked.gf → (made ≡ None → (characters : List Character) → Keeps file [] characters → characters ≡ [])
+    → (made ≡ None) ↔ (r ≡ Err NoCharacters) → IfSome made (λ _. IfErr r (λ fault. fault ≡ WriteFault))
+    → ((fault : ProgramFault) → LosesFont asked file fault → P fault) → IfErr r P
+unwritten asked file None r P some nothing none failed ends = subst (λ r. IfErr r P) (sym (none.0 refl)) (ends NoCharacters (some, nothing refl))
+unwritten asked file (Some bytes) (Ok done) P some nothing none failed ends = tt
+unwritten asked file (Some bytes) (Err fault) P some nothing none failed ends = ends fault (subst (LosesFont asked file) (sym failed) some)

@@ -1,4 +1,4 @@
-mod Begun
+mod Broken
 mod Drawn
 mod FontsAsked
 mod Messages

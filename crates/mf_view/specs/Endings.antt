@@ -45,12 +45,6 @@ pub record IsWatched (words : Words) (s : ScreenStreams) : Type 0 where
   pub shown : IsShownFor words s file
   pub font : HasFont words file
 
--- the script was performed and shown as the words ask for it, and it has shipped no character
-pub record ShipsNothing (words : Words) (s : ScreenStreams) : Type 0 where
-  pub file : GfFile
-  pub shown : IsShownFor words s file
-  pub none : (characters : List Character) → Keeps file [] characters → characters ≡ []
-
 -- these words ask for the help text or for the version, and not for a script
 abbrev pub AsksForText : List Text → Type 0
 AsksForText words = IsRequest words Help ⊎ IsRequest words Version

@@ -1,15 +1,18 @@
 -- Which fault ends a run.
-use Rattle.std.specs.Prelude.{◌≡◌, ◌⊎◌, ℕ, IsSome, List, None, Option}
+use Rattle.std.specs.Prelude.{◌≡◌, ◌⊎◌, ℕ, IsSome, List, [], None, Option, Some, option_map, string_bytes}
 use Rattle.clap.specs.Words.{Text}
 use Rattle.mf_base.specs.Messages.{GetsMessage}
 use Rattle.mf_easel.specs.declared.fault.EaselFault.{EaselFault}
 use Rattle.mf_frame.specs.Canvases.{IsLargeEnough}
 use Rattle.mf_gf.specs.declared.file.GfFile.{GfFile}
+use Rattle.mf_gf.specs.Files.{Character, IsLongFile}
+use Rattle.mf_gf.specs.Keeping.{Keeps, max_bytes_of}
 use Rattle.mf_view.specs.declared.fault.ProgramFault.{ProgramFault}
 use Rattle.mf_view.specs.declared.fault.ProgramFault.TheVariants as faults
-use Rattle.mf_view.specs.Begun.{HasBegun}
+use Rattle.mf_view.specs.Broken.{IsBrokenOff}
 use Rattle.mf_view.specs.Causes.{fault_of_easel}
-use Rattle.mf_view.specs.Endings.{IsShownFor, ShipsNothing}
+use Rattle.mf_view.specs.Endings.{AsksForText, IsShownFor}
+use Rattle.mf_view.specs.Fonts.{font_words}
 use Rattle.mf_view.specs.Messages.{message_of}
 use Rattle.mf_view.specs.Performances.{ScreenStreams}
 use Rattle.mf_view.specs.Statuses.{status_of}
@@ -28,12 +31,10 @@ ConcernsPlate _ = ⊥
 abbrev pub IsToldAfter : EaselFault → ProgramFault → Type 0
 IsToldAfter cause told = (told ≡ fault_of_easel cause) ⊎ ((told ≡ faults.OutOfMemory) ⊎ ConcernsPlate told)
 
--- the script or the drawing can end with this fault
-abbrev pub IsOfSides : ProgramFault → Type 0
-IsOfSides faults.NoPlace = ⊥
-IsOfSides faults.TooSmall = ⊥
-IsOfSides faults.NoCharacters = ⊥
-IsOfSides _ = Unit {0}
+-- the fault is not that there was no place for the viewer
+abbrev pub HadPlace : ProgramFault → Type 0
+HadPlace faults.NoPlace = ⊥
+HadPlace _ = Unit {0}
 
 -- these words ask for a script to be drawn in too few columns or rows
 pub record LacksRoom (words : List Text) : Type 0 where
@@ -41,48 +42,53 @@ pub record LacksRoom (words : List Text) : Type 0 where
   pub request : IsRequest words (Show asked)
   pub small : IsLargeEnough asked.columns asked.rows → ⊥
 
--- these words ask for a font file, and their script was performed and shown and has shipped no character
-pub record LacksFont (words : List Text) (s : ScreenStreams) : Type 0 where
-  pub asked : Words
-  pub request : IsRequest words (Show asked)
-  pub some : IsSome asked.gf
-  pub nothing : ShipsNothing asked s
+-- nothing was drawn or told
+abbrev pub IsUntouched : ScreenStreams → Type 0
+IsUntouched s = (s.holds ≡ s.held) × (s.tells ≡ s.told)
 
--- these words ask for plates
-pub record AsksForPlates (words : List Text) : Type 0 where
-  pub asked : Words
-  pub request : IsRequest words (Show asked)
-  pub some : IsSome asked.plates
+-- the fault has broken off a script: where no path is given, its transcript is in the stream of messages; with a path that stream is as
+-- it was, and the transcript is in a file, unless that could not be created, and nothing was drawn
+abbrev pub IsBrokenOffInto : Option (List ℕ) → ScreenStreams → ProgramFault → Type 0
+IsBrokenOffInto None s fault = IsBrokenOff s.unread s.told s.tells fault
+IsBrokenOffInto (Some path) s fault =
+    (s.tells ≡ s.told)
+    × (((fault ≡ faults.WriteFault) × (s.holds ≡ s.held))
+    ⊎ ((empty : Option (List ℕ)) × (full : Option (List ℕ)) × IsBrokenOff s.unread empty full fault))
 
--- a run with these words and streams, before its message, can end with this fault: with `TooSmall` only where the words lack room, with
--- `NoCharacters` only where they ask for a font file and no character was shipped, and with a fault of a plate only where they ask for
--- plates
-abbrev pub MayEnd : List Text → ScreenStreams → ProgramFault → Type 0
-MayEnd words s faults.TooSmall = LacksRoom words
-MayEnd words s faults.NoCharacters = LacksFont words s
-MayEnd words s (faults.ImageTooLarge revision) = AsksForPlates words
-MayEnd words s (faults.PlateFault revision) = AsksForPlates words
-MayEnd words s _ = Unit {0}
+-- with this fault a script that was performed and shown gets no font file: memory is missing, the file would be too long, or the words
+-- ask for it, and it cannot be written or has no character
+abbrev pub LosesFont : Words → GfFile → ProgramFault → Type 0
+LosesFont asked file faults.OutOfMemory = Unit {0}
+LosesFont asked file faults.FileTooLong =
+    (characters : List Character) → Keeps file [] characters
+    → IsLongFile (max_bytes_of file) (font_words asked.design_size asked.resolution) [] characters
+LosesFont asked file faults.WriteFault = IsSome asked.gf
+LosesFont asked file faults.NoCharacters = IsSome asked.gf × ((characters : List Character) → Keeps file [] characters → characters ≡ [])
+LosesFont asked file _ = ⊥
 
--- what is told of a script, asked for with these words, whose run ends with this fault: nothing after `TooSmall`, what a performance with
--- this fault has told, or, where the fault came after the performance, all of it
-abbrev pub IsToldBefore : Words → ScreenStreams → ProgramFault → Type 0
-IsToldBefore asked s fault =
-    ((fault ≡ faults.TooSmall) × (s.tells ≡ s.told)) ⊎ (HasBegun s.unread s.told s.tells fault ⊎ ((file : GfFile) × IsShownFor asked s file))
+-- with this fault the script that these words ask for ends: there is no room to draw it, and nothing is drawn or told; or the fault has
+-- broken it off, one of a plate only where plates are asked for, and `NoPlace` only where nothing is drawn; or the script was performed
+-- and shown, and gets no font file
+abbrev pub EndsScript : Words → ScreenStreams → ProgramFault → Type 0
+EndsScript asked s fault =
+    ((fault ≡ faults.TooSmall) × (IsLargeEnough asked.columns asked.rows → ⊥) × IsUntouched s)
+    ⊎ ((IsBrokenOffInto (option_map string_bytes asked.transcript) s fault
+    × (ConcernsPlate fault → IsSome asked.plates) × (fault ≡ faults.NoPlace → s.holds ≡ s.held))
+    ⊎ ((file : GfFile) × IsShownFor asked s file × LosesFont asked file fault))
 
--- these words ask for a script to be performed with its transcript in the stream of messages, which has got what the fault says
-pub record TellsTranscript (words : List Text) (s : ScreenStreams) (fault : ProgramFault) : Type 0 where
-  pub asked : Words
-  pub request : IsRequest words (Show asked)
-  pub nowhere_else : asked.transcript ≡ None
-  pub before : IsToldBefore asked s fault
+-- with this fault a run with these words ends: memory is missing before anything is drawn or told, a text that is asked for cannot be
+-- written, or the script that is asked for ends with it
+abbrev pub EndsRun : List Text → ScreenStreams → ProgramFault → Type 0
+EndsRun words s fault =
+    ((fault ≡ faults.OutOfMemory) × IsUntouched s)
+    ⊎ (((fault ≡ faults.WriteFault) × AsksForText words × (s.tells ≡ s.told))
+    ⊎ ((asked : Words) × IsRequest words (Show asked) × EndsScript asked s fault))
 
 -- with these words the program ended with some fault, which has this status; the stream of messages, whose bytes are those of the
--- transcript here, has got its message last, and nothing before that, unless they ask for the transcript there
+-- transcript here, has got its message last
 pub record ReportsFaultLast (words : List Text) (status : ℕ) (s : ScreenStreams) : Type 0 where
   pub fault : ProgramFault
   pub status_is : status_of fault ≡ status
   pub between : Option (List ℕ)
-  pub may : MayEnd words (record s { tells = between }) fault
+  pub ends : EndsRun words (record s { tells = between }) fault
   pub message : GetsMessage between s.tells (message_of fault)
-  pub quiet : TellsTranscript words (record s { tells = between }) fault ⊎ (between ≡ s.told)

@@ -1,4 +1,4 @@
-pub mod Begun
+pub mod Broken
 pub mod Causes
 pub mod Drawings
 pub mod Endings

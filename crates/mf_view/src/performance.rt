@@ -1,5 +1,5 @@
 //! The performance of a script beside the viewer that draws its picture.
-ghost use Rattle.std.specs.Prelude.{◌≡◌, ◌⊎◌, Err, IfErr, IfOk, IsErr, IsErrAnd, IsSome, None, OnOk};
+ghost use Rattle.std.specs.Prelude.{◌≡◌, Err, IfErr, IfOk, IsErr, IsErrAnd, IsSome, None, OnOk};
 ghost use denote.Param.Send.{IsSync, IsSend};
 ghost use Rattle.mf_easel.specs.Easels as easels;
 ghost use Rattle.mf_live.specs.Writers.{ended_identity, ended_published_list};
@@ -9,9 +9,9 @@ ghost use Rattle.mf_stage.specs.Faults.{BreaksScript};
 ghost use Rattle.mf_stage.specs.Stages as stages;
 ghost use Rattle.mf_stage.specs.Stages.{StandsFor, limits};
 ghost use Rattle.mf_stage.specs.Scripts.{PerformsAll, StillStands, act_of};
-ghost use Rattle.mf_view.specs.Begun.{HasBegun, IsOfEnd};
+ghost use Rattle.mf_view.specs.Broken.{IsBrokenOff, IsOfEnd};
 ghost use Rattle.mf_view.specs.Causes.{fault_of_stage};
-ghost use Rattle.mf_view.specs.Faults.{ConcernsPlate, IsOfSides, IsToldAfter};
+ghost use Rattle.mf_view.specs.Faults.{ConcernsPlate, HadPlace, IsToldAfter};
 ghost use Rattle.mf_view.specs.Drawings.{DrawsMore, EndsDrawing};
 ghost use Rattle.mf_view.specs.Performances.{Shows, script_limits, screen_streams_of};
 
@@ -79,9 +79,8 @@ pub fn perform<
 ) -> Result<GfFile, ProgramFault>
     ensures shown { IfOk result (Shows showing.style showing.canvas
         (screen_streams_of R.remaining reader.old W.contents screen.old screen.new T.contents transcript.old transcript.new)) }
-    ensures begun { IfErr result (HasBegun (R.remaining reader.old) (T.contents transcript.old) (T.contents transcript.new)) }
+    ensures fault { IfErr result (IsBrokenOff (R.remaining reader.old) (T.contents transcript.old) (T.contents transcript.new)) }
     ensures plates { IfErr result (λ fault. ConcernsPlate fault → IsSome showing.plates) }
-    ensures fault { IfErr result (λ fault. IsOfSides fault ⊎ (fault ≡ ProgramFault.NoPlace)) }
     ensures no_place { result ≡ Err ProgramFault.NoPlace
         → (reader.new ≡ reader.old) × (screen.new ≡ screen.old) × (transcript.new ≡ transcript.old) }
 {
@@ -127,9 +126,9 @@ fn show<
     requires blank { easels.revision_of easel ≡ None }
     ensures shown { IfOk result (Shows (easels.style_of easel) (easels.canvas_of easel)
         (screen_streams_of R.remaining reader.old W.contents screen.old screen.new T.contents transcript.old transcript.new)) }
-    ensures begun { IfErr result (HasBegun (R.remaining reader.old) (T.contents transcript.old) (T.contents transcript.new)) }
+    ensures fault { IfErr result (IsBrokenOff (R.remaining reader.old) (T.contents transcript.old) (T.contents transcript.new)) }
     ensures plates { IfErr result (λ fault. ConcernsPlate fault → IsSome (stages.plates_of stage)) }
-    ensures fault { IfErr result IsOfSides }
+    ensures placed { IfErr result HadPlace }
 {
     let mut stage = stage;
     let mut easel = easel;
@@ -161,7 +160,7 @@ fn conclude<S: Wait + Files, W: Write>(
     ensures file { IfOk result (λ file. (s : State) → StandsFor stage s → IsFileOf (stages.session_of stage) s file) }
     ensures shown { OnOk result ((s : State) → StandsFor stage s
         → EndsDrawing drawn easel (complete_list s.pictures) (W.contents screen.old) (W.contents screen.new)) }
-    ensures fault { IfErr result IsOfSides }
+    ensures placed { IfErr result HadPlace }
 {
     match performed {
         Ok(()) => end(rt, alloc, stage, easel, screen, drawn),
@@ -200,7 +199,7 @@ fn perform_beside<
     ensures stands { OnOk result.performed (StillStands stage.old stage.new) }
     ensures transcript { OnOk result.performed
         (PerformsAll (act_of stage.old stage.new (T.contents transcript.old) (T.contents transcript.new)) (R.remaining reader.old)) }
-    ensures begun { IfErr result.performed
+    ensures fault { IfErr result.performed
         (BreaksScript (act_of stage.old stage.new (T.contents transcript.old) (T.contents transcript.new)) (R.remaining reader.old)) }
 {
     let ended = AtomicBool::new(false);
@@ -252,7 +251,7 @@ fn end<S: Wait + Files, W: Write>(
     ensures file { IfOk result (λ file. (s : State) → StandsFor stage s → IsFileOf (stages.session_of stage) s file) }
     ensures shown { OnOk result ((s : State) → StandsFor stage s
         → EndsDrawing drawn easel (complete_list s.pictures) (W.contents screen.old) (W.contents screen.new)) }
-    ensures fault { IfErr result IsOfSides }
+    ensures placed { IfErr result HadPlace }
 {
     let (mut ended, file) = stage.finish(rt, alloc)?;
     let shown = show_last(alloc, easel, screen, &mut ended, drawn);

@@ -1,10 +1,9 @@
 //! The program that `main` calls: from its words and streams to its exit status.
 ghost use Rattle.std.specs.Io.KnownBytes.{Appends};
-ghost use Rattle.std.specs.Prelude.{◌≡◌, ◌++◌, ◌⊎◌, ◌↔◌, Err, IfErr, IfOk, IsOk, IsSome, None, OnOk, codes, decimal, option_map, string_bytes};
+ghost use Rattle.std.specs.Prelude.{◌≡◌, ◌++◌, ◌⊎◌, ◌↔◌, Err, IfErr, IfOk, IsOk, IsSome, OnOk, codes, decimal, option_map, string_bytes};
 ghost use Rattle.mf_base.specs.Messages.{GetsMessage};
-ghost use Rattle.mf_view.specs.Begun.{HasBegun};
-ghost use Rattle.mf_view.specs.Endings.{AsksForText, Fulfils, IsShownInto, IsWatched, ShipsNothing, style_in};
-ghost use Rattle.mf_view.specs.Faults.{ConcernsPlate, IsOfSides, IsToldBefore, LacksRoom, ReportsFaultLast};
+ghost use Rattle.mf_view.specs.Endings.{AsksForText, Fulfils, IsShownInto, IsWatched, style_in};
+ghost use Rattle.mf_view.specs.Faults.{ConcernsPlate, EndsScript, IsBrokenOffInto, LacksRoom, ReportsFaultLast};
 ghost use Rattle.mf_frame.specs.Canvases.{IsLargeEnough, size_in};
 ghost use Rattle.mf_options.specs.Values.{texts_of};
 ghost use Rattle.mf_view.specs.Messages.{message_of, usage};
@@ -103,15 +102,10 @@ fn watch<S: Wait + Threads + Files + Clock + Sync, R: Read, W: Write + Send, E: 
     requires { IsWordsInRange words }
     ensures done { OnOk result
         (IsWatched words (screen_streams_of R.remaining reader.old W.contents screen.old screen.new E.contents errors.old errors.new)) }
-    ensures quiet { (words.transcript ≡ None) ⊎ (errors.new ≡ errors.old) }
     ensures too_small { (IsLargeEnough words.columns words.rows → ⊥) ↔ (result ≡ Err ProgramFault.TooSmall) }
     ensures untouched { result ≡ Err ProgramFault.TooSmall → (reader.new ≡ reader.old) × (screen.new ≡ screen.old) }
-    ensures no_characters { result ≡ Err ProgramFault.NoCharacters → IsSome words.gf }
-    ensures none { result ≡ Err ProgramFault.NoCharacters
-        → ShipsNothing words (screen_streams_of R.remaining reader.old W.contents screen.old screen.new E.contents errors.old errors.new) }
-    ensures plates { IfErr result (λ fault. ConcernsPlate fault → IsSome words.plates) }
-    ensures told { IfErr result (λ fault. words.transcript ≡ None → IsToldBefore words
-        (screen_streams_of R.remaining reader.old W.contents screen.old screen.new E.contents errors.old errors.new) fault) }
+    ensures fault { IfErr result
+        (EndsScript words (screen_streams_of R.remaining reader.old W.contents screen.old screen.new E.contents errors.old errors.new)) }
 {
     let Words {
         columns,
@@ -183,10 +177,10 @@ fn perform_into<
 ) -> Result<GfFile, ProgramFault>
     ensures done { IfOk result (IsShownInto (option_map string_bytes transcript) showing.style showing.canvas
         (screen_streams_of R.remaining reader.old W.contents screen.old screen.new E.contents errors.old errors.new)) }
-    ensures quiet { (transcript ≡ None) ⊎ (errors.new ≡ errors.old) }
     ensures plates { IfErr result (λ fault. ConcernsPlate fault → IsSome showing.plates) }
-    ensures begun { transcript ≡ None → IfErr result (HasBegun (R.remaining reader.old) (E.contents errors.old) (E.contents errors.new)) }
-    ensures fault { IfErr result (λ fault. IsOfSides fault ⊎ (fault ≡ ProgramFault.NoPlace)) }
+    ensures no_place { result ≡ Err ProgramFault.NoPlace → screen.new ≡ screen.old }
+    ensures fault { IfErr result (IsBrokenOffInto (option_map string_bytes transcript)
+        (screen_streams_of R.remaining reader.old W.contents screen.old screen.new E.contents errors.old errors.new)) }
 {
     let Some(path) = transcript else {
         return perform(rt, alloc, reader, screen, errors, pace, showing);

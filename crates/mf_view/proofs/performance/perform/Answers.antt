@@ -1,12 +1,12 @@
 use Rattle.std.proofs.Common.{Err, ap, arith}
 use Rattle.std.proofs.lemmas.Result.{err_from_is_err_and}
-use Rattle.mf_view.proofs.Begun.{unasked-stage, unbegun-place, unbegun-stage}
+use Rattle.mf_view.proofs.Broken.{broken-place, broken-stage, unasked-stage}
 use Rattle.mf_view.proofs.performance.perform.Goals as goal
 
-pub returns-in_err-stage-clause-begun : goal.returns-in_err-stage-clause-begun
-returns-in_err-stage-clause-begun g c =
+pub returns-in_err-stage-clause-fault : goal.returns-in_err-stage-clause-fault
+returns-in_err-stage-clause-fault g c =
     let failed = err_from_is_err_and c.from_residual.result c.from_residual.ensures.1 in
-    rw (failed.1, failed.2) (unbegun-stage _ _ c.in_err-stage.field-0.0 c.in_err-stage.ensures.fault (λ is.
+    rw (failed.1, failed.2) (broken-stage _ _ c.in_err-stage.field-0.0 c.in_err-stage.ensures.fault (λ is.
     let below = c.in_err-stage.ensures.too_long.1 (ap Err is) in
     omega (arith, below)))
 
@@ -15,5 +15,5 @@ returns-in_err-stage-clause-plates g c =
     let failed = err_from_is_err_and c.from_residual.result c.from_residual.ensures.1 in
     rw (failed.1, failed.2) (λ concerns. absurd (unasked-stage c.in_err-stage.field-0.0 c.in_err-stage.ensures.fault concerns))
 
-pub returns-clause-begun : goal.returns-clause-begun
-returns-clause-begun g c = unbegun-place _ _
+pub returns-clause-fault : goal.returns-clause-fault
+returns-clause-fault g c = broken-place _ _

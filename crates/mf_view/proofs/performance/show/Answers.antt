@@ -1,4 +1,4 @@
-use Rattle.mf_view.proofs.Begun.{asked-whole, begun-whole}
+use Rattle.mf_view.proofs.Broken.{asked-whole, broken-whole}
 use Rattle.mf_view.proofs.Drawn.{drawn-nothing, same-manner}
 use Rattle.mf_view.proofs.Shown.{drawn-both, shown-end, shown-whole, stands-after}
 use Rattle.mf_view.proofs.performance.show.Goals as goal
@@ -19,12 +19,12 @@ returns-clause-shown g c =
     c.conclude.ensures.file
     (shown-end _ _ c.perform_beside-drawn.new.stage _ _ _ c.and-drawn.result c.conclude.result manner (rw c.and-drawn.ensures drawn) c.conclude.ensures.shown)
 
-pub returns-clause-begun : goal.returns-clause-begun
-returns-clause-begun g c =
-    begun-whole c.args.stage c.perform_beside-drawn.new.stage _ _ _ c.requires.limits c.requires.start c.perform_beside-drawn.result.performed c.conclude.result
-    c.perform_beside-drawn.ensures.transcript c.perform_beside-drawn.ensures.begun c.conclude.ensures.script c.conclude.ensures.late
+pub returns-clause-fault : goal.returns-clause-fault
+returns-clause-fault g c =
+    broken-whole c.args.stage c.perform_beside-drawn.new.stage _ _ _ c.requires.limits c.requires.start c.perform_beside-drawn.result.performed c.conclude.result
+    c.perform_beside-drawn.ensures.transcript c.perform_beside-drawn.ensures.fault c.conclude.ensures.script c.conclude.ensures.late
 
 pub returns-clause-plates : goal.returns-clause-plates
 returns-clause-plates g c =
     asked-whole c.args.stage c.perform_beside-drawn.new.stage _ _ _ c.requires.limits c.requires.start c.perform_beside-drawn.result.performed c.conclude.result
-    c.perform_beside-drawn.ensures.plates c.perform_beside-drawn.ensures.begun c.conclude.ensures.script c.conclude.ensures.plates
+    c.perform_beside-drawn.ensures.plates c.perform_beside-drawn.ensures.fault c.conclude.ensures.script c.conclude.ensures.plates

@@ -1,9 +1,11 @@
-use Rattle.std.proofs.Common.{[], inr, is_some, ap, sym, option_map, string_bytes, ◌∙◌}
+use Rattle.std.proofs.Common.{[], Err, inl, inr, is_some, ap, refl, sym, option_map, string_bytes, ◌∙◌}
 use Rattle.std.proofs.lemmas.Bool.{false≢true}
+use Rattle.std.proofs.lemmas.Result.{err_from_is_err_and}
 use Rattle.mf_gf.specs.Files.{file_if_any}
 use Rattle.mf_view.specs.Endings.{IsShownFor}
+use Rattle.mf_view.specs.Faults.{EndsScript}
 use Rattle.mf_view.specs.Performances.{ScreenStreams, screen_streams_of}
-use Rattle.mf_view.proofs.FontsAsked.{no-file, of-each-fault, on-ok-from}
+use Rattle.mf_view.proofs.FontsAsked.{no-file, on-ok-from, unmade, unwritten}
 use Rattle.mf_view.proofs.Shown.{shown-as}
 use Rattle.mf_view.proofs.program.watch.Goals.{In_ok-file}
 use Rattle.mf_view.proofs.program.watch.Goals as goal
@@ -31,22 +33,36 @@ returns-in-Some-clause-done g c =
       };
     })
 
-pub returns-in-Some-clause-none : goal.returns-in-Some-clause-none
-returns-in-Some-clause-none g c = λ same. record {
-  file = c.in_ok-file.file;
-  shown = shown g (goal.at.returns-in-Some-clause-none g c).In_ok-file;
-  none = λ characters keeps.
-      no-file c.font_words.result characters (sym (c.in_ok-bytes.ensures.some characters keeps) ∙ c.write_font.ensures.none.1 same);
-}
+pub returns-in_err-showing-clause-fault : goal.returns-in_err-showing-clause-fault
+returns-in_err-showing-clause-fault g c =
+    let failed = err_from_is_err_and c.from_residual.result c.from_residual.ensures.1 in
+    let undrawn = refl {a = g.W.Write.contents c.args.screen.now} in
+    let untold = refl {a = g.E.Write.contents c.args.errors.now} in
+    rw (failed.1, failed.2) (inl (refl, (λ large. false≢true (c.in_err-showing.ensures.accepted.1 large)), (undrawn, untold)))
 
-pub returns-in_err-bytes-clause-told : goal.returns-in_err-bytes-clause-told
-returns-in_err-bytes-clause-told g c =
-    of-each-fault c.from_residual-in_err-bytes.result _
-    (λ fault nowhere_else. inr (inr (c.in_ok-file.file, shown g (goal.at.returns-in_err-bytes-clause-told g c).In_ok-file)))
+pub returns-in_err-file-clause-fault : goal.returns-in_err-file-clause-fault
+returns-in_err-file-clause-fault g c =
+    let failed = err_from_is_err_and c.from_residual-in_err-file.result c.from_residual-in_err-file.ensures.1 in
+    rw (failed.1, failed.2) (inr (inl (
+      c.in_err-file.ensures.fault,
+      (λ concerns. c.in_ok-showing.ensures.plates (c.in_err-file.ensures.plates concerns)),
+      (λ is. ap g.W.Write.contents (c.in_err-file.ensures.no_place (ap Err is))),
+    )))
 
-pub returns-in-Some-clause-told : goal.returns-in-Some-clause-told
-returns-in-Some-clause-told g c =
-    of-each-fault c.write_font.result _ (λ fault nowhere_else. inr (inr (c.in_ok-file.file, shown g (goal.at.returns-in-Some-clause-told g c).In_ok-file)))
+pub returns-in_err-bytes-clause-fault : goal.returns-in_err-bytes-clause-fault
+returns-in_err-bytes-clause-fault g c =
+    let failed = err_from_is_err_and c.from_residual-in_err-bytes.result c.from_residual-in_err-bytes.ensures.1 in
+    let loses = unmade c.args.words c.in_ok-file.file _ c.in_err-bytes.ensures.fault (λ characters keeps is.
+    let long = (c.in_err-bytes.ensures.too_long characters keeps).1 (ap Err is) in
+    rw c.font_words.ensures at long) in
+    rw (failed.1, failed.2) (inr (inr (c.in_ok-file.file, shown g (goal.at.returns-in_err-bytes-clause-fault g c).In_ok-file, loses)))
+
+pub returns-in-Some-clause-fault : goal.returns-in-Some-clause-fault
+returns-in-Some-clause-fault g c =
+    let file = (goal.at.returns-in-Some-clause-fault g c).In_ok-file in
+    unwritten c.args.words c.in_ok-file.file c.in_ok-bytes.bytes c.write_font.result (EndsScript c.args.words (streams g file)) (ap is_some c.in-Some.is)
+    (λ none characters keeps. no-file c.font_words.result characters (sym (c.in_ok-bytes.ensures.some characters keeps) ∙ none))
+    c.write_font.ensures.none c.write_font.ensures.fault (λ fault loses. inr (inr (c.in_ok-file.file, shown g file, loses)))
 
 pub returns-in-None-clause-done : goal.returns-in-None-clause-done
 returns-in-None-clause-done g c = record {

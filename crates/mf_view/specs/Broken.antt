@@ -29,9 +29,9 @@ Tells d last fault written =
     ((cause : StageFault) × (fault ≡ fault_of_stage cause) × stage.Tells d last cause written)
     ⊎ ((Perform d.limits d.from d.whole written last × IsOfEnd last.pictures.accepted fault) ⊎ ((fault ≡ NoPlace) × (written ≡ [])))
 
--- a fault has ended the performance of a script: of the one that the reader had, where this is known, and else of some bytes; the
+-- a fault has broken off the performance of a script: of the one that the reader had, where this is known, and else of some bytes; the
 -- transcript, which told some bytes before, tells what the fault says
-pub record HasBegun (unread told tells : Option (List ℕ)) (fault : ProgramFault) : Type 0 where
+pub record IsBrokenOff (unread told tells : Option (List ℕ)) (fault : ProgramFault) : Type 0 where
   pub input : List ℕ
   pub known : IfSome unread (λ bytes. input ≡ bytes)
   pub last : State

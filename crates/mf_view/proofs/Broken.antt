@@ -5,7 +5,7 @@ use Rattle.std.specs.Str.Lines.{lines}
 use Rattle.std.specs.Prelude.{IsSome}
 use Rattle.mf_gf.specs.declared.file.GfFile.{GfFile}
 use Rattle.mf_session.specs.States.{State, start}
-use Rattle.mf_session.specs.Transcript.{Perform, due}
+use Rattle.mf_session.specs.Transcript.{Due, Perform, due}
 use Rattle.mf_stage.specs.Faults.{BreaksScript}
 use Rattle.mf_stage.specs.Faults as stage
 use Rattle.mf_stage.specs.Scripts.{PerformsAll, act_of}
@@ -13,12 +13,12 @@ use Rattle.mf_stage.specs.Stages.{StandsFor, limits, plates_of}
 use Rattle.mf_stage.specs.declared.fault.StageFault.{StageFault}
 use Rattle.mf_stage.specs.declared.fault.StageFault.TheVariants as stages
 use Rattle.mf_stage.specs.declared.stage.Stage.{Stage}
-use Rattle.mf_view.specs.Begun.{HasBegun, IsOfEnd}
+use Rattle.mf_view.specs.Broken.{IsBrokenOff, IsOfEnd, Tells}
 use Rattle.mf_view.specs.Causes.{fault_of_stage}
-use Rattle.mf_view.specs.Faults.{ConcernsPlate}
-use Rattle.mf_view.specs.Performances.{script_limits}
+use Rattle.mf_view.specs.Faults.{ConcernsPlate, IsBrokenOffInto}
+use Rattle.mf_view.specs.Performances.{ScreenStreams, script_limits}
 use Rattle.mf_view.specs.declared.fault.ProgramFault.{ProgramFault}
-use Rattle.mf_view.specs.declared.fault.ProgramFault.TheVariants.{OutOfMemory, NoPlace}
+use Rattle.mf_view.specs.declared.fault.ProgramFault.TheVariants.{OutOfMemory, NoPlace, TooSmall}
 
 -- a fault of a plate is one to the stage, too
 concerns-stage : (cause : StageFault) → ConcernsPlate (fault_of_stage cause) → stage.ConcernsPlate cause
@@ -28,8 +28,8 @@ concerns-stage cause concerns = absurd concerns
 
 -- a performance on this stage ends with a fault
 module _ (before after : Stage) (unread told tells : Option (List ℕ)) (limited : limits before ≡ script_limits) (begins : StandsFor before start) where
-  begun-script : (cause : StageFault) → BreaksScript (act_of before after told tells) unread cause → HasBegun unread told tells (fault_of_stage cause)
-  begun-script cause broken =
+  broken-script : (cause : StageFault) → BreaksScript (act_of before after told tells) unread cause → IsBrokenOff unread told tells (fault_of_stage cause)
+  broken-script cause broken =
       let stopped = broken.broken start begins in
       record {
         input = broken.input;
@@ -40,9 +40,9 @@ module _ (before after : Stage) (unread told tells : Option (List ℕ)) (limited
         tells_is = inl (cause, refl, subst (λ l. stage.Tells (due l start (lines broken.input)) stopped.last cause stopped.written) limited stopped.told);
       }
 
-  begun-end : (fault : ProgramFault) → PerformsAll (act_of before after told tells) unread
-      → ((s : State) → StandsFor after s → IsOfEnd s.pictures.accepted fault) → HasBegun unread told tells fault
-  begun-end fault script late =
+  broken-end : (fault : ProgramFault) → PerformsAll (act_of before after told tells) unread
+      → ((s : State) → StandsFor after s → IsOfEnd s.pictures.accepted fault) → IsBrokenOff unread told tells fault
+  broken-end fault script late =
       let done = script.performed start begins in
       record {
         input = script.input;
@@ -54,15 +54,15 @@ module _ (before after : Stage) (unread told tells : Option (List ℕ)) (limited
       }
 
   -- the fault is that of the script, or one after it
-  pub begun-whole : (performed : Result (Unit {0}) StageFault) (r : Result GfFile ProgramFault)
+  pub broken-whole : (performed : Result (Unit {0}) StageFault) (r : Result GfFile ProgramFault)
       → OnOk performed (PerformsAll (act_of before after told tells) unread)
       → IfErr performed (BreaksScript (act_of before after told tells) unread)
       → IfErr performed (λ cause. r ≡ Err (fault_of_stage cause))
       → OnOk performed (IfErr r (λ fault. (s : State) → StandsFor after s → IsOfEnd s.pictures.accepted fault))
-      → IfErr r (HasBegun unread told tells)
-  begun-whole (Ok done) (Ok file) script broken is late = tt
-  begun-whole (Ok done) (Err fault) script broken is late = begun-end fault script late
-  begun-whole (Err cause) r script broken is late = subst (λ r. IfErr r (HasBegun unread told tells)) (sym is) (begun-script cause broken)
+      → IfErr r (IsBrokenOff unread told tells)
+  broken-whole (Ok done) (Ok file) script broken is late = tt
+  broken-whole (Ok done) (Err fault) script broken is late = broken-end fault script late
+  broken-whole (Err cause) r script broken is late = subst (λ r. IfErr r (IsBrokenOff unread told tells)) (sym is) (broken-script cause broken)
 
   -- it is one of a plate only where plates are asked for
   pub asked-whole : (performed : Result (Unit {0}) StageFault) (r : Result GfFile ProgramFault) → plates_of after ≡ plates_of before
@@ -81,8 +81,8 @@ some-bytes None = ([], tt)
 some-bytes (Some bytes) = (bytes, refl)
 
 -- nothing was read or written
-unbegun-memory : (unread told : Option (List ℕ)) → HasBegun unread told told OutOfMemory
-unbegun-memory unread told =
+broken-memory : (unread told : Option (List ℕ)) → IsBrokenOff unread told told OutOfMemory
+broken-memory unread told =
     let (input, known) = some-bytes unread in
     record {
       input = input;
@@ -93,17 +93,36 @@ unbegun-memory unread told =
       tells_is = inl (stages.OutOfMemory, refl, record { done = []; more = lines input; first = refl; performed = (refl, refl) });
     }
 
-pub unbegun-place : (unread told : Option (List ℕ)) → HasBegun unread told told NoPlace
-unbegun-place unread told =
+pub broken-place : (unread told : Option (List ℕ)) → IsBrokenOff unread told told NoPlace
+broken-place unread told =
     let (input, known) = some-bytes unread in
     record { input = input; known = known; last = start; written = []; out = Appends-nil told; tells_is = inr (inr (refl, refl)) }
 
 -- no stage could be made
-pub unbegun-stage : (unread told : Option (List ℕ)) (cause : StageFault) → (cause ≡ stages.FileTooLong) ⊎ (cause ≡ stages.OutOfMemory)
-    → (cause ≡ stages.FileTooLong → ⊥) → HasBegun unread told told (fault_of_stage cause)
-unbegun-stage unread told cause (inl is) long_enough = absurd (long_enough is)
-unbegun-stage unread told cause (inr is) long_enough = subst (λ f. HasBegun unread told told (fault_of_stage f)) (sym is) (unbegun-memory unread told)
+pub broken-stage : (unread told : Option (List ℕ)) (cause : StageFault) → (cause ≡ stages.FileTooLong) ⊎ (cause ≡ stages.OutOfMemory)
+    → (cause ≡ stages.FileTooLong → ⊥) → IsBrokenOff unread told told (fault_of_stage cause)
+broken-stage unread told cause (inl is) long_enough = absurd (long_enough is)
+broken-stage unread told cause (inr is) long_enough = subst (λ f. IsBrokenOff unread told told (fault_of_stage f)) (sym is) (broken-memory unread told)
 
 pub unasked-stage : (cause : StageFault) → (cause ≡ stages.FileTooLong) ⊎ (cause ≡ stages.OutOfMemory) → ConcernsPlate (fault_of_stage cause) → ⊥
 unasked-stage cause (inl is) concerns = subst (λ f. ConcernsPlate (fault_of_stage f)) is concerns
 unasked-stage cause (inr is) concerns = subst (λ f. ConcernsPlate (fault_of_stage f)) is concerns
+
+-- room to draw is not what a performance lacks
+roomy-stage : (cause : StageFault) → TooSmall ≡ fault_of_stage cause → ⊥
+roomy-stage stages.OutOfMemory is = cc
+roomy-stage stages.FileTooLong is = cc
+roomy-stage stages.ReadFault is = cc
+roomy-stage stages.WriteFault is = cc
+roomy-stage (stages.ImageTooLarge revision) is = cc
+roomy-stage (stages.PlateFault revision) is = cc
+
+roomy-tells : (d : Due) (last : State) (written : List ℕ) → Tells d last TooSmall written → ⊥
+roomy-tells d last written (inl (cause, is, told)) = roomy-stage cause is
+roomy-tells d last written (inr (inl (done, late))) = late
+roomy-tells d last written (inr (inr (is, nothing))) = cc
+
+pub roomy : (transcript : Option (List ℕ)) (s : ScreenStreams) → IsBrokenOffInto transcript s TooSmall → ⊥
+roomy None s broken = roomy-tells _ broken.last broken.written broken.tells_is
+roomy (Some path) s (same, inl (is, drawn)) = cc
+roomy (Some path) s (same, inr (empty, full, broken)) = roomy-tells _ broken.last broken.written broken.tells_is
