@@ -6,7 +6,7 @@ use std::time::{Clock, Duration};
 /// Milliseconds between two looks, so that there are some thirty looks a second.
 const REST: u64 = 33;
 
-/// Learns, on the viewer's side, of each frame, and waits between two looks.
+/// Learns, on the viewer's side, of each frame but the one drawn after the end, and waits between two looks.
 pub trait Rest {
     /// Takes note that the frame of this revision was drawn.
     fn note_frame(&self, revision: u32);
