@@ -1,5 +1,5 @@
 -- The boxes of images.
-use Rattle.std.proofs.Common.{◌≡◌, ◌+◌, ◌+ℤ◌, to_z, of_z, w32, ℕ, ℤ, ◌<◌, ◌≤◌, ◌⊎◌, inl, inr, pos, ◌≤ℤ◌, List, [], ◌∷◌, refl, sym, arith}
+use Rattle.std.proofs.Common.{◌≡◌, ◌+◌, ◌+ℤ◌, to_z, of_z, w32, ℕ, ℤ, ◌<◌, ◌≤◌, ◌⊎◌, inl, inr, pos, ◌≤ℤ◌, List, [], ◌∷◌, refl, sym, ⊎_elim, arith}
 use Rattle.std.proofs.lemmas.Int.{ints}
 use Rattle.mf_geom.specs.Coordinates.{field_size, least_coordinate, last_in_field}
 use Rattle.mf_rows.specs.declared.bounds.Box4.{Box4}
@@ -9,7 +9,8 @@ use Rattle.mf_rows.proofs.BoxesJoined.{box_of_some}
 use Rattle.mf_show.specs.Boxes.{IsBoxOfField, box_of_dots}
 use Rattle.mf_show.specs.Grid.{extent}
 use Rattle.mf_show.proofs.LeastBoxes.{least_box_of_dots, least_box_of_field, same_least_box}
-use Rattle.mf_image.specs.Boxes.{IsImageBox, IsLargeBox, IsTooLargeForImage, greatest_side, image_box, origin}
+use Rattle.mf_image.specs.declared.svg_image.ViewBox.{ViewBox}
+use Rattle.mf_image.specs.Boxes.{IsImageBox, IsTooLargeForImage, greatest_side, image_box, origin}
 use Rattle.mf_image.specs.Svg.{IsSmall, IsSmallBox, view_box_of}
 
 least_is_image_box : (ds : List Dot) (b : Box4) → IsLeastBox ds b → b ≡ image_box ds
@@ -37,17 +38,12 @@ box_of_blank ds blank =
       };
     }
 
-large_box : (b : Box4) → extent b.min_x b.max_x ≤ greatest_side → extent b.min_y b.max_y ≤ greatest_side → IsLargeBox b → ⊥
-large_box b narrow low (inl wide) = omega (arith, narrow, wide)
-large_box b narrow low (inr high) = omega (arith, low, high)
-
-pub blank_is_small : (ds : List Dot) → ds ≡ [] → IsTooLargeForImage ds → ⊥
-unfolding image_box
-blank_is_small ds blank large = large_box origin (omega (arith, ints)) (omega (arith, ints)) (rw blank at large)
-
 pub is_small : (ds : List Dot) (b : Box4) → b ≡ image_box ds → extent b.min_x b.max_x ≤ greatest_side → extent b.min_y b.max_y ≤ greatest_side
     → IsTooLargeForImage ds → ⊥
-is_small ds b is narrow low large = large_box b narrow low (rw (sym is) at large)
+is_small ds b is narrow low large = ⊎_elim (λ wide. omega (arith, narrow, wide)) (λ high. omega (arith, low, high)) (rw (sym is) at large)
+
+pub blank_is_small : (ds : List Dot) → ds ≡ [] → IsTooLargeForImage ds → ⊥
+blank_is_small ds blank = is_small ds origin (box_of_blank ds blank).is (omega (arith, ints)) (omega (arith, ints))
 
 pub is_large : (ds : List Dot) (b : Box4) (columns rows : ℕ) → b ≡ image_box ds → columns ≡ extent b.min_x b.max_x → rows ≡ extent b.min_y b.max_y
     → (greatest_side < columns) ⊎ ((columns ≤ greatest_side) × (greatest_side < rows)) → IsTooLargeForImage ds
@@ -74,5 +70,12 @@ small_box b field = record {
 }
 
 -- a small number stays itself as a value of 32 bits
-pub stays_small : (z : ℤ) → IsSmall z → to_z w32 (of_z w32 z) ≡ z
+abbrev StaysItself : ℤ → Type 0
+StaysItself z = to_z w32 (of_z w32 z) ≡ z
+
+stays_small : (z : ℤ) → IsSmall z → StaysItself z
 stays_small z small = omega (arith, ints, small.least, small.greatest)
+
+pub box_stays_small : (v : ViewBox) → IsSmallBox v → StaysItself v.left × StaysItself v.top × StaysItself v.width × StaysItself v.height
+box_stays_small v small =
+    (stays_small v.left small.left, stays_small v.top small.top, stays_small v.width small.width, stays_small v.height small.height)

@@ -1,7 +1,6 @@
 pub mod ImageBoxes
 pub mod Levels
 pub mod PathTexts
-pub mod PgmPixels
 pub mod ReadPaths
 pub mod ReadTexts
 pub mod ReadWeights

@@ -39,14 +39,13 @@ none_spanned ds rs picture all = record {
   high = omega (arith, ints);
 }
 
-pub first_is_lawful : (ds : List Dot) (rs : List Run) (r : Run) (others : List Run) (least greatest : ℤ) → rs ≡ r ∷ others → AreSpanned ds rs least greatest
-    → IsRun r
-first_is_lawful ds rs r others least greatest first so_far = All-head IsRun r others (All-same IsRun (r ∷ others) rs (sym first) so_far.runs)
+pub first_is_lawful : (rs : List Run) (r : Run) (others : List Run) → rs ≡ r ∷ others → All IsRun rs → IsRun r
+first_is_lawful rs r others first runs = All-head IsRun r others (All-same IsRun (r ∷ others) rs (sym first) runs)
 
 pub one_more_spanned : (ds : List Dot) (rs : List Run) (r : Run) (others : List Run) (least greatest low high : ℤ) → rs ≡ r ∷ others
     → low ≡ int_min least r.weight → high ≡ int_max greatest r.weight → AreSpanned ds rs least greatest → AreSpanned ds others low high
 one_more_spanned ds rs r others least greatest low high first lesser greater so_far =
-    let run = first_is_lawful ds rs r others least greatest first so_far in
+    let run = first_is_lawful rs r others first so_far.runs in
     record {
       runs = All-rest IsRun r others rs first so_far.runs;
       below = ap (λ w. fold int_min w (weights_of others)) lesser ∙ ap (λ all. fold int_min least (weights_of all)) (sym first) ∙ so_far.below;
@@ -64,62 +63,53 @@ all_spanned ds rs least greatest none so_far =
 
 -- ---- the rectangles of a weight
 
--- a text has the rectangles of all runs but the last ones, rs
-pub record AreDrawn (w : ℤ) (ds : List Dot) (old : List ℕ) (rs : List Run) (text : List ℕ) : Type 0 where
+-- with the rectangles of the last runs, rs, the text so far is whole
+pub record AreDrawn (w : ℤ) (whole : List ℕ) (rs : List Run) (text : List ℕ) : Type 0 where
   pub runs : All IsRun rs
-  pub lines : text ++ flat_map (rectangle_of w) rs ≡ old ++ flat_map (rectangle_of w) (runs_of ds)
+  pub lines : text ++ flat_map (rectangle_of w) rs ≡ whole
 
-pub none_drawn : (w : ℤ) (ds : List Dot) (old : List ℕ) (rs : List Run) → IsPicture ds → rs ≡ runs_of ds → AreDrawn w ds old rs old
+pub none_drawn : (w : ℤ) (ds : List Dot) (old : List ℕ) (rs : List Run) → IsPicture ds → rs ≡ runs_of ds
+    → AreDrawn w (old ++ flat_map (rectangle_of w) (runs_of ds)) rs old
 none_drawn w ds old rs picture all = record { runs = runs_are_lawful ds rs picture all; lines = rw all refl }
 
-pub next_is_lawful : (w : ℤ) (ds : List Dot) (old : List ℕ) (rs : List Run) (r : Run) (others : List Run) (text : List ℕ) → rs ≡ r ∷ others
-    → AreDrawn w ds old rs text → IsRun r
-next_is_lawful w ds old rs r others text first so_far = All-head IsRun r others (All-same IsRun (r ∷ others) rs (sym first) so_far.runs)
-
-pub one_more_drawn : (w : ℤ) (ds : List Dot) (old : List ℕ) (rs : List Run) (r : Run) (others : List Run) (text new : List ℕ) → rs ≡ r ∷ others
-    → new ≡ text ++ rectangle_of w r → AreDrawn w ds old rs text → AreDrawn w ds old others new
-one_more_drawn w ds old rs r others text new first line so_far = record {
+pub one_more_drawn : (w : ℤ) (whole : List ℕ) (rs : List Run) (r : Run) (others : List Run) (text new : List ℕ) → rs ≡ r ∷ others
+    → new ≡ text ++ rectangle_of w r → AreDrawn w whole rs text → AreDrawn w whole others new
+one_more_drawn w whole rs r others text new first line so_far = record {
   runs = All-rest IsRun r others rs first so_far.runs;
   lines =
       rw line (append_assoc text (rectangle_of w r) (flat_map (rectangle_of w) others))
       ∙ ap (λ all. text ++ flat_map (rectangle_of w) all) (sym first) ∙ so_far.lines;
 }
 
-pub all_drawn : (w : ℤ) (ds : List Dot) (old : List ℕ) (rs : List Run) (text : List ℕ) → rs ≡ [] → AreDrawn w ds old rs text
-    → text ≡ old ++ flat_map (rectangle_of w) (runs_of ds)
-all_drawn w ds old rs text none so_far = sym (append-nil text) ∙ ap (λ all. text ++ flat_map (rectangle_of w) all) (sym none) ∙ so_far.lines
+pub all_drawn : (w : ℤ) (whole : List ℕ) (rs : List Run) (text : List ℕ) → rs ≡ [] → AreDrawn w whole rs text → text ≡ whole
+all_drawn w whole rs text none so_far = sym (append-nil text) ∙ ap (λ all. text ++ flat_map (rectangle_of w) all) (sym none) ∙ so_far.lines
 
 -- ---- the paths
-
--- the text so far is the old one and the paths of the weights from the least to the one before w
-pub record ArePathsSoFar (rs : List Run) (least greatest : ℤ) (old : List ℕ) (w : ℤ) (text : List ℕ) : Type 0 where
-  pub left : least ≤ℤ w
-  pub right : w ≤ℤ (greatest +ℤ pos 1)
-  pub paths : text ++ paths_from rs w (extent w greatest) ≡ old ++ paths_from rs least (extent least greatest)
 
 paths_from-next : (rs : List Run) (w : ℤ) (n : ℕ) → paths_from rs w (suc n) ≡ path_of_weight w (flat_map (rectangle_of w) rs) ++ paths_from rs (w +ℤ pos 1) n
 unfolding paths_from
 paths_from-next rs w n = refl
 
-pub one_more_path : (rs : List Run) (least greatest : ℤ) (old : List ℕ) (w : ℤ) (text new : List ℕ) → w ≤ℤ greatest
-    → new ≡ text ++ path_of_weight w (flat_map (rectangle_of w) rs) → ArePathsSoFar rs least greatest old w text
-    → ArePathsSoFar rs least greatest old (w +ℤ pos 1) new
-one_more_path rs least greatest old w text new within pushed so_far =
+-- with the paths of the weights from w on, the text so far is whole; so it is one path later
+pub one_more_path : (rs : List Run) (w greatest : ℤ) (text new whole : List ℕ) → w ≤ℤ greatest → new ≡ text ++ path_of_weight w (flat_map (rectangle_of w) rs)
+    → text ++ paths_from rs w (extent w greatest) ≡ whole → new ++ paths_from rs (w +ℤ pos 1) (extent (w +ℤ pos 1) greatest) ≡ whole
+one_more_path rs w greatest text new whole within pushed so_far =
     let rest = paths_from rs (w +ℤ pos 1) (extent (w +ℤ pos 1) greatest) in
     let next : paths_from rs w (extent w greatest) ≡ path_of_weight w (flat_map (rectangle_of w) rs) ++ rest =
     ap (paths_from rs w) (extent-next w greatest within) ∙ paths_from-next rs w (extent (w +ℤ pos 1) greatest) in
-    record {
-      left = omega (arith, ints, so_far.left);
-      right = omega (arith, ints);
-      paths = rw pushed (append_assoc text (path_of_weight w (flat_map (rectangle_of w) rs)) rest) ∙ ap (λ more. text ++ more) (sym next) ∙ so_far.paths;
-    }
+    rw pushed (append_assoc text (path_of_weight w (flat_map (rectangle_of w) rs)) rest) ∙ ap (λ more. text ++ more) (sym next) ∙ so_far
 
-pub all_paths : (rs : List Run) (least greatest : ℤ) (old : List ℕ) (w : ℤ) (text : List ℕ) → w ≡ greatest +ℤ pos 1 → least ≡ least_weight_of rs
-    → greatest ≡ greatest_weight_of rs → ArePathsSoFar rs least greatest old w text → text ≡ old ++ paths rs
-unfolding paths_from paths
-all_paths rs least greatest old w text over low high so_far =
-    sym (append-nil text) ∙ ap (λ n. text ++ paths_from rs w n) (sym (extent-none w greatest over)) ∙ so_far.paths
-    ∙ rw (low, high) refl
+-- no path is left
+pub all_paths : (rs : List Run) (w greatest : ℤ) (text whole : List ℕ) → w ≡ greatest +ℤ pos 1 → text ++ paths_from rs w (extent w greatest) ≡ whole
+    → text ≡ whole
+unfolding paths_from
+all_paths rs w greatest text whole over so_far =
+    sym (append-nil text) ∙ ap (λ n. text ++ paths_from rs w n) (sym (extent-none w greatest over)) ∙ so_far
+
+pub paths_are : (rs : List Run) (least greatest : ℤ) → least ≡ least_weight_of rs → greatest ≡ greatest_weight_of rs
+    → paths_from rs least (extent least greatest) ≡ paths rs
+unfolding paths
+paths_are rs least greatest low high = rw (low, high) refl
 
 -- ---- a path
 

@@ -1,5 +1,6 @@
 -- An SVG image, read back.
-use Rattle.std.proofs.Common.{◌≡◌, inl, inr, int_lt, length, ℕ, zero, suc, true, false, ℤ, pos, ◌+ℤ◌, ◌≤ℤ◌, List, [], ◌∷◌, ◌++◌, codes, refl, sym, ap, ◌∙◌, subst, append_assoc, arith}
+use Rattle.std.proofs.Common.{◌≡◌, inl, inr, int_lt, length, ℕ, zero, suc, true, false, ℤ, pos, ◌+ℤ◌, ◌≤ℤ◌, List, [], ◌∷◌, ◌++◌, codes}
+use Rattle.std.proofs.Common.{refl, sym, ap, ◌∙◌, subst, append_assoc, arith}
 use Rattle.std.specs.Fmt.{signed_decimal}
 use Rattle.std.specs.List.{All, flat_map}
 use Rattle.std.specs.Ordering.{int_eq}
@@ -20,7 +21,8 @@ use Rattle.mf_show.proofs.LeastBoxes.{least_box_of_dots, least_box_of_field}
 use Rattle.mf_image.specs.declared.svg_image.ViewBox.{ViewBox}
 use Rattle.mf_image.specs.Boxes.{image_box}
 use Rattle.mf_image.specs.Reading.{after, number, read, read_svg}
-use Rattle.mf_image.specs.Svg.{IsSmall, IsSmallBox, axes, color, cover, opening, greatest_weight_of, image, least_weight_of, path_of_weight, paths, paths_from, rectangle, rectangle_of, view_box_of, svg_text, weights_of}
+use Rattle.mf_image.specs.Svg.{IsSmall, IsSmallBox, axes, color, cover, greatest_weight_of, image, least_weight_of, opening}
+use Rattle.mf_image.specs.Svg.{path_of_weight, paths, paths_from, rectangle, rectangle_of, svg_text, view_box_of, weights_of}
 use Rattle.mf_image.proofs.ImageBoxes.{box_of_blank, small_box}
 use Rattle.mf_image.proofs.ReadTexts.{IsEnd, IsPassed, axes_read, cover_read, end_after, number_passed, number_read, opening_read, rectangle_read}
 use Rattle.mf_image.proofs.ReadWeights.{dots_with, dots_with-append, dots_with-other, dots_with-same, found, gathered, weight_of_runs}
@@ -99,10 +101,8 @@ path_read w v (b ∷ bs) dots rest later small drawn others =
     let line = (signed_decimal w ++ t3) ++ body in
     let text : path_of_weight w (b ∷ bs) ++ rest ≡ codes "<path id=\"weight" ++ line = simp append_assoc in
     let named : number line ≡ w =
-    ap number (append_assoc (signed_decimal w) t3 body) ∙ number_read w 34 ((codes " fill=\"" ++ t2) ++ body) weight refl in
-    let first : read true v (codes "<path id=\"weight" ++ line) ≡ read false (number line) line = refl in
-    let end : read true w (codes "\"/>\n" ++ rest) ≡ read true w rest = refl in
-    ap (read true v) text ∙ first ∙ ap (λ u. read false u line) named ∙ e4 body ∙ drawn (codes "\"/>\n" ++ rest) ∙ ap (λ ds. dots ++ ds) (end ∙ others w)
+    ap number (append_assoc (signed_decimal w) t3 body) ∙ number_read w _ _ weight refl in
+    ap (read true v) text ∙ ap (λ u. read false u line) named ∙ e4 body ∙ drawn (codes "\"/>\n" ++ rest) ∙ ap (λ ds. dots ++ ds) (others w)
 
 -- the paths of n weights from w on draw the dots of these weights
 paths_read : (rs : List Run) (w : ℤ) (n : ℕ) (v : ℤ) (rest : List ℕ) → All IsRun rs → ((u : ℤ) → read true u rest ≡ [])

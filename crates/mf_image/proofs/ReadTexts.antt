@@ -1,5 +1,6 @@
 -- The texts of paths, read back.
-use Rattle.std.proofs.Common.{◌≡◌, ◌≢◌, ℕ, suc, ◌+◌, ◌-◌, ◌*◌, ◌/◌, ◌%◌, ◌^◌, ◌<◌, ◌==◌, true, false, ℤ, pos, negsuc, neg_ℤ, ◌+ℤ◌, List, [], ◌∷◌, ◌++◌, codes, decimal, refl, sym, ap, ◌∙◌, append_assoc, arith}
+use Rattle.std.proofs.Common.{◌≡◌, ◌≢◌, ℕ, suc, ◌+◌, ◌-◌, ◌*◌, ◌/◌, ◌%◌, ◌^◌, ◌<◌, ◌==◌, true, false, ℤ, pos, negsuc, neg_ℤ, ◌+ℤ◌}
+use Rattle.std.proofs.Common.{List, [], ◌∷◌, ◌++◌, Some, codes, decimal, refl, sym, ap, ◌∙◌, append_assoc, arith}
 use Rattle.std.specs.Char.{is_ascii_digit}
 use Rattle.std.specs.Fmt.{signed_decimal}
 use Rattle.std.specs.Int.RustNames.{unsigned_abs}
@@ -9,13 +10,14 @@ use Rattle.std.proofs.lemmas.Int.{ints}
 use Rattle.mf_rows.specs.declared.run.Run.{Run}
 use Rattle.mf_rows.specs.Order.{IsRun}
 use Rattle.mf_rows.specs.Runs.{equal_dots}
+use Rattle.mf_show.specs.Grid.{digit_zero, line_feed, minus_sign}
 use Rattle.mf_image.specs.declared.svg_image.ViewBox.{ViewBox}
-use Rattle.mf_image.specs.Reading.{after, after_first, number, read, with_digits}
+use Rattle.mf_image.specs.Reading.{after, after_first, before_edge, before_width, drawn_dots, number, read, with_digits}
 use Rattle.mf_image.specs.Svg.{IsSmall, IsSmallBox, axes, cover, grid, opening, rectangle}
 
 -- ---- digits
 
-digit_is : (d : ℕ) → d < 10 → is_ascii_digit (48 + d) ≡ true
+digit_is : (d : ℕ) → d < 10 → is_ascii_digit (digit_zero + d) ≡ true
 digit_is d below = grind (arith, nat_tests)
 
 other_byte : (b c : ℕ) → b ≢ c → (b == c) ≡ false
@@ -23,24 +25,27 @@ other_byte b c apart = grind (arith, nat_tests)
 
 -- a function of texts passes a digit at the front
 abbrev pub PassesDigits : {A : Type 0} → (List ℕ → A) → Type 0
-PassesDigits f = (d : ℕ) (bs : List ℕ) → d < 10 → f ((48 + d) ∷ bs) ≡ f bs
+PassesDigits f = (d : ℕ) (bs : List ℕ) → d < 10 → f ((digit_zero + d) ∷ bs) ≡ f bs
 
 pass_decimal : {A : Type 0} (f : List ℕ → A) → PassesDigits f → (n : ℕ) (bs : List ℕ) → n < 2 ^ 64 → f (decimal n ++ bs) ≡ f bs
 pass_decimal f digit n bs small =
     decimal_by_steps (λ k ds. (rest : List ℕ) → f (ds ++ rest) ≡ f rest) (λ d below rest. digit d rest below)
-    (λ k ds more front rest. ap f (append_assoc ds ((48 + k % 10) ∷ []) rest) ∙ front ((48 + k % 10) ∷ rest) ∙ digit (k % 10) rest (omega arith))
+    (λ k ds more front rest.
+    ap f (append_assoc ds ((digit_zero + k % 10) ∷ []) rest) ∙ front ((digit_zero + k % 10) ∷ rest) ∙ digit (k % 10) rest (omega arith))
     n small bs
 
-pass_number : {A : Type 0} (f : List ℕ → A) → PassesDigits f → ((bs : List ℕ) → f (45 ∷ bs) ≡ f bs) → (z : ℤ) (bs : List ℕ) → IsSmall z
+pass_number : {A : Type 0} (f : List ℕ → A) → PassesDigits f → ((bs : List ℕ) → f (minus_sign ∷ bs) ≡ f bs) → (z : ℤ) (bs : List ℕ) → IsSmall z
     → f (signed_decimal z ++ bs) ≡ f bs
 pass_number f digit sign (pos n) bs small = pass_decimal f digit n bs (omega (arith, ints, small.greatest))
 pass_number f digit sign (negsuc n) bs small = sign (decimal (suc n) ++ bs) ∙ pass_decimal f digit (suc n) bs (omega (arith, ints, small.least))
 
 -- ---- a number is read back
 
-with_digits-digit : (n d : ℕ) (bs : List ℕ) → d < 10 → with_digits n ((48 + d) ∷ bs) ≡ with_digits (10 * n + d) bs
+with_digits-digit : (n d : ℕ) (bs : List ℕ) → d < 10 → with_digits n ((digit_zero + d) ∷ bs) ≡ with_digits (10 * n + d) bs
 unfolding with_digits
-with_digits-digit n d bs below = let value : 10 * n + ((48 + d) - 48) ≡ 10 * n + d = omega arith in rw (digit_is d below) (ap (λ k. with_digits k bs) value)
+with_digits-digit n d bs below =
+    let value : 10 * n + ((digit_zero + d) - digit_zero) ≡ 10 * n + d = omega arith in
+    rw (digit_is d below) (ap (λ k. with_digits k bs) value)
 
 with_digits-decimal : (n : ℕ) (bs : List ℕ) → n < 2 ^ 64 → with_digits 0 (decimal n ++ bs) ≡ with_digits n bs
 with_digits-decimal n bs small =
@@ -48,18 +53,18 @@ with_digits-decimal n bs small =
     (λ d below rest. let value : 10 * 0 + d ≡ d = omega arith in with_digits-digit 0 d rest below ∙ ap (λ m. with_digits m rest) value)
     (λ k ds more front rest.
     let value : 10 * (k / 10) + k % 10 ≡ k = omega arith in
-    ap (with_digits 0) (append_assoc ds ((48 + k % 10) ∷ []) rest) ∙ front ((48 + k % 10) ∷ rest) ∙ with_digits-digit (k / 10) (k % 10) rest (omega arith)
-    ∙ ap (λ m. with_digits m rest) value)
+    ap (with_digits 0) (append_assoc ds ((digit_zero + k % 10) ∷ []) rest) ∙ front ((digit_zero + k % 10) ∷ rest)
+    ∙ with_digits-digit (k / 10) (k % 10) rest (omega arith) ∙ ap (λ m. with_digits m rest) value)
     n small bs
 
 number-decimal : (n : ℕ) (bs : List ℕ) → n < 2 ^ 64 → number (decimal n ++ bs) ≡ pos (with_digits 0 (decimal n ++ bs))
 unfolding number
 number-decimal n bs small =
     decimal_by_steps (λ k ds. (rest : List ℕ) → number (ds ++ rest) ≡ pos (with_digits 0 (ds ++ rest)))
-    (λ d below rest. rw (other_byte (48 + d) 45 (λ same. omega arith)) refl)
+    (λ d below rest. rw (other_byte (digit_zero + d) minus_sign (λ same. omega arith)) refl)
     (λ k ds more front rest.
-    let shift = append_assoc ds ((48 + k % 10) ∷ []) rest in
-    ap number shift ∙ front ((48 + k % 10) ∷ rest) ∙ ap (λ t. pos (with_digits 0 t)) (sym shift))
+    let shift = append_assoc ds ((digit_zero + k % 10) ∷ []) rest in
+    ap number shift ∙ front ((digit_zero + k % 10) ∷ rest) ∙ ap (λ t. pos (with_digits 0 t)) (sym shift))
     n small bs
 
 with_digits-end : (n c : ℕ) (bs : List ℕ) → is_ascii_digit c ≡ false → with_digits n (c ∷ bs) ≡ n
@@ -74,15 +79,15 @@ number_read (pos n) c bs small other =
 number_read (negsuc n) c bs small other =
     ap (λ k. neg_ℤ (pos k)) (with_digits-decimal (suc n) (c ∷ bs) (omega (arith, ints, small.least)) ∙ with_digits-end (suc n) c bs other)
 
-first_passes_digits : (c : ℕ) → ((d : ℕ) → d < 10 → (48 + d) ≢ c) → PassesDigits (after_first c)
+first_passes_digits : (c : ℕ) → ((d : ℕ) → d < 10 → (digit_zero + d) ≢ c) → PassesDigits (after_first c)
 unfolding after_first
-first_passes_digits c apart d bs below = rw (other_byte (48 + d) c (apart d below)) refl
+first_passes_digits c apart d bs below = rw (other_byte (digit_zero + d) c (apart d below)) refl
 
 -- ---- the middle of a line
 
 read_passes_digits : (w : ℤ) → PassesDigits (read false w)
 unfolding read
-read_passes_digits w d bs below = rw (other_byte (48 + d) 10 (λ same. omega arith)) refl
+read_passes_digits w d bs below = rw (other_byte (digit_zero + d) line_feed (λ same. omega arith)) refl
 
 -- a text is passed in the middle of a line
 abbrev pub IsPassed : ℤ → List ℕ → Type 0
@@ -119,8 +124,7 @@ opening_read w s rest small =
     (pair_end w s.width (codes " ") _ small.width (λ more. refl) (end_after w (signed_decimal s.height) grid
     (number_passed w s.height small.height) (grid_read w)))) in
     let text : opening s ++ rest ≡ codes "<svg xmlns=\"http://www.w3.org/2000/svg\" viewBox=\"" ++ (line ++ rest) = simp append_assoc in
-    let first : read true w (codes "<svg xmlns=\"http://www.w3.org/2000/svg\" viewBox=\"" ++ (line ++ rest)) ≡ read false w (line ++ rest) = refl in
-    ap (read true w) text ∙ first ∙ ends rest
+    ap (read true w) text ∙ ends rest
 
 pub cover_read : (w : ℤ) (s : ViewBox) (fill rest : List ℕ) → IsSmallBox s → IsPassed w fill → read true w (cover s fill ++ rest) ≡ read true w rest
 unfolding cover read after
@@ -132,8 +136,7 @@ cover_read w s fill rest small filled =
     (pair_end w s.width (codes "\" height=\"") _ small.width (λ more. refl) (pair_end w s.height (codes "\" fill=\"") _ small.height
     (λ more. refl) (end_after w fill (codes "\"/>\n") filled (λ more. refl))))) in
     let text : cover s fill ++ rest ≡ codes "<rect x=\"" ++ (line ++ rest) = simp append_assoc in
-    let first : read true w (codes "<rect x=\"" ++ (line ++ rest)) ≡ read false w (line ++ rest) = refl in
-    ap (read true w) text ∙ first ∙ ends rest
+    ap (read true w) text ∙ ends rest
 
 pub axes_read : (w : ℤ) (s : ViewBox) (rest : List ℕ) → IsSmallBox s → read true w (axes s ++ rest) ≡ read true w rest
 unfolding axes read after
@@ -145,8 +148,7 @@ axes_read w s rest small =
     (pair_end w s.left (codes " 0h") _ small.left (λ more. refl) (end_after w (signed_decimal s.width) _
     (number_passed w s.width small.width) (λ more. refl)))) in
     let text : axes s ++ rest ≡ codes "<path d=\"M0 " ++ (line ++ rest) = simp append_assoc in
-    let first : read true w (codes "<path d=\"M0 " ++ (line ++ rest)) ≡ read false w (line ++ rest) = refl in
-    ap (read true w) text ∙ first ∙ ends rest
+    ap (read true w) text ∙ ends rest
 
 -- ---- a rectangle
 
@@ -158,9 +160,10 @@ sides x top n =
 
 -- what its width is, and what comes after it
 abbrev width_on : ℕ → List ℕ → List ℕ
-width_on n rest = signed_decimal (pos n) ++ 118 ∷ (49 ∷ 104 ∷ 45 ∷ (signed_decimal (pos n) ++ (codes "z\n" ++ rest)))
+width_on n rest = signed_decimal (pos n) ++ (codes "v1h-" ++ (signed_decimal (pos n) ++ (codes "z\n" ++ rest)))
 
-sides_on : (x top : ℤ) (n : ℕ) (rest : List ℕ) → sides x top n ++ rest ≡ signed_decimal x ++ 32 ∷ (signed_decimal top ++ 104 ∷ width_on n rest)
+sides_on : (x top : ℤ) (n : ℕ) (rest : List ℕ)
+    → sides x top n ++ rest ≡ signed_decimal x ++ before_edge ∷ (signed_decimal top ++ before_width ∷ width_on n rest)
 sides_on x top n rest = simp append_assoc
 
 sides_passed : (w x top : ℤ) (n : ℕ) → IsSmall x → IsSmall top → IsSmall (pos n) → IsEnd w (sides x top n)
@@ -170,20 +173,21 @@ sides_passed w x top n column row width =
     (pair_end w (pos n) (codes "v1h-") _ width (λ more. refl) (end_after w (signed_decimal (pos n)) (codes "z\n")
     (number_passed w (pos n) width) (λ more. refl))))
 
-top_found : (x top : ℤ) (n : ℕ) (rest : List ℕ) → IsSmall x → after_first 32 (sides x top n ++ rest) ≡ signed_decimal top ++ 104 ∷ width_on n rest
+top_found : (x top : ℤ) (n : ℕ) (rest : List ℕ) → IsSmall x
+    → after_first before_edge (sides x top n ++ rest) ≡ signed_decimal top ++ before_width ∷ width_on n rest
 unfolding after_first
 top_found x top n rest column =
-    ap (after_first 32) (sides_on x top n rest)
-    ∙ pass_number (after_first 32) (first_passes_digits 32 (λ d below same. omega arith)) (λ bs. refl) x
-    (32 ∷ (signed_decimal top ++ 104 ∷ width_on n rest)) column
+    ap (after_first before_edge) (sides_on x top n rest)
+    ∙ pass_number (after_first before_edge) (first_passes_digits before_edge (λ d below same. omega arith)) (λ bs. refl) x
+    (before_edge ∷ (signed_decimal top ++ before_width ∷ width_on n rest)) column
 
-width_found : (x top : ℤ) (n : ℕ) (rest : List ℕ) → IsSmall x → IsSmall top → after_first 104 (sides x top n ++ rest) ≡ width_on n rest
+width_found : (x top : ℤ) (n : ℕ) (rest : List ℕ) → IsSmall x → IsSmall top → after_first before_width (sides x top n ++ rest) ≡ width_on n rest
 unfolding after_first
 width_found x top n rest column row =
-    let digits = first_passes_digits 104 (λ d below same. omega arith) in
-    ap (after_first 104) (sides_on x top n rest)
-    ∙ pass_number (after_first 104) digits (λ bs. refl) x (32 ∷ (signed_decimal top ++ 104 ∷ width_on n rest)) column
-    ∙ pass_number (after_first 104) digits (λ bs. refl) top (104 ∷ width_on n rest) row
+    let digits = first_passes_digits before_width (λ d below same. omega arith) in
+    ap (after_first before_width) (sides_on x top n rest)
+    ∙ pass_number (after_first before_width) digits (λ bs. refl) x (before_edge ∷ (signed_decimal top ++ before_width ∷ width_on n rest)) column
+    ∙ pass_number (after_first before_width) digits (λ bs. refl) top (before_width ∷ width_on n rest) row
 
 -- the line of a run draws its pixels, with the weight of the path
 pub rectangle_read : (w : ℤ) (r : Run) (rest : List ℕ) → IsRun r → read true w (rectangle r ++ rest) ≡ equal_dots r.y r.x w r.len ++ read true w rest
@@ -194,12 +198,11 @@ rectangle_read w r rest run =
     let row : IsSmall top = record { least = omega (arith, ints, run.top); greatest = omega (arith, ints, run.bottom) } in
     let width : IsSmall (pos r.len) = record { least = omega (arith, ints); greatest = omega (arith, ints, run.left, run.right) } in
     let text = sides r.x top r.len ++ rest in
-    let x : number text ≡ r.x = ap number (sides_on r.x top r.len rest) ∙ number_read r.x 32 _ column refl in
-    let edge : number (after_first 32 text) ≡ top = ap number (top_found r.x top r.len rest column) ∙ number_read top 104 _ row refl in
-    let y : neg_ℤ (number (after_first 32 text) +ℤ pos 1) ≡ r.y = ap (λ z. neg_ℤ (z +ℤ pos 1)) edge ∙ omega (arith, ints) in
-    let len : unsigned_abs (number (after_first 104 text)) ≡ r.len =
-    ap (λ t. unsigned_abs (number t)) (width_found r.x top r.len rest column row) ∙ ap unsigned_abs (number_read (pos r.len) 118 _ width refl) in
+    let x : number text ≡ r.x = ap number (sides_on r.x top r.len rest) ∙ number_read r.x _ _ column refl in
+    let edge : number (after_first before_edge text) ≡ top = ap number (top_found r.x top r.len rest column) ∙ number_read top _ _ row refl in
+    let y : neg_ℤ (number (after_first before_edge text) +ℤ pos 1) ≡ r.y = ap (λ z. neg_ℤ (z +ℤ pos 1)) edge ∙ omega (arith, ints) in
+    let len : unsigned_abs (number (after_first before_width text)) ≡ r.len =
+    ap (λ t. unsigned_abs (number t)) (width_found r.x top r.len rest column row) ∙ ap unsigned_abs (number_read (pos r.len) _ _ width refl) in
     let line : rectangle r ++ rest ≡ codes "M" ++ text = simp append_assoc in
-    let first : read true w (codes "M" ++ text) ≡
-    equal_dots (neg_ℤ (number (after_first 32 text) +ℤ pos 1)) (number text) w (unsigned_abs (number (after_first 104 text))) ++ read false w text = refl in
+    let first : read true w (codes "M" ++ text) ≡ drawn_dots w (Some text) ++ read false w text = refl in
     ap (read true w) line ∙ first ∙ rw (x, y, len) (ap (λ others. equal_dots r.y r.x w r.len ++ others) (sides_passed w r.x top r.len column row width rest))

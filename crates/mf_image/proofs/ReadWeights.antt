@@ -1,5 +1,6 @@
 -- The weights of pixels, gathered weight by weight.
-use Rattle.std.proofs.Common.{◌≡◌, ◌≢◌, ℕ, zero, suc, false, if◌then◌else◌, ◌&&◌, ℤ, pos, ◌+ℤ◌, ◌≤ℤ◌, ◌<ℤ◌, List, [], ◌∷◌, ◌++◌, inl, inr, refl, sym, ap, ◌∙◌, subst, arith}
+use Rattle.std.proofs.Common.{◌≡◌, ◌≢◌, ℕ, zero, suc, false, if◌then◌else◌, ◌&&◌, ℤ, pos, ◌+ℤ◌, ◌≤ℤ◌, ◌<ℤ◌, List, [], ◌∷◌, ◌++◌}
+use Rattle.std.proofs.Common.{inl, inr, refl, sym, ap, ◌∙◌, subst, arith}
 use Rattle.std.specs.List.{All, flat_map}
 use Rattle.std.specs.Ordering.{int_eq}
 use Rattle.std.proofs.lemmas.Bool.{cond_both, cond-true, cond-false, cases_Bool, false≢true}
@@ -100,13 +101,11 @@ none_of low w (d ∷ ds) x y dots other =
     (λ here.
     let same : place d.x d.y ≡ place x y = rw (here.column, here.row) refl in
     All-cons (λ d. d.weight ≡ w → IsAt d x y → ⊥) d ds (λ weight _. other (weight_at-here d ds x y here ∙ weight))
-    (weaker ds (none_before (place d.x d.y +ℤ pos 1) ds x y dots.2 (omega (arith, ints)))))
+    (All-weaker (λ d. IsAt d x y → ⊥) (λ d. d.weight ≡ w → IsAt d x y → ⊥) (λ e no _. no) ds
+    (none_before (place d.x d.y +ℤ pos 1) ds x y dots.2 (omega (arith, ints)))))
     (λ elsewhere.
     All-cons (λ d. d.weight ≡ w → IsAt d x y → ⊥) d ds (λ _ at. elsewhere at)
     (none_of (place d.x d.y +ℤ pos 1) w ds x y dots.2 (λ same. other (weight_at-elsewhere d ds x y elsewhere ∙ same))))
-  where
-    weaker : (es : List Dot) → All (λ d. IsAt d x y → ⊥) es → All (λ d. d.weight ≡ w → IsAt d x y → ⊥) es
-    weaker es none = All-weaker (λ d. IsAt d x y → ⊥) (λ d. d.weight ≡ w → IsAt d x y → ⊥) (λ e no _. no) es none
 
 none_of_zero : (low : ℤ) (ds : List Dot) (x y : ℤ) → AreDotsFrom low ds → All (λ d. d.weight ≡ pos 0 → IsAt d x y → ⊥) ds
 none_of_zero low [] x y dots = All-nil (λ d. d.weight ≡ pos 0 → IsAt d x y → ⊥)

@@ -1,5 +1,5 @@
 -- The PGM image of a picture (Netpbm's portable graymap): a byte for each pixel of its least box, rows in order from the top.
-use Rattle.std.specs.Prelude.{◌+◌, ◌-◌, ℕ, ℤ, pos, negsuc, int_lt, List, [], ◌++◌, codes, if◌then◌else◌}
+use Rattle.std.specs.Prelude.{◌+◌, ◌-◌, ◌*◌, ℕ, ℤ, pos, negsuc, int_lt, min, List, [], ◌++◌, codes, if◌then◌else◌}
 use Rattle.std.specs.Fmt.{signed_decimal}
 use Rattle.std.specs.Int.RustNames.{unsigned_abs}
 use Rattle.std.specs.Ordering.{int_eq}
@@ -8,17 +8,30 @@ use Rattle.mf_rows.specs.Dots.{Dot}
 use Rattle.mf_show.specs.Grid.{extent, shown_box}
 use Rattle.mf_image.specs.Boxes.{image_box}
 
+-- gray levels: that of weight 0, the step between those of 1, 2 and 3, and the one from which those of negative weights are counted
+abbrev pub white : ℕ
+white = 255
+
+abbrev pub gray_step : ℕ
+gray_step = 40
+
+abbrev pub before_light : ℕ
+before_light = 199
+
 -- the byte of a weight: 255 for 0; 120, 80 and 40 for 1, 2 and 3; 39 to 1 for 4 to 42, and 0 above; 200 to 253 for -1 to -54, and 254
 -- below
 abbrev pub level : ℤ → ℕ
 level w =
-    if int_eq w (pos 0) then 255
-    else (if int_lt w (negsuc 53) then 254
-    else (if int_lt w (pos 0) then 199 + unsigned_abs w
-    else (if int_lt w (pos 2) then 120
-    else (if int_lt w (pos 3) then 80
-    else (if int_lt w (pos 4) then 40
-    else (if int_lt w (pos 43) then 43 - unsigned_abs w else 0))))))
+    if int_eq w (pos 0) then white
+    else (if int_lt w (pos 0) then min (before_light + unsigned_abs w) (white - 1)
+    else (if int_lt w (pos 4) then gray_step * (4 - unsigned_abs w) else gray_step + 3 - unsigned_abs w))
+
+-- the least and the greatest weight that share their byte with no other weight
+abbrev pub least_told : ℤ
+least_told = negsuc 53
+
+abbrev pub greatest_told : ℤ
+greatest_told = pos 42
 
 -- what comes before the bytes of the pixels: the left column and the top row, and the numbers of columns and rows
 abbrev pub pgm_head : Box4 → List ℕ

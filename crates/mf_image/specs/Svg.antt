@@ -1,6 +1,7 @@
 -- The SVG image of a picture (Scalable Vector Graphics 1.1): for each weight a path of rectangles, one for each maximal run.
 -- Pixel (x, y) is the unit square with (x, -(y + 1)) at its upper left corner, since y points down in SVG.
-use Rattle.std.specs.Prelude.{ℕ, ◌+◌, zero, suc, ℤ, pos, negsuc, neg_ℤ, ◌≤ℤ◌, ◌+ℤ◌, ◌-ℤ◌, int_lt, List, [], ◌∷◌, ◌++◌, codes, flat_map, fold, map, if◌then◌else◌}
+use Rattle.std.specs.Prelude.{ℕ, ◌+◌, zero, suc, ℤ, pos, negsuc, neg_ℤ, ◌≤ℤ◌, ◌+ℤ◌, ◌-ℤ◌, int_lt, if◌then◌else◌}
+use Rattle.std.specs.Prelude.{List, [], ◌∷◌, ◌++◌, codes, flat_map, fold, map}
 use Rattle.std.specs.Int.{int_max, int_min}
 use Rattle.std.specs.Fmt.{signed_decimal}
 use Rattle.std.specs.Ordering.{int_eq}
@@ -87,10 +88,14 @@ axes v =
     codes "<path d=\"M0 " ++ signed_decimal v.top ++ codes "v" ++ signed_decimal v.height ++ codes "M" ++ signed_decimal v.left ++ codes " 0h"
     ++ signed_decimal v.width ++ codes "\" stroke=\"#c00\" stroke-width=\".12\"/>\n"
 
+-- no number of an image is greater than this
+abbrev pub most : ℕ
+most = 40000
+
 -- a number of an image is small
 pub record IsSmall (z : ℤ) : Type 0 where
-  pub least : negsuc 40000 ≤ℤ z
-  pub greatest : z ≤ℤ pos 40000
+  pub least : negsuc most ≤ℤ z
+  pub greatest : z ≤ℤ pos most
 
 -- the numbers of a view box are small
 pub record IsSmallBox (v : ViewBox) : Type 0 where

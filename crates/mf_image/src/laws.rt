@@ -1,10 +1,10 @@
 //! Laws of images. Each is the contract of a function that does nothing, because the toolchain proves a statement only where the
 //! contract of a function names it.
-ghost use Rattle.std.specs.Prelude.{◌≡◌, ◌<◌, ◌+◌, ◌*◌, ℕ, ℤ, pos, negsuc, ◌≤ℤ◌, ◌+ℤ◌, ◌-ℤ◌, List, get_or, length};
+ghost use Rattle.std.specs.Prelude.{◌≡◌, ◌<◌, ◌+◌, ◌*◌, ℕ, ℤ, pos, ◌≤ℤ◌, ◌+ℤ◌, ◌-ℤ◌, List, get_or, length};
 ghost use Rattle.mf_rows.specs.Dots.{Dot, IsPicture, weight_at};
 ghost use Rattle.mf_show.specs.Grid.{extent};
 ghost use Rattle.mf_image.specs.Boxes.{image_box};
-ghost use Rattle.mf_image.specs.Pgm.{level, pgm_bytes, pgm_head};
+ghost use Rattle.mf_image.specs.Pgm.{greatest_told, least_told, level, pgm_bytes, pgm_head};
 ghost use Rattle.mf_image.specs.Reading.{read_svg, weight_of_level};
 ghost use Rattle.mf_image.specs.Svg.{svg_text};
 
@@ -18,7 +18,7 @@ pub fn pgm_has_each_pixel()
 
 /// The byte of a weight in -54..=42 gives the weight back.
 pub fn levels_are_read_back()
-    ensures { (w : ℤ) → negsuc 53 ≤ℤ w → w ≤ℤ pos 42 → weight_of_level (level w) ≡ w }
+    ensures { (w : ℤ) → least_told ≤ℤ w → w ≤ℤ greatest_told → weight_of_level (level w) ≡ w }
 {}
 
 /// An image is read back: a reader of its text, which passes all lines but those that begin a path and those of rectangles, finds

@@ -1,8 +1,22 @@
-use Rattle.mf_image.proofs.PgmPixels.{image_length, image_pixel}
+use Rattle.std.proofs.Common.{◌+◌, ◌*◌, [], length, ap, ◌∙◌, arith, length-append}
+use lib.Seq.{get_or-append-add}
+use Rattle.mf_show.specs.Grid.{extent}
+use Rattle.mf_show.proofs.ShownPixels.{pixel_at, rows_length}
+use Rattle.mf_image.specs.Boxes.{image_box}
+use Rattle.mf_image.specs.Pgm.{box_bytes, level, pgm_bytes, pgm_head}
 use Rattle.mf_image.proofs.laws.pgm_has_each_pixel.Goals as goal
 
 pub returns : goal.returns
+unfolding pgm_bytes
 returns c = record {
-  pixels = image_pixel;
-  whole = image_length;
+  pixels = λ ds i j column row.
+      let b = image_box ds in
+      let w = extent b.min_x b.max_x in
+      get_or-append-add (pgm_head b) (box_bytes ds b) (j * w + i) 0
+      ∙ pixel_at level [] ds b.min_x w w (omega arith) b.max_y (extent b.min_y b.max_y) i j column row;
+  whole = λ ds.
+      let b = image_box ds in
+      let w = extent b.min_x b.max_x in
+      length-append (pgm_head b) (box_bytes ds b)
+      ∙ ap (λ k. length (pgm_head b) + k) (rows_length level [] ds b.min_x w w (omega arith) b.max_y (extent b.min_y b.max_y));
 }

@@ -1,6 +1,11 @@
+use Rattle.std.proofs.Common.{◌≡◌, ◌≤ℤ◌, ◌+ℤ◌, ◌++◌, pos}
 use Rattle.mf_rows.specs.Runs.{runs_of}
-use Rattle.mf_image.proofs.PathTexts.{ArePathsSoFar}
+use Rattle.mf_show.specs.Grid.{extent}
+use Rattle.mf_image.specs.Svg.{paths_from}
 use Rattle.mf_image.proofs.svg_image.push_paths.Given as goal
 
 abbrev pub invariant-loop-weight : goal.invariant-loop-weight
-invariant-loop-weight l = ArePathsSoFar (runs_of l.picture) l.least l.greatest l.initial.text.items l.weight l.text.items
+invariant-loop-weight l =
+    (l.weight ≤ℤ (l.greatest +ℤ pos 1))
+    × (l.text.items ++ paths_from (runs_of l.picture) l.weight (extent l.weight l.greatest)
+    ≡ l.initial.text.items ++ paths_from (runs_of l.picture) l.least (extent l.least l.greatest))

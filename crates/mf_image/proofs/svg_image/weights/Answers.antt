@@ -9,7 +9,7 @@ loop-run-init c = none_spanned _ _ c.runs-run-items.ensures.lawful (rw c.into_it
 
 pub loop-run-preserved : goal.loop-run-preserved
 loop-run-preserved c =
-    let run = first_is_lawful _ _ _ _ _ _ c.in-Some.ensures.steps c.loop-run.invariant in
+    let run = first_is_lawful _ _ _ c.in-Some.ensures.steps c.loop-run.invariant.runs in
     let w = c.in-Some.run'.weight in
     let least : to_z w32 (of_z w32 c.min-least.result) ≡ int_min (to_z w32 c.loop-run.least-bits) w =
     omega (arith, ints, clamps, c.min-least.ensures.value, run.lawful.least, run.lawful.greatest) in
