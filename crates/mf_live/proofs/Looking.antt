@@ -17,7 +17,8 @@ use Rattle.mf_live.specs.Books.{most}
 use Rattle.mf_live.specs.Entries.{Entry, is_closed, ends_last}
 use Rattle.mf_live.specs.Prefixes.{IsWholePrefix, longer}
 use Rattle.mf_live.specs.Rule.{IsKnowledgeOf, IsLook, seen_knowledge, book_of, events_of}
-use Rattle.mf_live.specs.Viewers.{Extends, IsPublished, SeesTheSame, learnt_list, look_events, looked_at_events, looked_at_list, notice_events, shown_list, told_list}
+use Rattle.mf_live.specs.Viewers.{Extends, IsPublished, SeesTheSame, learnt_list, look_events, looked_at_events, looked_at_list}
+use Rattle.mf_live.specs.Viewers.{notice_events, shown_list, told_list}
 use Rattle.mf_live.specs.World.{Happen, new_world, published_of}
 use Rattle.mf_live.proofs.EntryLists.{nothing_follows}
 use Rattle.mf_live.proofs.WholePrefixes.{whole-longer, longer-assoc, longer-whole, longer-of_whole}

@@ -2,7 +2,8 @@
 ghost use Rattle.std.specs.Prelude.{◌≡◌, true, IfOk, IfErr, MatchResult};
 ghost use Rattle.mf_live.specs.Entries.{complete_list, is_closed};
 ghost use Rattle.mf_live.specs.Viewers.{notice_identity, told_list};
-ghost use Rattle.mf_live.specs.Writers.{identity, accepted_list, published_list, closing_identity, closing_accepted_list, closing_published_list, ended_identity, ended_published_list, IsHandedBack, IsKept};
+ghost use Rattle.mf_live.specs.Writers.{identity, accepted_list, published_list, closing_identity, closing_accepted_list};
+ghost use Rattle.mf_live.specs.Writers.{closing_published_list, ended_identity, ended_published_list, IsHandedBack, IsKept};
 
 use super::{CloseFault, Closing, Ended};
 use crate::notice::Notice;

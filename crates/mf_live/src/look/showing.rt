@@ -1,7 +1,8 @@
 //! What a look shows, and its end.
 ghost use Rattle.std.specs.Prelude.{◌≡◌};
 ghost use Rattle.mf_live.specs.Entries.{pic, rev};
-ghost use Rattle.mf_live.specs.Viewers.{identity, looked_at_list, looked_at_events, learnt_list, seen_list, look_events, look_learnt_list, look_identity, shown_list};
+ghost use Rattle.mf_live.specs.Viewers.{identity, looked_at_list, looked_at_events, learnt_list, seen_list, look_events};
+ghost use Rattle.mf_live.specs.Viewers.{look_learnt_list, look_identity, shown_list};
 
 use super::Look;
 use crate::viewer::Viewer;

@@ -4,7 +4,8 @@ ghost use Rattle.left_right.specs.Sides.{view};
 ghost use Rattle.mf_live.specs.Entries.{Entry, ends_last, is_closed};
 ghost use Rattle.mf_live.specs.Prefixes.{IsWholePrefix, longer};
 ghost use Rattle.mf_live.specs.Rule.{IsLook, seen_knowledge};
-ghost use Rattle.mf_live.specs.Viewers.{identity, learnt_list, looked_at_list, seen_list, Extends, IsPublished, SeesTheSame, notice_identity, told_list, look_events, look_learnt_list, look_identity, shown_list};
+ghost use Rattle.mf_live.specs.Viewers.{identity, learnt_list, looked_at_list, seen_list, Extends, IsPublished, SeesTheSame};
+ghost use Rattle.mf_live.specs.Viewers.{notice_identity, told_list, look_events, look_learnt_list, look_identity, shown_list};
 
 use super::Viewer;
 use crate::look::{Look, NoLook};
