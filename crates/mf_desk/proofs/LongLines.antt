@@ -8,7 +8,7 @@ use Rattle.mf_text.specs.Lines.{IsRefused, longest_line}
 use Rattle.mf_text.specs.declared.fault.TextFault.{TextFault}
 use Rattle.mf_text.specs.declared.fault.TextFault.TheVariants.{LineTooLong, NotAscii, Syntax}
 use Rattle.mf_session.specs.Answers.{Answers, IsPerformed, IsRefusedLine}
-use Rattle.mf_session.specs.States.{State, Limits}
+use Rattle.mf_session.specs.States.{Answer, Limits, State}
 
 -- a line that is too long has no other refusal
 refused-too_long : (xs ys : List ℕ) (fault : TextFault) → longest_line < length xs → longest_line < length ys → IsRefused xs fault → IsRefused ys fault
@@ -18,12 +18,12 @@ refused-too_long xs ys (Syntax column) long longer refused = absurd (omega (arit
 refused-too_long xs ys fault long longer refused = absurd (omega (arith, refused.line_is.text.short))
 
 -- so all lines that are too long have the same answer
-Answers-too_long : (limits : Limits) (s t : State) (xs ys text : List ℕ) → longest_line < length xs → longest_line < length ys
-    → Answers limits s xs text t → Answers limits s ys text t
-Answers-too_long limits s t xs ys text long longer answer =
+Answers-too_long : (limits : Limits) (s : State) (xs ys : List ℕ) (a : Answer) → longest_line < length xs → longest_line < length ys
+    → Answers limits s xs a → Answers limits s ys a
+Answers-too_long limits s xs ys a long longer answer =
     ⊎_elim
-    (λ (done : IsPerformed limits s xs text t). absurd (omega (arith, done.given.line_is.text.short)))
-    (λ (no : IsRefusedLine s xs text t). inr
+    (λ (done : IsPerformed limits s xs a). absurd (omega (arith, done.given.line_is.text.short)))
+    (λ (no : IsRefusedLine s xs a). inr
     (record { fault = no.fault; printable = no.printable; refused = refused-too_long xs ys no.fault long longer no.refused; answer = no.answer }))
     answer
 
@@ -45,20 +45,20 @@ length-stripped line =
     (λ _. omega (arith, length-take (length line - 1) line))
     (λ _. omega arith)
 
-pub Answers-kept : (limits : Limits) (s t : State) (line text : List ℕ) → Answers limits s (take MAX_KEPT line) text t → Answers limits s line text t
-Answers-kept limits s t line text answer =
+pub Answers-kept : (limits : Limits) (s : State) (line : List ℕ) (a : Answer) → Answers limits s (take MAX_KEPT line) a → Answers limits s line a
+Answers-kept limits s line a answer =
     ⊎_elim
-    (λ longer. Answers-too_long limits s t (take MAX_KEPT line) line text (omega (arith, length-take MAX_KEPT line)) (omega arith) answer)
-    (λ fits. subst (λ kept. Answers limits s kept text t) (take_all MAX_KEPT line fits) answer)
+    (λ longer. Answers-too_long limits s (take MAX_KEPT line) line a (omega (arith, length-take MAX_KEPT line)) (omega arith) answer)
+    (λ fits. subst (λ kept. Answers limits s kept a) (take_all MAX_KEPT line fits) answer)
     (cases_lt MAX_KEPT (length line))
 
-pub Answers-stripped : (limits : Limits) (s t : State) (line text : List ℕ)
-    → Answers limits s (strip_carriage_return (take MAX_KEPT line)) text t → Answers limits s (strip_carriage_return line) text t
-Answers-stripped limits s t line text answer =
+pub Answers-stripped : (limits : Limits) (s : State) (line : List ℕ) (a : Answer)
+    → Answers limits s (strip_carriage_return (take MAX_KEPT line)) a → Answers limits s (strip_carriage_return line) a
+Answers-stripped limits s line a answer =
     ⊎_elim
     (λ longer.
-    Answers-too_long limits s t (strip_carriage_return (take MAX_KEPT line)) (strip_carriage_return line) text
+    Answers-too_long limits s (strip_carriage_return (take MAX_KEPT line)) (strip_carriage_return line) a
     (omega (arith, length-stripped (take MAX_KEPT line), length-take MAX_KEPT line))
     (omega (arith, length-stripped line)) answer)
-    (λ fits. subst (λ kept. Answers limits s (strip_carriage_return kept) text t) (take_all MAX_KEPT line fits) answer)
+    (λ fits. subst (λ kept. Answers limits s (strip_carriage_return kept) a) (take_all MAX_KEPT line fits) answer)
     (cases_lt MAX_KEPT (length line))

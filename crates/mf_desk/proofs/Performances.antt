@@ -16,7 +16,7 @@ use Rattle.mf_desk.specs.declared.settings.Settings.{Settings}
 use Rattle.mf_desk.specs.EndedRuns.{IsOver, glance}
 use Rattle.mf_desk.specs.Fault.{Breaks}
 use Rattle.mf_desk.specs.Performances.{IsCompleteText, IsPerformance, Tells, task, run_limits, viewer_lines}
-use Rattle.mf_desk.specs.Streams.{Passes, Streams, streams}
+use Rattle.mf_desk.specs.Streams.{Gets, Passes, Streams, streams}
 use Rattle.mf_session.specs.States.{Limits, least_bytes}
 use Rattle.mf_watch.specs.Watchers.{HasSeen, glance_at}
 use Rattle.mf_desk.proofs.Stages.{Breaks-nothing}
@@ -48,21 +48,21 @@ module _ (settings : Settings) (viewers : ℕ) where
   pub Tells-no_place : (unread held : Option (List ℕ)) → 0 < viewers → Passes (streams unread unread held held) (Tells settings viewers NoPlace)
   Tells-no_place unread held some = ([], Consumes-nil unread, ([], Appends-nil held, (some, refl, refl)))
 
-  module _ (held holds later : Option (List ℕ)) (read : List ℕ) (run : EndedRun) (over : IsOver (run_limits settings) held read run holds) where
+  module _ (held holds later : Option (List ℕ)) (read : List ℕ) (run : EndedRun) (over : Gets held holds (IsOver (run_limits settings) read run)) where
     -- the transcript, and the lines of the first viewers
-    abbrev pub complete : (n : ℕ) (lines : List ℕ) → lines ≡ viewer_lines n (glance run) → IsCompleteText (run_limits settings) n read (over.text ++ lines)
+    abbrev pub complete : (n : ℕ) (lines : List ℕ) → lines ≡ viewer_lines n (glance run) → IsCompleteText (run_limits settings) n read (over.0 ++ lines)
     complete n lines is =
         record {
-          transcript = over.text;
-          script = over.script;
-          is = ap (λ more. over.text ++ more) (is ∙ ap (λ L. viewer_lines n (glance_at L)) over.published);
+          transcript = over.0;
+          script = over.2.script;
+          is = ap (λ more. over.0 ++ more) (is ∙ ap (λ L. viewer_lines n (glance_at L)) over.2.published);
         }
 
-    pub out-more : (text : List ℕ) → Appends holds later text → Appends held later (over.text ++ text)
-    out-more text out = Appends-trans held holds later over.text text over.out out
+    pub out-more : (text : List ℕ) → Appends holds later text → Appends held later (over.0 ++ text)
+    out-more text out = Appends-trans held holds later over.0 text over.1 out
 
-    kept : (file : GfFile) → file ≡ run.file → Keeps file [] over.script.last.characters
-    kept file same = subst (λ f. Keeps f [] over.script.last.characters) (sym same) over.file
+    kept : (file : GfFile) → file ≡ run.file → Keeps file [] over.2.script.last.characters
+    kept file same = subst (λ f. Keeps f [] over.2.script.last.characters) (sym same) over.2.file
 
     module _ (unread left : Option (List ℕ)) (consumed : Consumes unread left read) (all_read : IsAtEnd left) where
       module _ (out : Appends holds later (viewer_lines viewers (glance run))) where
@@ -71,13 +71,13 @@ module _ (settings : Settings) (viewers : ℕ) where
             → (fault ≡ FileTooLong → (characters : List Character) → Keeps file [] characters → IsLongFile (max_bytes_of file) settings.font [] characters)
             → (fault ≡ FileTooLong) ⊎ (fault ≡ OutOfMemory) → Passes (streams unread left held later) (Tells settings viewers fault)
         Tells-unfinished file fault same too_long =
-            let text = over.text ++ viewer_lines viewers (glance run) in
+            let text = over.0 ++ viewer_lines viewers (glance run) in
             let all = complete viewers (viewer_lines viewers (glance run)) refl in
             ⊎_elim
             (λ long.
             let is_long =
-            subst (λ n. IsLongFile n settings.font [] over.script.last.characters) (ap max_bytes_of same ∙ over.max_bytes_is)
-            (too_long long over.script.last.characters (kept file same)) in
+            subst (λ n. IsLongFile n settings.font [] over.2.script.last.characters) (ap max_bytes_of same ∙ over.2.max_bytes_is)
+            (too_long long over.2.script.last.characters (kept file same)) in
             rw long (read, consumed, (text, out-more _ out, inr (all_read, record { complete = all; too_long = is_long }))))
             (λ wanting. rw wanting (read, consumed, (text, out-more _ out, inr (all_read, record { shown = viewers; few = omega arith; complete = all }))))
 
@@ -89,15 +89,15 @@ module _ (settings : Settings) (viewers : ℕ) where
         → All (λ v. HasSeen (ended_published_list run.ended) looks v.items) outcome.seen.items
         → IsPerformance (task settings viewers looks) outcome (streams unread left held later) read
     IsPerformance-over unread left looks outcome file same finished out count seen =
-        let (fits, font) = finished over.script.last.characters (kept file same) in
+        let (fits, font) = finished over.2.script.last.characters (kept file same) in
         record {
-          text = over.text ++ viewer_lines viewers (glance run);
+          text = over.0 ++ viewer_lines viewers (glance run);
           complete = complete viewers _ refl;
           out = out-more _ out;
-          fits = subst (λ n. IsLongFile n settings.font [] over.script.last.characters → ⊥) (ap max_bytes_of same ∙ over.max_bytes_is) fits;
+          fits = subst (λ n. IsLongFile n settings.font [] over.2.script.last.characters → ⊥) (ap max_bytes_of same ∙ over.2.max_bytes_is) fits;
           font = font;
           count = count;
-          seen = subst (λ L. All (λ v. HasSeen L looks v.items) outcome.seen.items) over.published seen;
+          seen = subst (λ L. All (λ v. HasSeen L looks v.items) outcome.seen.items) over.2.published seen;
         }
 
 -- the script is not refused with `NoPlace`

@@ -1,5 +1,6 @@
 -- The stages of a run: what each step does to the state after some bytes.
-use Rattle.std.proofs.Common.{◌≡◌, ◌≢◌, ℕ, true, false, ◌+◌, List, [], ◌∷◌, ◌++◌, Option, eqb, length, take, refl, inl, inr, sym, ap, ◌∙◌, subst, append_assoc, append-nil, arith, length-append, length-take}
+use Rattle.std.proofs.Common.{◌≡◌, ◌≢◌, ℕ, true, false, ◌+◌, List, [], ◌∷◌, ◌++◌, Option, eqb, length, take, refl, inl, inr, sym, ap, ◌∙◌, subst}
+use Rattle.std.proofs.Common.{append_assoc, append-nil, arith, length-append, length-take}
 use Rattle.std.specs.Io.KnownBytes.{Appends, IsAtEnd, Keeps}
 use Rattle.std.specs.Prelude.{All}
 use Rattle.std.specs.Str.Lines.{lines, strip_carriage_return}
@@ -16,17 +17,17 @@ use Rattle.mf_desk.specs.Ended.{ended_of_parts, last_part, ended_lines, unended}
 use Rattle.mf_desk.specs.Fault.{AreWholeLines, Breaks, BreaksOff, IsTextSoFar}
 use Rattle.mf_desk.specs.Performer.{IsLineText, IsWritten}
 use Rattle.mf_desk.specs.Progress.{HasCounted, IsAfter}
-use Rattle.mf_desk.specs.Streams.{Gets, HasPassed}
+use Rattle.mf_desk.specs.Streams.{Gets, Passing}
 use Rattle.mf_session.specs.Sessions.{HasPerformed, StandsFor, limits}
-use Rattle.mf_session.specs.States.{State, Limits, start}
+use Rattle.mf_session.specs.States.{Answer, Limits, State, answer_with, joined, start}
 use Rattle.mf_session.specs.Transcript.{Perform, due}
 use Rattle.mf_desk.proofs.Ended.{ended_lines-line_feed, unended-line_feed, ended_lines-unbroken, unended-unbroken, ended_lines-front, lines-last}
 use Rattle.mf_desk.proofs.LongLines.{take-taken, Answers-kept, Answers-stripped}
-use Rattle.mf_session.proofs.Performing.{Perform-line}
+use Rattle.mf_session.proofs.Performing.{Perform-append, Perform-one}
 
 -- the first of some completely read lines have been performed
 pub first-text : (l : Limits) (left : Option (List ℕ)) (read : List ℕ) (done more : List (List ℕ)) (text : List ℕ) (last : State)
-    → AreWholeLines left read (done ++ more) → Perform l start done text last → IsTextSoFar l left read text
+    → AreWholeLines left read (done ++ more) → Perform l start done (answer_with text last) → IsTextSoFar l left read text
 first-text l left read done more text last are performed =
     record { whole = done ++ more; are = are; last = last; first = record { done = done; more = more; first = refl; performed = performed } }
 
@@ -36,7 +37,7 @@ pub IsAfter-start : (held : Option (List ℕ)) (progress : Progress) → StandsF
 unfolding ended_of_parts last_part ended_lines unended
 IsAfter-start held progress stands written line = record {
   lines = record {
-    done = record { text = []; last = start; performed = (refl, refl); stands = stands; out = Appends-nil held };
+    done = record { text = []; last = start; performed = refl; stands = stands; out = Appends-nil held };
     counted = written;
   };
   line = line;
@@ -50,6 +51,10 @@ module _ (held holds : Option (List ℕ)) (read : List ℕ) (run : Progress) (af
   -- what has been performed by then
   abbrev so_far : HasPerformed (due bounds start (ended_lines read)) run.performer.session held holds
   so_far = after.lines.done
+
+  -- what it has answered
+  abbrev answer_so_far : Answer
+  answer_so_far = answer_with so_far.text so_far.last
 
   -- bytes without a line feed are read
   abbrev pub IsAfter-unbroken : (bytes : List ℕ) (new : Progress) → All (λ byte. byte ≢ 10) bytes → new.performer ≡ run.performer
@@ -71,18 +76,19 @@ module _ (held holds : Option (List ℕ)) (read : List ℕ) (run : Progress) (af
 
   -- a line whose answer comes after the texts so far makes these the lines that have been performed
   abbrev Prolongs : List ℕ → List (List ℕ) → Type 0
-  Prolongs line all = (more : List ℕ) (next : State) → Answers bounds so_far.last line more next → Perform bounds start all (so_far.text ++ more) next
+  Prolongs line all = (a : Answer) → Answers bounds so_far.last line a → Perform bounds start all (joined answer_so_far a)
 
   -- one more line has been performed, and its text written
   HasCounted-more : (later : Option (List ℕ)) (all : List (List ℕ)) (line : List ℕ) (new : Performer) → Prolongs line all
-      → Gets holds later (IsWritten run.performer so_far.last line new) → limits new.session ≡ bounds → HasCounted held all new later
+      → Gets holds later (IsWritten run.performer line new) → limits new.session ≡ bounds → HasCounted held all new later
   HasCounted-more later all line new prolongs (text, out, written) same =
+      let answered = written.answered so_far.last so_far.stands in
       record {
         done = record {
           text = so_far.text ++ text;
-          last = written.answered.next;
-          performed = subst (λ l. Perform l start all (so_far.text ++ text) written.answered.next) (sym same) (prolongs text written.answered.next written.answered.answer);
-          stands = written.answered.stands;
+          last = answered.next;
+          performed = rw same (prolongs (answer_with text answered.next) answered.answer);
+          stands = answered.stands;
           out = Appends-trans held holds later so_far.text text so_far.out out;
         };
         counted = written.counted ∙ ap (λ n. n + length text) after.lines.counted ∙ sym (length-append so_far.text text);
@@ -90,23 +96,22 @@ module _ (held holds : Option (List ℕ)) (read : List ℕ) (run : Progress) (af
 
   -- one more line has been performed than a line feed has ended
   performed-more : (line : List ℕ) → Prolongs line (ended_lines read ++ line ∷ [])
-  performed-more line more next answer =
-      Perform-line bounds start so_far.last next (ended_lines read) line so_far.text more so_far.performed answer
+  performed-more line a answer =
+      Perform-append bounds start (ended_lines read) (line ∷ []) answer_so_far a so_far.performed (Perform-one bounds so_far.last line a answer)
 
   -- an answer to this line is one to the complete line that a line feed ends
   abbrev StandsForEnded : List ℕ → Type 0
-  StandsForEnded line = (text : List ℕ) (next : State) → Answers bounds so_far.last line text next
-      → Answers bounds so_far.last (strip_carriage_return (unended read)) text next
+  StandsForEnded line = (a : Answer) → Answers bounds so_far.last line a → Answers bounds so_far.last (strip_carriage_return (unended read)) a
 
   -- the line that a line feed ends has been performed
   performed-ended : (line : List ℕ) → StandsForEnded line → Prolongs line (ended_lines (read ++ 10 ∷ []))
-  performed-ended line whole more next answer =
-      subst (λ ls. Perform bounds start ls (so_far.text ++ more) next) (sym (ended_lines-line_feed read))
-      (performed-more (strip_carriage_return (unended read)) more next (whole more next answer))
+  performed-ended line whole a answer =
+      subst (λ ls. Perform bounds start ls (joined answer_so_far a)) (sym (ended_lines-line_feed read))
+      (performed-more (strip_carriage_return (unended read)) a (whole a answer))
 
   -- a line feed is read, and its line has been performed
   pub IsAfter-ended : (later : Option (List ℕ)) (line : List ℕ) (new : Progress) → StandsForEnded line
-      → Gets holds later (IsWritten run.performer so_far.last line new.performer)
+      → Gets holds later (IsWritten run.performer line new.performer)
       → limits new.performer.session ≡ bounds → new.line ≡ [] → IsAfter held (read ++ 10 ∷ []) new later
   IsAfter-ended later line new whole written same empty = record {
     lines = HasCounted-more later (ended_lines (read ++ 10 ∷ [])) line new.performer (performed-ended line whole) written same;
@@ -115,13 +120,13 @@ module _ (held holds : Option (List ℕ)) (read : List ℕ) (run : Progress) (af
 
   -- the line that was kept may be cut
   pub kept-ended : StandsForEnded (strip_carriage_return run.line)
-  kept-ended text next answer =
-      let s = so_far.last in
-      Answers-stripped bounds s next (unended read) text (subst (λ line. Answers bounds s (strip_carriage_return line) text next) after.line answer)
+  kept-ended a answer =
+      Answers-stripped bounds so_far.last (unended read) a
+      (subst (λ line. Answers bounds so_far.last (strip_carriage_return line) a) after.line answer)
 
   -- an allocation fails between two lines
   pub Breaks-between : (left : Option (List ℕ)) (bytes more : List ℕ)
-      → HasPassed (Breaks bounds OutOfMemory) left (read ++ bytes ++ more) held holds
+      → Gets held holds (Passing (Breaks bounds OutOfMemory) left (read ++ bytes ++ more))
   Breaks-between left bytes more =
       let (others, before) = ended_lines-front read (bytes ++ more) in
       let first = ap ended_lines (append_assoc read bytes more) ∙ before in
@@ -129,12 +134,12 @@ module _ (held holds : Option (List ℕ)) (read : List ℕ) (run : Progress) (af
 
   -- the text of this line breaks off
   abbrev BreaksLine : List ℕ → RunFault → Option (List ℕ) → Type 0
-  BreaksLine line fault later = Gets holds later (BreaksOff (IsLineText run.performer so_far.last line) run.performer.written fault)
+  BreaksLine line fault later = Gets holds later (BreaksOff (IsLineText run.performer line) run.performer.written fault)
 
   -- the first completely read lines are the performed ones, and then the one whose text breaks off
   Breaks-text : (fault : RunFault) (left later : Option (List ℕ)) (bytes line : List ℕ) (others first behind : List (List ℕ))
       → AreWholeLines left bytes (ended_lines read ++ others) → AreWholeLines left bytes (first ++ behind) → Prolongs line first
-      → BreaksLine line fault later → HasPassed (Breaks bounds fault) left bytes held later
+      → BreaksLine line fault later → Gets held later (Passing (Breaks bounds fault) left bytes)
   Breaks-text OutOfMemory left later bytes line others first behind before with_line performs broken =
       let (written, out, nothing) = broken in (
         so_far.text,
@@ -143,9 +148,10 @@ module _ (held holds : Option (List ℕ)) (read : List ℕ) (run : Progress) (af
         first-text bounds left bytes (ended_lines read) others so_far.text so_far.last before so_far.performed,
       )
   Breaks-text (WriteFault count) left later bytes line others first behind before with_line performs broken =
-      let (written, out, (counted, (rest, (next, answer)))) = broken in
-      let all : Perform bounds start first ((so_far.text ++ written) ++ rest) next =
-      rw (append_assoc so_far.text written rest) (performs (written ++ rest) next answer) in (
+      let (written, out, (counted, (rest, prints))) = broken in
+      let (next, answer) = prints so_far.last so_far.stands in
+      let all : Perform bounds start first (answer_with ((so_far.text ++ written) ++ rest) next) =
+      rw (append_assoc so_far.text written rest) (performs (answer_with (written ++ rest) next) answer) in (
         so_far.text ++ written,
         Appends-trans held holds later so_far.text written so_far.out out,
         (
@@ -158,7 +164,7 @@ module _ (held holds : Option (List ℕ)) (read : List ℕ) (run : Progress) (af
 
   -- the text of a line that a line feed ends breaks off
   pub Breaks-ended : (fault : RunFault) (left later : Option (List ℕ)) (more line : List ℕ) → StandsForEnded line
-      → BreaksLine line fault later → HasPassed (Breaks bounds fault) left (read ++ 10 ∷ [] ++ more) held later
+      → BreaksLine line fault later → Gets held later (Passing (Breaks bounds fault) left (read ++ 10 ∷ [] ++ more))
   Breaks-ended fault left later more line whole broken =
       let (others, before) = ended_lines-front read (10 ∷ more) in
       let (behind, with_line) = ended_lines-front (read ++ 10 ∷ []) more in
@@ -173,14 +179,13 @@ module _ (held holds : Option (List ℕ)) (read : List ℕ) (run : Progress) (af
 
   -- the last line, which no line feed ends, has been performed
   performed-last : eqb (length run.line) 0 ≡ false → Prolongs run.line (lines read)
-  performed-last some more next answer =
-      let s = so_far.last in
-      let answer = Answers-kept bounds s next (unended read) more (subst (λ line. Answers bounds s line more next) after.line answer) in
-      subst (λ ls. Perform bounds start ls (so_far.text ++ more) next) (sym (lines-last read (some-unended some)))
-      (performed-more (unended read) more next answer)
+  performed-last some a answer =
+      subst (λ ls. Perform bounds start ls (joined answer_so_far a)) (sym (lines-last read (some-unended some)))
+      (performed-more (unended read) a
+      (Answers-kept bounds so_far.last (unended read) a (subst (λ line. Answers bounds so_far.last line a) after.line answer)))
 
   pub Breaks-last : (fault : RunFault) (left later : Option (List ℕ)) → IsAtEnd left → eqb (length run.line) 0 ≡ false
-      → BreaksLine run.line fault later → HasPassed (Breaks bounds fault) left read held later
+      → BreaksLine run.line fault later → Gets held later (Passing (Breaks bounds fault) left read)
   Breaks-last fault left later all_read some =
       Breaks-text fault left later read run.line (unended read ∷ []) (lines read) []
       (inr (all_read, lines-last read (some-unended some))) (inr (all_read, sym (append-nil _))) (performed-last some)
@@ -193,16 +198,16 @@ module _ (held holds : Option (List ℕ)) (read : List ℕ) (run : Progress) (af
 
   -- the last line ends with the script
   pub HasCounted-last : (later : Option (List ℕ)) (new : Performer) → eqb (length run.line) 0 ≡ false → limits new.session ≡ bounds
-      → Gets holds later (IsWritten run.performer so_far.last run.line new) → HasCounted held (lines read) new later
+      → Gets holds later (IsWritten run.performer run.line new) → HasCounted held (lines read) new later
   HasCounted-last later new some same written = HasCounted-more later (lines read) run.line new (performed-last some) written same
 
   -- a read fails: the texts of the lines that a line feed ended are written
-  pub Breaks-reads : (left : Option (List ℕ)) → HasPassed (Breaks bounds ReadFault) left read held holds
+  pub Breaks-reads : (left : Option (List ℕ)) → Gets held holds (Passing (Breaks bounds ReadFault) left read)
   Breaks-reads left = (so_far.text, so_far.out, record { last = so_far.last; performed = so_far.performed })
 
 -- an allocation fails before anything is read
-pub Breaks-nothing : (l : Limits) (left held : Option (List ℕ)) → HasPassed (Breaks l OutOfMemory) left [] held held
-Breaks-nothing l left held = ([], Appends-nil held, first-text l left [] [] (ended_lines []) [] start (inl refl) (refl, refl))
+pub Breaks-nothing : (l : Limits) (left held : Option (List ℕ)) → Gets held held (Passing (Breaks l OutOfMemory) left [])
+Breaks-nothing l left held = ([], Appends-nil held, first-text l left [] [] (ended_lines []) [] start (inl refl) refl)
 
 -- a line of which nothing was kept, so that all of it is in these bytes
 module _ (held holds : Option (List ℕ)) (read bytes : List ℕ) (old : Progress) (after : IsAfter held read old holds)
@@ -214,23 +219,23 @@ module _ (held holds : Option (List ℕ)) (read bytes : List ℕ) (old : Progres
   after_bytes = IsAfter-unbroken held holds read old after bytes with_bytes unbroken refl refl
 
   whole_line : StandsForEnded held holds (read ++ bytes) with_bytes after_bytes (strip_carriage_return bytes)
-  whole_line text next answer =
+  whole_line a answer =
       let whole : unended (read ++ bytes) ≡ bytes =
       unended-unbroken read bytes unbroken ∙ ap (λ line. line ++ bytes) (empty-unended held holds read old after none) in
-      subst (λ line. Answers (limits old.performer.session) after.lines.done.last (strip_carriage_return line) text next) (sym whole) answer
+      subst (λ line. Answers (limits old.performer.session) after.lines.done.last (strip_carriage_return line) a) (sym whole) answer
 
   pub IsAfter-whole : (later : Option (List ℕ)) (new : Progress)
-      → Gets holds later (IsWritten old.performer after.lines.done.last (strip_carriage_return bytes) new.performer)
+      → Gets holds later (IsWritten old.performer (strip_carriage_return bytes) new.performer)
       → limits new.performer.session ≡ limits old.performer.session → new.line ≡ [] → IsAfter held (read ++ (bytes ++ 10 ∷ [])) new later
   IsAfter-whole later new written same empty =
       subst (λ all. IsAfter held all new later) (append_assoc read bytes (10 ∷ []))
       (IsAfter-ended held holds (read ++ bytes) with_bytes after_bytes later (strip_carriage_return bytes) new whole_line written same empty)
 
   pub Breaks-whole : (fault : RunFault) (left later : Option (List ℕ)) (more : List ℕ)
-      → Gets holds later (BreaksOff (IsLineText old.performer after.lines.done.last (strip_carriage_return bytes)) old.performer.written fault)
-      → HasPassed (Breaks (limits old.performer.session) fault) left (read ++ (bytes ++ 10 ∷ []) ++ more) held later
+      → Gets holds later (BreaksOff (IsLineText old.performer (strip_carriage_return bytes)) old.performer.written fault)
+      → Gets held later (Passing (Breaks (limits old.performer.session) fault) left (read ++ (bytes ++ 10 ∷ []) ++ more))
   Breaks-whole fault left later more broken =
-      subst (λ front. HasPassed (Breaks (limits old.performer.session) fault) left (front ++ more) held later) (append_assoc read bytes (10 ∷ []))
+      subst (λ front. Gets held later (Passing (Breaks (limits old.performer.session) fault) left (front ++ more))) (append_assoc read bytes (10 ∷ []))
       (Breaks-ended held holds (read ++ bytes) with_bytes after_bytes fault left later more (strip_carriage_return bytes) whole_line broken)
 
 -- the writer is flushed
@@ -255,12 +260,12 @@ IsAfter-flushed held holds later read progress same after =
 -- flushing the texts of these lines, which are all that were completely read, fails
 pub Breaks-flush : (l : Limits) (held left holds later : Option (List ℕ)) (read : List ℕ) (ls : List (List ℕ)) (performer : Performer)
     → AreWholeLines left read (ls ++ []) → limits performer.session ≡ l → Keeps holds later → HasCounted held ls performer holds
-    → (fault : RunFault) → fault ≡ WriteFault performer.written → HasPassed (Breaks l fault) left read held later
+    → (fault : RunFault) → fault ≡ WriteFault performer.written → Gets held later (Passing (Breaks l fault) left read)
 Breaks-flush l held left holds later read ls performer whole limits_are same was fault is =
     let done = was.done in
-    let performed : Perform l start ls (done.text ++ []) done.last =
-    rw (append-nil done.text) (subst (λ m. Perform m start ls done.text done.last) limits_are done.performed) in
-    subst (λ f. HasPassed (Breaks l f) left read held later) (sym is) (
+    let performed : Perform l start ls (answer_with (done.text ++ []) done.last) =
+    rw (append-nil done.text) (subst (λ m. Perform m start ls (answer_with done.text done.last)) limits_are done.performed) in
+    subst (λ f. Gets held later (Passing (Breaks l f) left read)) (sym is) (
       done.text,
       Appends-kept held holds later done.text done.out same,
       (sym was.counted, ([], first-text l left read ls [] (done.text ++ []) done.last whole performed)),

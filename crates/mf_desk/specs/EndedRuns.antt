@@ -1,6 +1,6 @@
 -- A run whose script has ended.
 use Rattle.std.specs.Prelude.{◌≡◌, ℕ, List, [], Option, length}
-use Rattle.std.specs.Io.KnownBytes.{Appends, IsAtEnd}
+use Rattle.std.specs.Io.KnownBytes.{IsAtEnd}
 use Rattle.mf_gf.specs.Keeping.{Keeps, max_bytes_of}
 use Rattle.mf_live.specs.Writers.{ended_identity, ended_published_list}
 use Rattle.mf_desk.specs.declared.ended_run.EndedRun.{EndedRun}
@@ -12,7 +12,7 @@ use Rattle.mf_session.specs.Endings.{HasEnded, complete_list}
 use Rattle.mf_desk.specs.Performances.{Tells, run_limits, viewer_line}
 use Rattle.mf_session.specs.States.{State, Limits}
 use Rattle.mf_session.specs.Transcript.{IsTranscript}
-use Rattle.mf_desk.specs.Streams.{HasPassed, HasRead, Streams}
+use Rattle.mf_desk.specs.Streams.{Gets, HasRead, Passing, Streams}
 use Rattle.mf_watch.specs.Watchers.{glance_at}
 
 -- the script of this performer, whose lines have led to this state, has ended with this run
@@ -20,20 +20,18 @@ pub record IsEndOf (performer : Performer) (s : State) (run : EndedRun) : Type 0
   pub ended : HasEnded performer.session s run.ended run.file
   pub counted : run.written ≡ performer.written
 
--- the run of these bytes after the end of the script: a writer that held some bytes has got the transcript, everything that was
--- accepted is published, and the font file keeps what was shipped
-pub record IsOver (limits : Limits) (held : Option (List ℕ)) (read : List ℕ) (run : EndedRun) (holds : Option (List ℕ)) : Type 0 where
-  pub text : List ℕ
+-- the run of these bytes after the end of the script: this is the transcript, everything that was accepted is published, and the
+-- font file keeps what was shipped
+pub record IsOver (limits : Limits) (read : List ℕ) (run : EndedRun) (text : List ℕ) : Type 0 where
   pub script : IsTranscript limits read text
   pub published : ended_published_list run.ended ≡ complete_list script.last.pictures
   pub file : Keeps run.file [] script.last.characters
   pub max_bytes_is : max_bytes_of run.file ≡ limits.max_bytes
-  pub out : Appends held holds text
   pub counted : run.written ≡ length text
 
--- everything that the reader had was read and performed
+-- everything that the reader had was read and performed, and the writer has got the transcript
 abbrev pub EndsWith : Limits → Streams → EndedRun → Type 0
-EndsWith limits s run = HasRead s (λ read. IsOver limits s.held read run s.holds)
+EndsWith limits s run = HasRead s (λ read. Gets s.held s.holds (IsOver limits read run))
 
 -- the glance that a look at its last picture gives
 abbrev pub glance : EndedRun → Glance
@@ -63,5 +61,5 @@ last_looks run viewers held holds = record { run = run; viewers = viewers; held 
 -- whatever was read and written before, the fault breaks off the lines of these looks
 abbrev pub BreaksLooks : LastLooks → RunFault → Type 0
 BreaksLooks l fault =
-    (settings : Settings) (first left : Option (List ℕ)) (read : List ℕ) → IsAtEnd left → IsOver (run_limits settings) first read l.run l.held
-    → HasPassed (Tells settings l.viewers fault) left read first l.holds
+    (settings : Settings) (first left : Option (List ℕ)) (read : List ℕ) → IsAtEnd left → Gets first l.held (IsOver (run_limits settings) read l.run)
+    → Gets first l.holds (Passing (Tells settings l.viewers fault) left read)

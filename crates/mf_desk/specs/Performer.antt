@@ -1,8 +1,8 @@
 -- What has been written when a line is performed.
 use Rattle.std.specs.Prelude.{ℕ, List, ◌≡◌, ◌+◌, ◌<◌, ◌^◌, length}
 use Rattle.mf_session.specs.Answers.{Answers}
-use Rattle.mf_session.specs.Sessions.{IsAnswered, limits}
-use Rattle.mf_session.specs.States.{State}
+use Rattle.mf_session.specs.Sessions.{HasAnswered, StandsFor, limits}
+use Rattle.mf_session.specs.States.{State, answer_with}
 use Rattle.mf_desk.specs.declared.performer.Performer.{Performer}
 
 -- the most bytes that a read gives
@@ -22,12 +22,13 @@ most_written = 2 ^ 101
 abbrev pub most_counted : ℕ
 most_counted = 2 ^ 127
 
--- a line was performed, and this text of it was written
-pub record IsWritten (before : Performer) (s : State) (line : List ℕ) (after : Performer) (text : List ℕ) : Type 0 where
-  pub answered : IsAnswered before.session s line text after.session
+-- a line was performed, whatever state the session represented, and this text of it was written
+pub record IsWritten (before : Performer) (line : List ℕ) (after : Performer) (text : List ℕ) : Type 0 where
+  pub answered : (s : State) → StandsFor before.session s → HasAnswered after.session text (Answers (limits before.session) s line)
   pub counted : after.written ≡ before.written + length text
   pub short : length text < longest_text
 
--- this is what a line prints where those before it have led to this state
-abbrev pub IsLineText : Performer → State → List ℕ → List ℕ → Type 0
-IsLineText performer s line text = (next : State) × Answers (limits performer.session) s line text next
+-- this is what a line prints, whatever state the session represents
+abbrev pub IsLineText : Performer → List ℕ → List ℕ → Type 0
+IsLineText performer line text =
+    (s : State) → StandsFor performer.session s → (next : State) × Answers (limits performer.session) s line (answer_with text next)

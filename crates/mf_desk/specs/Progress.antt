@@ -3,7 +3,7 @@ use Rattle.std.specs.Prelude.{ℕ, List, Option, ◌≡◌, ◌++◌, length, ta
 use Rattle.std.specs.Str.Lines.{lines}
 use Rattle.mf_desk.specs.Ended.{ended_lines, unended}
 use Rattle.mf_desk.specs.Fault.{Breaks}
-use Rattle.mf_desk.specs.Streams.{HasPassed, HasRead, Streams}
+use Rattle.mf_desk.specs.Streams.{Gets, HasRead, Passing, Streams}
 use Rattle.mf_session.specs.Sessions.{HasPerformed, limits}
 use Rattle.mf_session.specs.States.{start}
 use Rattle.mf_session.specs.Transcript.{due}
@@ -45,4 +45,4 @@ GoesOn t after = (first : Option (List ℕ)) (read : List ℕ) → IsAfter first
 -- whatever was read before these bytes, and whatever comes after them, the fault breaks the script off
 abbrev pub BreaksAfter : Taking → RunFault → Type 0
 BreaksAfter t fault = (first left : Option (List ℕ)) (read more : List ℕ) → IsAfter first read t.before t.held
-    → HasPassed (Breaks (limits t.before.performer.session) fault) left (read ++ t.bytes ++ more) first t.holds
+    → Gets first t.holds (Passing (Breaks (limits t.before.performer.session) fault) left (read ++ t.bytes ++ more))

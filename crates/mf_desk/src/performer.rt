@@ -68,13 +68,12 @@ impl Performer {
         line: &[u8],
     ) -> Result<(), RunFault>
         requires { self.old.written + longest_text ≤ most_counted }
-        ensures written { OnOk result ((s : State) → StandsFor self.old.session s
-            → Gets (W.contents writer.old) (W.contents writer.new) (IsWritten self.old s line.now self.new)) }
+        ensures written { OnOk result (Gets (W.contents writer.old) (W.contents writer.new) (IsWritten self.old line.now self.new)) }
         ensures at_most { OnOk result (self.new.written ≤ self.old.written + longest_text) }
         ensures limits { limits self.new.session ≡ limits self.old.session }
         ensures identity { identity self.new.session ≡ identity self.old.session }
-        ensures fault { IfErr result (λ fault. (s : State) → StandsFor self.old.session s
-            → Gets (W.contents writer.old) (W.contents writer.new) (BreaksOff (IsLineText self.old s line.now) self.old.written fault)) }
+        ensures fault { IfErr result (λ fault.
+            Gets (W.contents writer.old) (W.contents writer.new) (BreaksOff (IsLineText self.old line.now) self.old.written fault)) }
     {
         if line.is_empty() {
             return Ok(());
@@ -91,13 +90,12 @@ impl Performer {
         line: &[u8],
     ) -> Result<(), RunFault>
         requires { self.old.written + longest_text ≤ most_counted }
-        ensures written { OnOk result ((s : State) → StandsFor self.old.session s
-            → Gets (W.contents writer.old) (W.contents writer.new) (IsWritten self.old s line.now self.new)) }
+        ensures written { OnOk result (Gets (W.contents writer.old) (W.contents writer.new) (IsWritten self.old line.now self.new)) }
         ensures at_most { OnOk result (self.new.written ≤ self.old.written + longest_text) }
         ensures limits { limits self.new.session ≡ limits self.old.session }
         ensures identity { identity self.new.session ≡ identity self.old.session }
-        ensures fault { IfErr result (λ fault. (s : State) → StandsFor self.old.session s
-            → Gets (W.contents writer.old) (W.contents writer.new) (BreaksOff (IsLineText self.old s line.now) self.old.written fault)) }
+        ensures fault { IfErr result (λ fault.
+            Gets (W.contents writer.old) (W.contents writer.new) (BreaksOff (IsLineText self.old line.now) self.old.written fault)) }
     {
         let text = self.session.command(rt, alloc, line)?;
         match write_counted(writer, text.as_slice()) {

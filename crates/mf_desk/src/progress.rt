@@ -9,7 +9,7 @@ ghost use Rattle.mf_desk.specs.Fault.{Breaks};
 ghost use Rattle.mf_desk.specs.Performances.{run_limits};
 ghost use Rattle.mf_desk.specs.Performer.{longest_read, longest_text, most_counted, most_written};
 ghost use Rattle.mf_desk.specs.Progress.{BreaksAfter, GoesOn, HasCounted, IsAfter, ReadsThrough, taking};
-ghost use Rattle.mf_desk.specs.Streams.{HasPassed, Passes, streams_of};
+ghost use Rattle.mf_desk.specs.Streams.{Gets, Passes, Passing, streams_of};
 ghost use Rattle.mf_session.specs.Sessions.{identity, limits};
 ghost use Rattle.mf_session.specs.States.{least_bytes};
 
@@ -192,7 +192,7 @@ impl Progress {
         ensures identity { identity self.new.performer.session ≡ identity self.old.performer.session }
         ensures fault { IfErr result (λ fault. (held left : Option (List ℕ)) (read : List ℕ) → IsAtEnd left
             → IsAfter held read self.old (W.contents writer.old)
-            → HasPassed (Breaks (limits self.old.performer.session) fault) left read held (W.contents writer.new)) }
+            → Gets held (W.contents writer.new) (Passing (Breaks (limits self.old.performer.session) fault) left read)) }
     {
         if self.line.is_empty() {
             return Ok(());

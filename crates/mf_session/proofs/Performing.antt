@@ -1,33 +1,33 @@
 -- Lines that are performed one after another.
-use Rattle.std.proofs.Common.{◌≡◌, ℕ, List, [], ◌∷◌, ◌++◌, refl, sym, ap, ◌∙◌, subst, append_assoc, append-nil}
+use Rattle.std.proofs.Common.{◌≡◌, List, ℕ, [], ◌∷◌, ◌++◌, refl, sym, ap, ◌∙◌, append_assoc, append-nil}
 use Rattle.mf_session.specs.Answers.{Answers}
-use Rattle.mf_session.specs.States.{State, Limits}
+use Rattle.mf_session.specs.States.{Answer, Limits, State, answer_with, joined}
 use Rattle.mf_session.specs.Transcript.{Perform}
 
+-- of three answers, the last two may be joined first
+joined_assoc : (a b c : Answer) → joined (joined a b) c ≡ joined a (joined b c)
+joined_assoc a b c = ap (λ text. answer_with text c.next) (append_assoc a.text b.text c.text)
+
 -- the first lines are performed, and then the others
-pub Perform-append : (limits : Limits) (s t u : State) (lines more : List (List ℕ)) (text rest : List ℕ)
-    → Perform limits s lines text t → Perform limits t more rest u → Perform limits s (lines ++ more) (text ++ rest) u
-Perform-append limits s t u [] more text rest (nothing, same) after =
-    subst (λ first. Perform limits s more (first ++ rest) u) (sym nothing) (subst (λ from. Perform limits from more rest u) same after)
-Perform-append limits s t u (line ∷ lines) more text rest (first, others, next, answer, performed, is) after = (
+pub Perform-append : (limits : Limits) (s : State) (lines more : List (List ℕ)) (a b : Answer)
+    → Perform limits s lines a → Perform limits a.next more b → Perform limits s (lines ++ more) (joined a b)
+Perform-append limits s [] more a b nothing after = rw nothing (rw nothing at after)
+Perform-append limits s (line ∷ lines) more a b (first, rest, answer, performed, is) after = (
   first,
-  others ++ rest,
-  next,
+  joined rest b,
   answer,
-  Perform-append limits next t u lines more others rest performed after,
-  ap (λ all. all ++ rest) is ∙ append_assoc first others rest,
+  Perform-append limits first.next lines more rest b performed (rw is at after),
+  rw is (joined_assoc first rest b),
 )
 
--- lines are performed, and then one more
-pub Perform-line : (limits : Limits) (s t u : State) (lines : List (List ℕ)) (line : List ℕ) (text more : List ℕ)
-    → Perform limits s lines text t → Answers limits t line more u → Perform limits s (lines ++ line ∷ []) (text ++ more) u
-Perform-line limits s t u lines line text more performed answer =
-    Perform-append limits s t u lines (line ∷ []) text more performed (more, [], u, answer, (refl, refl), sym (append-nil more))
+-- one line is performed
+pub Perform-one : (limits : Limits) (s : State) (line : List ℕ) (a : Answer) → Answers limits s line a → Perform limits s (line ∷ []) a
+Perform-one limits s line a answer = (a, answer_with [] a.next, answer, refl, ap (λ text. answer_with text a.next) (sym (append-nil a.text)))
 
--- what lines and then others print is what the first print and then, from a state in between, what the others print
-pub Perform-split : (limits : Limits) (s u : State) (lines more : List (List ℕ)) (whole : List ℕ) → Perform limits s (lines ++ more) whole u
-    → (t : State) × (text : List ℕ) × (rest : List ℕ) × Perform limits s lines text t × Perform limits t more rest u × (whole ≡ text ++ rest)
-Perform-split limits s u [] more whole performed = (s, [], whole, (refl, refl), performed, refl)
-Perform-split limits s u (line ∷ lines) more whole (first, others, next, answer, performed, is) =
-    let (t, text, rest, before, after, cut) = Perform-split limits next u lines more others performed in
-    (t, first ++ text, rest, (first, text, next, answer, before, refl), after, is ∙ ap (λ all. first ++ all) cut ∙ sym (append_assoc first text rest))
+-- what lines and then others answer is what the first answer and then, from the state in between, what the others answer
+pub Perform-split : (limits : Limits) (s : State) (lines more : List (List ℕ)) (whole : Answer) → Perform limits s (lines ++ more) whole
+    → (a : Answer) × (b : Answer) × Perform limits s lines a × Perform limits a.next more b × (whole ≡ joined a b)
+Perform-split limits s [] more whole performed = (answer_with [] s, whole, refl, performed, refl)
+Perform-split limits s (line ∷ lines) more whole (first, rest, answer, performed, is) =
+    let (a, b, before, after, cut) = Perform-split limits first.next lines more rest performed in
+    (joined first a, b, (first, a, answer, before, refl), after, is ∙ ap (joined first) cut ∙ sym (joined_assoc first a b))

@@ -6,8 +6,8 @@ use Rattle.mf_gf.specs.Keeping.{HasLasts, IsSameFile, Keeps}
 use Rattle.mf_text.specs.declared.command.Command.{Command}
 use Rattle.mf_session.specs.declared.session.Session.{Session}
 use Rattle.mf_session.specs.Answers.{AnswersTo}
-use Rattle.mf_session.specs.Sessions.{StandsFor, IsAnsweredTo, limits}
-use Rattle.mf_session.specs.States.{State}
+use Rattle.mf_session.specs.Sessions.{HasAnswered, StandsFor, limits}
+use Rattle.mf_session.specs.States.{State, answer_with}
 use Rattle.mf_session.specs.Variables.{pictures}
 
 -- the state with the pictures and the turning check of a session, and with these characters
@@ -25,10 +25,10 @@ standing session Holds holds s stands =
 
 -- a session has answered a command that left its font file as it was
 pub answered : (before after : Session) (command : Command) (text : List ℕ) → after.file ≡ before.file
-    → ((characters : List Character) → AnswersTo (limits before) (state_of before characters) command text (state_of after characters))
-    → (s : State) → StandsFor before s → IsAnsweredTo before s command text after
+    → ((characters : List Character) → AnswersTo (limits before) (state_of before characters) command (answer_with text (state_of after characters)))
+    → (s : State) → StandsFor before s → HasAnswered after text (AnswersTo (limits before) s command)
 answered before after command text same answers =
-    standing before (λ s. IsAnsweredTo before s command text after)
+    standing before (λ s. HasAnswered after text (AnswersTo (limits before) s command))
     (λ characters keeps. record {
       next = state_of after characters;
       answer = answers characters;

@@ -1,5 +1,5 @@
 -- What commands do with pictures: what they print, and the pictures after them.
-use Rattle.std.specs.Prelude.{◌≡◌, ◌<◌, ◌==◌, ℕ, List, [], ◌++◌, Option, None, Some, option_map, codes, decimal, slice_index_or, slice_set, if◌then◌else◌}
+use Rattle.std.specs.Prelude.{◌<◌, ◌==◌, ℕ, List, [], ◌++◌, Option, None, Some, option_map, codes, decimal, slice_index_or, slice_set, if◌then◌else◌}
 use Rattle.mf_live.specs.Entries.{pic, rev, Operation}
 use Rattle.mf_live.specs.declared.fault.Fault.{Fault}
 use Rattle.mf_live.specs.declared.fault.Fault.TheVariants.{TooManyOperations, Refused}
@@ -27,10 +27,15 @@ abbrev pub pictures_after : Pictures → Name → Op → Pictures
 pictures_after s Current op = record s { accepted = accepted_with s (Operation op) }
 pictures_after s (Register number) op = record s { registers = slice_set s.registers number (next_picture (slice_index_or s.registers number []) op) }
 
--- an operation that is not refused prints nothing and makes the new pictures; one that is refused prints why and changes nothing
-abbrev pub Becomes : Option Fault → Pictures → Pictures → List ℕ → Pictures → Type 0
-Becomes None s new text t = (text ≡ []) × (t ≡ new)
-Becomes (Some why) s new text t = (text ≡ refusal_line (RefusedOperation why)) × (t ≡ s)
+-- an operation that is refused prints why, and any other prints nothing
+abbrev pub operation_line : Option Fault → List ℕ
+operation_line None = []
+operation_line (Some why) = refusal_line (RefusedOperation why)
+
+-- an operation that is refused changes nothing, and any other makes the new pictures
+abbrev pub unless_refused : Option Fault → Pictures → Pictures → Pictures
+unless_refused None s new = new
+unless_refused (Some why) s new = s
 
 -- an operation, and on which picture
 pub record OpOn : Type 0 where
@@ -41,10 +46,18 @@ pub record OpOn : Type 0 where
 abbrev pub on : Name → Op → OpOn
 on name op = record { name = name; op = op }
 
--- what an operation on a picture answers
-abbrev pub OperatesOn : ℕ → Pictures → OpOn → List ℕ → Pictures → Type 0
-OperatesOn max_ops s o text t = Becomes (refusal_of max_ops s o.name o.op) s (pictures_after s o.name o.op) text t
+-- what an operation on a picture prints
+abbrev pub printed_by : ℕ → Pictures → OpOn → List ℕ
+printed_by max_ops s o = operation_line (refusal_of max_ops s o.name o.op)
 
--- everything that was accepted is published, and its revision is printed
-abbrev pub PublishesAll : Pictures → List ℕ → Pictures → Type 0
-PublishesAll s text t = (text ≡ codes "published " ++ decimal (rev s.accepted) ++ codes "\n") × (t ≡ record s { published = s.accepted })
+-- the pictures after it
+abbrev pub operated : ℕ → Pictures → OpOn → Pictures
+operated max_ops s o = unless_refused (refusal_of max_ops s o.name o.op) s (pictures_after s o.name o.op)
+
+-- the line that tells the revision of a publish
+abbrev pub published_line : Pictures → List ℕ
+published_line s = codes "published " ++ decimal (rev s.accepted) ++ codes "\n"
+
+-- the pictures once everything that was accepted is published
+abbrev pub all_published : Pictures → Pictures
+all_published s = record s { published = s.accepted }

@@ -3,10 +3,8 @@ use Rattle.std.specs.Prelude.{◌≡◌, ℕ, List, [], Option}
 use Rattle.std.specs.Io.KnownBytes.{Appends}
 use Rattle.logbook.specs.Pages.{Book}
 use Rattle.mf_gf.specs.Keeping.{Keeps, max_bytes_of}
-use Rattle.mf_text.specs.declared.command.Command.{Command}
 use Rattle.mf_session.specs.declared.session.Session.{Session}
-use Rattle.mf_session.specs.Answers.{Answers, AnswersTo}
-use Rattle.mf_session.specs.States.{State, Limits}
+use Rattle.mf_session.specs.States.{Answer, Limits, State, answer_with}
 use Rattle.mf_session.specs.Transcript.{Due, Perform}
 use Rattle.mf_session.specs.Variables as variables
 
@@ -24,22 +22,16 @@ identity session = variables.identity session.variables
 abbrev pub limits : Session → Limits
 limits session = record { max_ops = variables.max_ops session.variables; max_bytes = max_bytes_of session.file }
 
--- a session that represented a state has answered a command, and represents the state after it
-pub record IsAnsweredTo (before : Session) (s : State) (command : Command) (text : List ℕ) (after : Session) : Type 0 where
+-- a session that has printed this text represents the state after such an answer
+pub record HasAnswered (session : Session) (text : List ℕ) (IsSuch : Answer → Type 0) : Type 0 where
   pub next : State
-  pub answer : AnswersTo (limits before) s command text next
-  pub stands : StandsFor after next
-
--- a session that represented a state has answered a line, and represents the state after it
-pub record IsAnswered (before : Session) (s : State) (line : List ℕ) (text : List ℕ) (after : Session) : Type 0 where
-  pub next : State
-  pub answer : Answers (limits before) s line text next
-  pub stands : StandsFor after next
+  pub answer : IsSuch (answer_with text next)
+  pub stands : StandsFor session next
 
 -- a session has performed all these lines and represents the state after them; a writer, which held some bytes, has got their texts
 pub record HasPerformed (d : Due) (session : Session) (held holds : Option (List ℕ)) : Type 0 where
   pub text : List ℕ
   pub last : State
-  pub performed : Perform d.limits d.from d.whole text last
+  pub performed : Perform d.limits d.from d.whole (answer_with text last)
   pub stands : StandsFor session last
   pub out : Appends held holds text

@@ -1,5 +1,5 @@
--- The state of a script, and its limits.
-use Rattle.std.specs.Prelude.{ℕ, List, [], min}
+-- The state of a script, its limits, and its answers.
+use Rattle.std.specs.Prelude.{ℕ, List, [], ◌++◌, min}
 use Rattle.mf_geom.specs.declared.check.Check.{Check}
 use Rattle.mf_geom.specs.declared.check.Check.TheVariants.{On}
 use Rattle.mf_gf.specs.Files.{Character}
@@ -15,6 +15,19 @@ pub record State : Type 0 where
 -- all pictures blank, the turning check on, and nothing shipped
 abbrev pub start : State
 start = record { pictures = blank_pictures; check = On; characters = [] }
+
+-- what is printed, and the state after it
+pub record Answer : Type 0 where
+  pub text : List ℕ
+  pub next : State
+
+-- the answer with these two, in this order
+abbrev pub answer_with : List ℕ → State → Answer
+answer_with text next = record { text = text; next = next }
+
+-- an answer, and then another from the state after it
+abbrev pub joined : Answer → Answer → Answer
+joined first rest = answer_with (first.text ++ rest.text) rest.next
 
 -- the greatest number of operations that `currentpicture` accepts, and of bytes that the font file may have
 pub record Limits : Type 0 where

@@ -1,14 +1,14 @@
 -- The transcript of a script: what its lines print, one after another.
 use Rattle.std.specs.Prelude.{◌≡◌, ℕ, List, [], ◌∷◌, ◌++◌}
 use Rattle.std.specs.Str.Lines.{lines}
-use Rattle.mf_session.specs.Answers.{Answers}
-use Rattle.mf_session.specs.States.{State, Limits, start}
+use Rattle.mf_session.specs.Answers.{Answers, Prints}
+use Rattle.mf_session.specs.States.{Answer, Limits, State, answer_with, joined, start}
 
 -- lines are performed one after another from a state: what they print, and the state after them
-abbrev pub Perform : Limits → State → List (List ℕ) → List ℕ → State → Type 0
-Perform limits s [] text t = (text ≡ []) × (t ≡ s)
-Perform limits s (line ∷ more) text t =
-    (first : List ℕ) × (rest : List ℕ) × (next : State) × Answers limits s line first next × Perform limits next more rest t × (text ≡ first ++ rest)
+abbrev pub Perform : Limits → State → List (List ℕ) → Answer → Type 0
+Perform limits s [] a = Prints s [] a
+Perform limits s (line ∷ more) a =
+    (first : Answer) × (rest : Answer) × Answers limits s line first × Perform limits first.next more rest × (a ≡ joined first rest)
 
 -- lines that are due to be performed from a state on
 pub record Due : Type 0 where
@@ -25,12 +25,12 @@ pub record IsFirstText (d : Due) (last : State) (written : List ℕ) : Type 0 wh
   pub done : List (List ℕ)
   pub more : List (List ℕ)
   pub first : d.whole ≡ done ++ more
-  pub performed : Perform d.limits d.from done written last
+  pub performed : Perform d.limits d.from done (answer_with written last)
 
 -- this is the text of these lines, which are performed from the start on
 pub record IsTextOf (limits : Limits) (whole : List (List ℕ)) (text : List ℕ) : Type 0 where
   pub last : State
-  pub performed : Perform limits start whole text last
+  pub performed : Perform limits start whole (answer_with text last)
 
 -- the transcript of the bytes of a script; a line ends at a line feed, a carriage return directly before that is not part of the
 -- line, and bytes after the last line feed are a line

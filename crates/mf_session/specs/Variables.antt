@@ -1,8 +1,9 @@
 -- What contracts say about the picture variables of a session.
-use Rattle.std.specs.Prelude.{ℕ}
+use Rattle.std.specs.Prelude.{◌≡◌, ℕ, List}
 use Rattle.logbook.specs.Pages.{Book}
 use Rattle.mf_live.specs.Writers as writers
 use Rattle.mf_session.specs.declared.variables.Variables.{Variables}
+use Rattle.mf_session.specs.Changes.{OpOn, all_published, operated, printed_by, published_line}
 use Rattle.mf_session.specs.Pictures.{Pictures}
 
 -- the pictures: what `currentpicture` has accepted, what of that is published, and the registers
@@ -16,3 +17,12 @@ identity v = writers.identity v.writer
 -- the greatest number of operations that `currentpicture` accepts
 abbrev pub max_ops : Variables → ℕ
 max_ops v = writers.max_ops v.writer
+
+-- an operation on a picture has been performed, or refused, and has printed this
+abbrev pub OperatesOn : Variables → OpOn → List ℕ → Variables → Type 0
+OperatesOn before o text after =
+    (text ≡ printed_by (max_ops before) (pictures before) o) × (pictures after ≡ operated (max_ops before) (pictures before) o)
+
+-- everything that was accepted is published, and its revision is printed
+abbrev pub PublishesAll : Variables → List ℕ → Variables → Type 0
+PublishesAll before text after = (text ≡ published_line (pictures before)) × (pictures after ≡ all_published (pictures before))

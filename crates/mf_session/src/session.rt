@@ -37,10 +37,11 @@ impl Session {
     ghost use Rattle.mf_text.specs.Lines.{Gives};
     ghost use Rattle.mf_text.specs.Registers.{IsName};
     ghost use Rattle.mf_text.specs.declared.command.Command.TheVariants as commands;
+    ghost use Rattle.mf_session.specs.Answers.{Answers};
     ghost use Rattle.mf_session.specs.Changes.{IsClearable};
     ghost use Rattle.mf_session.specs.Endings.{HasEnded, IsHandedBack, IsKept};
     ghost use Rattle.mf_session.specs.Pictures.{picture};
-    ghost use Rattle.mf_session.specs.Sessions.{IsAnswered, StandsFor, identity, limits};
+    ghost use Rattle.mf_session.specs.Sessions.{HasAnswered, StandsFor, identity, limits};
     ghost use Rattle.mf_session.specs.States.{State, least_bytes, limits_of, start};
 
     /// Opens a session in which nothing has happened, and the desk for viewers of its `currentpicture`, with at most `places` of
@@ -103,7 +104,7 @@ impl Session {
         alloc: Global,
         line: &[u8],
     ) -> Result<Vec<u8>, OutOfMemory>
-        ensures answer { IfOk result (λ text. (s : State) → StandsFor self.old s → IsAnswered self.old s line.now text.items self.new) }
+        ensures answer { IfOk result (λ text. (s : State) → StandsFor self.old s → HasAnswered self.new text.items (Answers (limits self.old) s line.now)) }
         ensures nothing { Gives line.now commands.Nothing → IsOk result }
         ensures turning { (check : Check) → Gives line.now (commands.Turning check) → IsOk result }
         ensures clears { (s : State) (name : Name) → StandsFor self.old s → Gives line.now (commands.Clear name)

@@ -7,9 +7,9 @@ use Rattle.std.specs.Prelude.{IsSome, IsSomeAnd}
 use Rattle.std.specs.Str.Lines.{lines}
 use Rattle.mf_base.specs.Messages.{GetsMessage}
 use Rattle.mf_live.specs.Entries.{Entry, rev}
-use Rattle.mf_session.proofs.Performing.{Perform-append}
+use Rattle.mf_session.proofs.Performing.{Perform-append, Perform-one}
 use Rattle.mf_session.specs.Answers.{Answers}
-use Rattle.mf_session.specs.States.{Limits, State}
+use Rattle.mf_session.specs.States.{Limits, State, answer_with}
 use Rattle.mf_session.specs.Transcript.{Due, IsFirstText, Perform, due}
 use Rattle.mf_stage.proofs.Performed.{published-all}
 use Rattle.mf_stage.proofs.Scripts.{AreFirstLines, IsUnderWay, under_way-line, under_way-start}
@@ -43,7 +43,7 @@ plate-asked : (plates : Option Plates) (shown : List Entry) (made : Option Plate
 plate-asked None shown made none some = absurd (false≢true (sym (ap is_some none) ∙ some))
 plate-asked (Some plates) shown made is some = refl
 
-module _ (limits : Limits) (s t : State) (done mid more : List (List ℕ)) (text : List ℕ) (before : Perform limits s done text t) where
+module _ (limits : Limits) (s t : State) (done mid more : List (List ℕ)) (text : List ℕ) (before : Perform limits s done (answer_with text t)) where
   -- lines that were performed go before the first of others
   first-after : (last : State) (written : List ℕ) → IsFirstText (due limits t mid) last written
       → IsFirstText (due limits s ((done ++ mid) ++ more)) last (text ++ written)
@@ -51,7 +51,7 @@ module _ (limits : Limits) (s t : State) (done mid more : List (List ℕ)) (text
     done = done ++ f.done;
     more = f.more ++ more;
     first = ap (λ m. (done ++ m) ++ more) f.first ∙ regroup done f.done f.more more;
-    performed = Perform-append limits s t last done f.done text written before f.performed;
+    performed = Perform-append limits s done f.done (answer_with text t) (answer_with written last) before f.performed;
   }
 
   cut-after : (last : State) (written : List ℕ) → IsCutText (due limits t mid) last written
@@ -63,7 +63,7 @@ module _ (limits : Limits) (s t : State) (done mid more : List (List ℕ)) (text
     first = ap (λ m. (done ++ m) ++ more) f.first ∙ regroup done f.done (f.line ∷ f.more) more;
     texts = text ++ f.texts;
     between = f.between;
-    performed = Perform-append limits s t f.between done f.done text f.texts before f.performed;
+    performed = Perform-append limits s done f.done (answer_with text t) (answer_with f.texts f.between) before f.performed;
     front = f.front;
     rest = f.rest;
     answer = f.answer;
@@ -152,12 +152,12 @@ nothing-done before after s line held stands = record {
   written = [];
   stands = stands;
   out = Appends-nil held;
-  told = record { done = []; more = line ∷ []; first = refl; performed = (refl, refl) };
+  told = record { done = []; more = line ∷ []; first = refl; performed = refl };
   asked = λ concerns. absurd concerns;
 }
 
 -- the text of a line was cut
-pub line-cut : (act : Act) (s next : State) (line text : List ℕ) → Answers (limits act.before) s line text next → StandsFor act.after next
+pub line-cut : (act : Act) (s next : State) (line text : List ℕ) → Answers (limits act.before) s line (answer_with text next) → StandsFor act.after next
     → GetsMessage act.held act.holds text → IsBrokenOff act s (line ∷ []) WriteFault
 line-cut act s next line text answer stands (front, rest, is, out) = record {
   last = next;
@@ -171,19 +171,20 @@ line-cut act s next line text answer stands (front, rest, is, out) = record {
     first = refl;
     texts = [];
     between = s;
-    performed = (refl, refl);
+    performed = refl;
     front = front;
     rest = rest;
-    answer = subst (λ t. Answers (limits act.before) s line t next) is answer;
+    answer = subst (λ t. Answers (limits act.before) s line (answer_with t next)) is answer;
     written_is = refl;
   };
   asked = λ concerns. absurd concerns;
 }
 
 -- a line was performed and its text was written
-line-first : (limits : Limits) (s next : State) (line text : List ℕ) → Answers limits s line text next → IsFirstText (due limits s (line ∷ [])) next text
+line-first : (limits : Limits) (s next : State) (line text : List ℕ) → Answers limits s line (answer_with text next)
+    → IsFirstText (due limits s (line ∷ [])) next text
 line-first limits s next line text answer =
-    record { done = line ∷ []; more = []; first = refl; performed = (text, [], next, answer, (refl, refl), sym (append-nil text)) }
+    record { done = line ∷ []; more = []; first = refl; performed = Perform-one limits s line (answer_with text next) answer }
 
 tells-published : (d : Due) (next : State) (fault : StageFault) (text : List ℕ) → IsFirstText d next text
     → next.pictures.published ≡ next.pictures.accepted → IsOfPlate next.pictures.published fault → Tells d next fault text
@@ -195,7 +196,7 @@ tells-published d next fault text first all is =
 
 -- a line was performed and its text was written, and then the plate of what it has published fails
 pub line-published : (act : Act) (s next : State) (line text : List ℕ) (fault : StageFault)
-    → Answers (limits act.before) s line text next → StandsFor act.after next → Appends act.held act.holds text
+    → Answers (limits act.before) s line (answer_with text next) → StandsFor act.after next → Appends act.held act.holds text
     → next.pictures.published ≡ next.pictures.accepted → IsOfPlate next.pictures.published fault → IsSome (plates_of act.before)
     → IsBrokenOff act s (line ∷ []) fault
 line-published act s next line text fault answer stands out all is some = record {
@@ -213,7 +214,7 @@ pub line-unwritten : (act : Act) (s : State) (line : List ℕ) (fault : StageFau
 line-unwritten act s line fault None done is = absurd is
 line-unwritten act s line fault (Some publication) done (is, some) =
     let (given, of_list) = done.made_is in
-    let all = published-all (limits act.before) s line done.text done.next done.answer given in
+    let all = published-all (limits act.before) s line (answer_with done.text done.next) done.answer given in
     line-published act s done.next line done.text fault done.answer done.stands done.out all
     (inr (is ∙ ap PlateFault of_list.revision))
     (plate-asked (plates_of act.before) done.next.pictures.published publication.plate of_list.plate some)

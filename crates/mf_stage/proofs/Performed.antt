@@ -4,8 +4,8 @@ use Rattle.std.specs.Io.KnownBytes.{Appends}
 use Rattle.mf_live.specs.Entries.{Entry, pic, rev}
 use Rattle.mf_rows.specs.Dots.{Dot}
 use Rattle.mf_session.specs.Answers.{Answers, AnswersTo}
-use Rattle.mf_session.specs.Sessions.{IsAnswered}
-use Rattle.mf_session.specs.States.{Limits, State}
+use Rattle.mf_session.specs.Sessions.{HasAnswered, limits}
+use Rattle.mf_session.specs.States.{Answer, Limits, State, answer_with}
 use Rattle.mf_stage.specs.Plates.{IsPlate}
 use Rattle.mf_stage.specs.Publications.{IsPlateWhere, IsPublication}
 use Rattle.mf_stage.specs.Scripts.{HasPerformedLine, act_of}
@@ -27,24 +27,23 @@ plate_where wanted plates shown revision ds made is number picture plate =
     (made, refl, subst (λ n. IsPlate plates n (pic shown) made) number (subst (λ e. IsPlate plates revision e made) picture plate))
 
 -- after a line that publishes, everything that was accepted is published
-pub published-all : (limits : Limits) (s : State) (line text : List ℕ) (t : State) → Answers limits s line text t
-    → Gives line Publish → t.pictures.published ≡ t.pictures.accepted
-published-all limits s line text t (inl performed) given =
-    let answer = subst (λ command. AnswersTo limits s command text t) (gives_one line performed.command Publish performed.given given) performed.answer in
-    let pictures = answer.0.1 in
-    ap (λ p. p.published) pictures ∙ sym (ap (λ p. p.accepted) pictures)
-published-all limits s line text t (inr refused) given = absurd (given_or_refused line Publish refused.fault refused.printable given refused.refused)
+pub published-all : (limits : Limits) (s : State) (line : List ℕ) (a : Answer) → Answers limits s line a
+    → Gives line Publish → a.next.pictures.published ≡ a.next.pictures.accepted
+published-all limits s line a (inl performed) given =
+    let answer = subst (λ command. AnswersTo limits s command a) (gives_one line performed.command Publish performed.given given) performed.answer in
+    ap (λ b. b.next.pictures.published) answer ∙ sym (ap (λ b. b.next.pictures.accepted) answer)
+published-all limits s line a (inr refused) given = absurd (given_or_refused line Publish refused.fault refused.printable given refused.refused)
 
 module _ (before after : Stage) (s : State) (line text : List ℕ) (held holds : Option (List ℕ)) (publishes : Bool)
     (means : (publishes ≡ true) ↔ Gives line Publish)
-    (answered : IsAnswered (session_of before) s line text (session_of after)) (out : Appends held holds text) where
+    (answered : HasAnswered (session_of after) text (Answers (limits (session_of before)) s line)) (out : Appends held holds text) where
   -- the publication of what was published is made of one that does
   pub performed-published : (made : Publication) → publishes ≡ true → plates_of after ≡ plates_of before
       → IsPublication (plates_of after) answered.next.pictures.accepted made
       → HasPerformedLine (act_of before after held holds) s line (Some made)
   performed-published made publishing same publication =
       let given = means.0 publishing in
-      let all = published-all _ s line text answered.next answered.answer given in
+      let all = published-all _ s line (answer_with text answered.next) answered.answer given in
       record {
         text = text;
         next = answered.next;

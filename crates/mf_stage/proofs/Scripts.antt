@@ -4,8 +4,8 @@ use Rattle.std.proofs.KnownBytes.{Appends-nil, Appends-trans}
 use Rattle.std.specs.Io.BufRead.{drop_through}
 use Rattle.std.specs.Io.KnownBytes.{IsAtEnd}
 use Rattle.std.specs.Str.Lines.{lines}
-use Rattle.mf_session.proofs.Performing.{Perform-append}
-use Rattle.mf_session.specs.States.{State}
+use Rattle.mf_session.proofs.Performing.{Perform-append, Perform-one}
+use Rattle.mf_session.specs.States.{State, answer_with}
 use Rattle.mf_session.specs.Transcript.{Perform}
 use Rattle.mf_stage.proofs.Cuts.{next_lines, spelled_line}
 use Rattle.mf_stage.specs.Lines.{IsReadLine, Reads, without_ending}
@@ -39,7 +39,7 @@ pub under_way-start : (stage : Stage) (unread held : Option (List ℕ)) → IsUn
 under_way-start stage unread held = record {
   done = [];
   first = record { bytes = []; spelled = λ rest. refl; ahead = ahead-start unread };
-  performed = λ s stands. record { text = []; last = s; performed = (refl, refl); stands = stands; out = Appends-nil held };
+  performed = λ s stands. record { text = []; last = s; performed = refl; stands = stands; out = Appends-nil held };
 }
 
 -- one line is performed
@@ -48,7 +48,7 @@ performed-one act s line made one =
     record {
       text = one.text;
       last = one.next;
-      performed = (one.text, [], one.next, one.answer, (refl, refl), sym (append-nil one.text));
+      performed = Perform-one (limits act.before) s line (answer_with one.text one.next) one.answer;
       stands = one.stands;
       out = one.out;
     }
@@ -61,8 +61,8 @@ performed-more before now later s done more held holds last same first second =
     record {
       text = first.text ++ second.text;
       last = second.last;
-      performed = Perform-append (limits before) s first.last second.last done more first.text second.text first.performed
-          (subst (λ l. Perform l first.last more second.text second.last) same second.performed);
+      performed = Perform-append (limits before) s done more (answer_with first.text first.last) (answer_with second.text second.last) first.performed
+          (subst (λ l. Perform l first.last more (answer_with second.text second.last)) same second.performed);
       stands = second.stands;
       out = Appends-trans held holds last first.text second.text first.out second.out;
     }

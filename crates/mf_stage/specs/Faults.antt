@@ -6,7 +6,7 @@ use Rattle.mf_image.specs.Boxes.{IsTooLargeForImage}
 use Rattle.mf_live.specs.Entries.{Entry, pic, rev}
 use Rattle.mf_rows.specs.Dots.{Dot}
 use Rattle.mf_session.specs.Answers.{Answers}
-use Rattle.mf_session.specs.States.{State}
+use Rattle.mf_session.specs.States.{State, answer_with}
 use Rattle.mf_session.specs.Transcript.{Due, IsFirstText, Perform, due}
 use Rattle.mf_stage.specs.Scripts.{Act}
 use Rattle.mf_stage.specs.Stages.{StandsFor, limits, plates_of}
@@ -22,10 +22,10 @@ pub record IsCutText (d : Due) (last : State) (written : List ℕ) : Type 0 wher
   pub first : d.whole ≡ done ++ line ∷ more
   pub texts : List ℕ
   pub between : State
-  pub performed : Perform d.limits d.from done texts between
+  pub performed : Perform d.limits d.from done (answer_with texts between)
   pub front : List ℕ
   pub rest : List ℕ
-  pub answer : Answers d.limits between line (front ++ rest) last
+  pub answer : Answers d.limits between line (answer_with (front ++ rest) last)
   pub written_is : written ≡ texts ++ front
 
 -- in this state all that was accepted is published, with this revision

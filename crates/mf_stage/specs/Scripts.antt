@@ -4,7 +4,7 @@ use Rattle.std.specs.Io.KnownBytes.{Appends}
 use Rattle.std.specs.Str.Lines.{lines}
 use Rattle.mf_session.specs.Answers.{Answers}
 use Rattle.mf_session.specs.Sessions.{HasPerformed}
-use Rattle.mf_session.specs.States.{State}
+use Rattle.mf_session.specs.States.{State, answer_with}
 use Rattle.mf_session.specs.Transcript.{due}
 use Rattle.mf_stage.specs.Publications.{Announces}
 use Rattle.mf_stage.specs.Stages.{StandsFor, limits, plates_of, session_of}
@@ -27,7 +27,7 @@ act_of before after held holds = record { before = before; after = after; held =
 pub record HasPerformedLine (act : Act) (s : State) (line : List ℕ) (made : Option Publication) : Type 0 where
   pub text : List ℕ
   pub next : State
-  pub answer : Answers (limits act.before) s line text next
+  pub answer : Answers (limits act.before) s line (answer_with text next)
   pub stands : StandsFor act.after next
   pub out : Appends act.held act.holds text
   pub made_is : Announces (plates_of act.before) line next.pictures.published made

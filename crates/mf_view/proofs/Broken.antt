@@ -4,7 +4,7 @@ use Rattle.std.proofs.KnownBytes.{Appends-nil}
 use Rattle.std.specs.Str.Lines.{lines}
 use Rattle.std.specs.Prelude.{IsSome}
 use Rattle.mf_gf.specs.declared.file.GfFile.{GfFile}
-use Rattle.mf_session.specs.States.{State, start}
+use Rattle.mf_session.specs.States.{State, answer_with, start}
 use Rattle.mf_session.specs.Transcript.{Due, Perform, due}
 use Rattle.mf_stage.specs.Faults.{BreaksScript}
 use Rattle.mf_stage.specs.Faults as stage
@@ -50,7 +50,10 @@ module _ (before after : Stage) (unread told tells : Option (List ℕ)) (limited
         last = done.last;
         written = done.text;
         out = done.out;
-        tells_is = inr (inl (subst (λ l. Perform l start (lines script.input) done.text done.last) limited done.performed, late done.last done.stands));
+        tells_is = inr (inl (
+          subst (λ l. Perform l start (lines script.input) (answer_with done.text done.last)) limited done.performed,
+          late done.last done.stands,
+        ));
       }
 
   -- the fault is that of the script, or one after it
@@ -90,7 +93,7 @@ broken-memory unread told =
       last = start;
       written = [];
       out = Appends-nil told;
-      tells_is = inl (stages.OutOfMemory, refl, record { done = []; more = lines input; first = refl; performed = (refl, refl) });
+      tells_is = inl (stages.OutOfMemory, refl, record { done = []; more = lines input; first = refl; performed = refl });
     }
 
 pub broken-place : (unread told : Option (List ℕ)) → IsBrokenOff unread told told NoPlace

@@ -9,7 +9,7 @@ use Rattle.mf_frame.specs.Canvases.{Size}
 use Rattle.mf_frame.specs.declared.tile.Style.{Style}
 use Rattle.mf_gf.specs.declared.file.GfFile.{GfFile}
 use Rattle.mf_session.specs.Endings.{IsFileOf, complete_list}
-use Rattle.mf_session.specs.States.{State, start}
+use Rattle.mf_session.specs.States.{State, answer_with, start}
 use Rattle.mf_session.specs.Transcript.{Perform}
 use Rattle.mf_stage.specs.Scripts.{PerformsAll, StillStands, act_of}
 use Rattle.mf_stage.specs.Stages.{StandsFor, limits, session_of}
@@ -49,7 +49,7 @@ module _ (style : Style) (canvas : Size) (s : ScreenStreams) (before after : Sta
         record {
           text = done.text;
           last = done.last;
-          performed = subst (λ limits. Perform limits start (lines script.input) done.text done.last) limited done.performed;
+          performed = subst (λ limits. Perform limits start (lines script.input) (answer_with done.text done.last)) limited done.performed;
           out = done.out;
           shown = shown done.last done.stands;
           file_is = (of_file done.last done.stands).keeps;

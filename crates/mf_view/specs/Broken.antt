@@ -4,7 +4,7 @@ use Rattle.std.specs.Io.KnownBytes.{Appends}
 use Rattle.std.specs.Str.Lines.{lines}
 use Rattle.mf_image.specs.Boxes.{IsTooLargeForImage}
 use Rattle.mf_live.specs.Entries.{Entry, pic, rev}
-use Rattle.mf_session.specs.States.{State, start}
+use Rattle.mf_session.specs.States.{State, answer_with, start}
 use Rattle.mf_session.specs.Transcript.{Due, Perform, due}
 use Rattle.mf_stage.specs.Faults as stage
 use Rattle.mf_stage.specs.declared.fault.StageFault.{StageFault}
@@ -27,7 +27,7 @@ IsOfEnd last _ = ⊥
 abbrev pub Tells : Due → State → ProgramFault → List ℕ → Type 0
 Tells d last fault written =
     ((cause : StageFault) × (fault ≡ fault_of_stage cause) × stage.Tells d last cause written)
-    ⊎ ((Perform d.limits d.from d.whole written last × IsOfEnd last.pictures.accepted fault) ⊎ ((fault ≡ NoPlace) × (written ≡ [])))
+    ⊎ ((Perform d.limits d.from d.whole (answer_with written last) × IsOfEnd last.pictures.accepted fault) ⊎ ((fault ≡ NoPlace) × (written ≡ [])))
 
 -- a fault has broken off the performance of a script: of the one that the reader had, where this is known, and else of some bytes; the
 -- transcript, which told some bytes before, tells what the fault says

@@ -7,7 +7,7 @@ use Rattle.mf_frame.specs.declared.tile.Style.{Style}
 use Rattle.mf_gf.specs.declared.file.GfFile.{GfFile}
 use Rattle.mf_gf.specs.Keeping.{Keeps}
 use Rattle.mf_session.specs.Endings.{complete_list}
-use Rattle.mf_session.specs.States.{Limits, State, limits_of, most_bytes, most_operations, start}
+use Rattle.mf_session.specs.States.{Limits, State, answer_with, limits_of, most_bytes, most_operations, start}
 use Rattle.mf_session.specs.Transcript.{Perform}
 use Rattle.mf_view.specs.Drawings.{ShowsLast}
 
@@ -38,7 +38,7 @@ screen_streams_of remaining reader contents screen shown texts transcript grown 
 pub record IsShown (style : Style) (canvas : Size) (s : ScreenStreams) (file : GfFile) (input : List ℕ) : Type 0 where
   pub text : List ℕ
   pub last : State
-  pub performed : Perform script_limits start (lines input) text last
+  pub performed : Perform script_limits start (lines input) (answer_with text last)
   pub out : Appends s.told s.tells text
   pub shown : ShowsLast style canvas (complete_list last.pictures) s.held s.holds
   pub file_is : Keeps file [] last.characters

@@ -2,9 +2,9 @@
 ghost use Rattle.std.specs.Prelude.{◌≡◌, [], IfOk, IsOk, OnErr};
 ghost use Rattle.mf_geom.specs.declared.check.Check.{Check};
 ghost use Rattle.mf_text.specs.Registers.{HasNames, IsSource};
-ghost use Rattle.mf_session.specs.Answers.{ProofAnswers, total_line};
+ghost use Rattle.mf_session.specs.Answers.{AnswersTo, ProofAnswers, total_line};
 ghost use Rattle.mf_session.specs.Changes.{IsClearable};
-ghost use Rattle.mf_session.specs.Sessions.{IsAnsweredTo, StandsFor, identity, limits};
+ghost use Rattle.mf_session.specs.Sessions.{HasAnswered, StandsFor, identity, limits};
 ghost use Rattle.mf_session.specs.States.{State};
 ghost use Rattle.mf_text.specs.declared.command.Command.TheVariants as commands;
 ghost use Rattle.mf_text.specs.declared.command.Name.{Name};
@@ -35,7 +35,7 @@ impl Session {
         command: Command,
     ) -> Result<Vec<u8>, OutOfMemory>
         requires { HasNames command }
-        ensures answer { IfOk result (λ text. (s : State) → StandsFor self.old s → IsAnsweredTo self.old s command text.items self.new) }
+        ensures answer { IfOk result (λ text. (s : State) → StandsFor self.old s → HasAnswered self.new text.items (AnswersTo (limits self.old) s command)) }
         ensures nothing { command ≡ commands.Nothing → IsOk result }
         ensures turning { (check : Check) → command ≡ commands.Turning check → IsOk result }
         ensures clears { (s : State) (name : Name) → StandsFor self.old s → command ≡ commands.Clear name
@@ -89,7 +89,7 @@ impl Session {
     ) -> Result<Vec<u8>, OutOfMemory>
         requires { IsSource source }
         ensures answer { IfOk result (λ text. (s : State) → StandsFor self.old s
-            → IsAnsweredTo self.old s (commands.Ship source code dx width) text.items self.new) }
+            → HasAnswered self.new text.items (AnswersTo (limits self.old) s (commands.Ship source code dx width))) }
         ensures unchanged { OnErr result ((s : State) → StandsFor self.old s → StandsFor self.new s) }
         ensures limits { limits self.new ≡ limits self.old }
         ensures identity { identity self.new ≡ identity self.old }

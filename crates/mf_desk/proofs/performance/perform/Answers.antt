@@ -1,4 +1,4 @@
-use Rattle.std.proofs.Common.{◌≡◌, Err, ⊎_elim, inl, inr, refl, sym, ap, subst, ◌∙◌, arith}
+use Rattle.std.proofs.Common.{◌≡◌, Err, ⊎_elim, inl, inr, sym, ap, subst, ◌∙◌, arith}
 use Rattle.std.proofs.lemmas.Result.{IfOk-weaker, err_from_is_err_and}
 use Rattle.mf_desk.specs.declared.fault.RunFault.TheVariants as faults
 use Rattle.mf_desk.specs.ViewerFaults.{fault_of_start}
@@ -6,49 +6,34 @@ use Rattle.mf_watch.specs.Watching.{AreStarted}
 use Rattle.mf_desk.proofs.Performances.{Tells-nothing, Tells-no_room, Tells-no_place}
 use Rattle.mf_desk.proofs.performance.perform.Goals as goal
 
-pub returns-in_err-memory : goal.returns-in_err-memory
-returns-in_err-memory g c =
+pub returns-in_err-memory-clause-fault : goal.returns-in_err-memory-clause-fault
+returns-in_err-memory-clause-fault g c =
     let wanting = err_from_is_err_and c.from_residual.result c.from_residual.ensures.1 in
-    rw (wanting.1, wanting.2) record {
-      too_small = λ small. inr refl;
-      untouched = λ small. (refl, refl);
-      no_place = λ place. (refl, refl);
-      performance = tt;
-      end = tt;
-      fault = Tells-nothing c.args.settings.now c.args.viewers _ _;
-    }
+    rw (wanting.1, wanting.2) (Tells-nothing c.args.settings.now c.args.viewers _ _)
 
-pub returns-in_err-progress : goal.returns-in_err-progress
-returns-in_err-progress g c =
+pub returns-in_err-progress-clause-fault : goal.returns-in_err-progress-clause-fault
+returns-in_err-progress-clause-fault g c =
     let settings = c.args.settings.now in
     let passed_on = err_from_is_err_and c.from_residual-in_err-progress.result c.from_residual-in_err-progress.ensures.1 in
     let refused = c.in_err-progress.ensures in
-    rw (passed_on.1, passed_on.2) record {
-      too_small = λ small. ⊎_elim (λ long. inl (ap Err long)) (λ wanting. inr (ap Err wanting)) refused.fault;
-      untouched = λ small. (refl, refl);
-      no_place = λ place. (refl, refl);
-      performance = tt;
-      end = tt;
-      fault = ⊎_elim (λ long. rw long (Tells-no_room settings c.args.viewers _ _ (refused.too_long.1 (ap Err long))))
-          (λ wanting. rw wanting (Tells-nothing settings c.args.viewers _ _)) refused.fault;
-    }
+    rw (passed_on.1, passed_on.2) (⊎_elim (λ long. rw long (Tells-no_room settings c.args.viewers _ _ (refused.too_long.1 (ap Err long))))
+    (λ wanting. rw wanting (Tells-nothing settings c.args.viewers _ _)) refused.fault)
 
-pub returns-in-Err : goal.returns-in-Err
-returns-in-Err g c =
+pub returns-in_err-progress-clause-too_small : goal.returns-in_err-progress-clause-too_small
+returns-in_err-progress-clause-too_small g c =
+    let passed_on = err_from_is_err_and c.from_residual-in_err-progress.result c.from_residual-in_err-progress.ensures.1 in
+    rw (passed_on.1, passed_on.2)
+    (λ small. ⊎_elim (λ long. inl (ap Err long)) (λ wanting. inr (ap Err wanting)) c.in_err-progress.ensures.fault)
+
+pub returns-in-Err-clause-fault : goal.returns-in-Err-clause-fault
+returns-in-Err-clause-fault g c =
     let settings = c.args.settings.now in
-    record {
-      too_small = λ small. let refused = c.in_ok-progress.ensures.too_long.0 small in absurd (cc);
-      untouched = λ small. (refl, refl);
-      no_place = λ place. (refl, refl);
-      performance = tt;
-      end = tt;
-      fault = ⊎_elim (λ none.
-          let is : c.into.result ≡ faults.NoPlace = c.into.ensures ∙ ap fault_of_start none.0 in
-          rw is (Tells-no_place settings c.args.viewers _ _ none.1))
-          (λ wanting.
-          let is : c.into.result ≡ faults.OutOfMemory = c.into.ensures ∙ ap fault_of_start wanting in
-          rw is (Tells-nothing settings c.args.viewers _ _)) c.in-Err.ensures.fault;
-    }
+    ⊎_elim (λ none.
+    let is : c.into.result ≡ faults.NoPlace = c.into.ensures ∙ ap fault_of_start none.0 in
+    rw is (Tells-no_place settings c.args.viewers _ _ none.1))
+    (λ wanting.
+    let is : c.into.result ≡ faults.OutOfMemory = c.into.ensures ∙ ap fault_of_start wanting in
+    rw is (Tells-nothing settings c.args.viewers _ _)) c.in-Err.ensures.fault
 
 pub perform_beside_viewers-requires-clause-few : goal.perform_beside_viewers-requires-clause-few
 perform_beside_viewers-requires-clause-few g c = omega (arith, c.requires, c.in-Ok.ensures.count)

@@ -1,4 +1,4 @@
-use Rattle.std.proofs.Common.{ℕ, List, Option, Err, ⊎_elim, inl, inr, refl, ap, subst, length}
+use Rattle.std.proofs.Common.{ℕ, List, Option, Err, ⊎_elim, inl, inr, ap, subst, length}
 use Rattle.std.specs.Io.KnownBytes.{Appends}
 use Rattle.std.proofs.KnownBytes.{Appends-nil}
 use Rattle.std.proofs.lemmas.List.Elements.{All-nil}
@@ -24,79 +24,54 @@ ended g c =
     subst (λ l. EndsWith l (streams_of g.R.Read.remaining c.args.reader.now c.complete.new.reader g.W.Write.contents c.args.writer.now
     c.complete.new.writer) c.in_ok-ended.ended) c.in_ok-progress.ensures.limits c.in_ok-ended.ensures.over
 
-pub returns-in_err-memory : goal.returns-in_err-memory
-returns-in_err-memory g c =
+pub returns-in_err-memory-clause-fault : goal.returns-in_err-memory-clause-fault
+returns-in_err-memory-clause-fault g c =
     let wanting = err_from_is_err_and c.from_residual.result c.from_residual.ensures.1 in
-    rw (wanting.1, wanting.2) record {
-      transcript = tt;
-      end = tt;
-      fault = Tells-nothing c.args.settings.now 0 _ _;
-      too_small = λ small. inr refl;
-      untouched = λ small. (refl, refl);
-    }
+    rw (wanting.1, wanting.2) (Tells-nothing c.args.settings.now 0 _ _)
 
-pub returns-in_err-progress : goal.returns-in_err-progress
-returns-in_err-progress g c =
+pub returns-in_err-progress-clause-fault : goal.returns-in_err-progress-clause-fault
+returns-in_err-progress-clause-fault g c =
     let settings = c.args.settings.now in
     let passed_on = err_from_is_err_and c.from_residual-in_err-progress.result c.from_residual-in_err-progress.ensures.1 in
     let refused = c.in_err-progress.ensures in
-    rw (passed_on.1, passed_on.2) record {
-      transcript = tt;
-      end = tt;
-      fault = ⊎_elim (λ long. rw long (Tells-no_room settings 0 _ _ (refused.too_long.1 (ap Err long))))
-          (λ wanting. rw wanting (Tells-nothing settings 0 _ _)) refused.fault;
-      too_small = λ small. ⊎_elim (λ long. inl (ap Err long)) (λ wanting. inr (ap Err wanting)) refused.fault;
-      untouched = λ small. (refl, refl);
-    }
+    rw (passed_on.1, passed_on.2) (⊎_elim (λ long. rw long (Tells-no_room settings 0 _ _ (refused.too_long.1 (ap Err long))))
+    (λ wanting. rw wanting (Tells-nothing settings 0 _ _)) refused.fault)
 
-pub returns-in_err-ended : goal.returns-in_err-ended
-returns-in_err-ended g c =
+pub returns-in_err-progress-clause-too_small : goal.returns-in_err-progress-clause-too_small
+returns-in_err-progress-clause-too_small g c =
+    let passed_on = err_from_is_err_and c.from_residual-in_err-progress.result c.from_residual-in_err-progress.ensures.1 in
+    rw (passed_on.1, passed_on.2)
+    (λ small. ⊎_elim (λ long. inl (ap Err long)) (λ wanting. inr (ap Err wanting)) c.in_err-progress.ensures.fault)
+
+pub returns-in_err-ended-clause-fault : goal.returns-in_err-ended-clause-fault
+returns-in_err-ended-clause-fault g c =
     let passed_on = err_from_is_err_and c.from_residual-in_err-ended.result c.from_residual-in_err-ended.ensures.1 in
-    rw (passed_on.1, passed_on.2) record {
-      transcript = tt;
-      end = tt;
-      fault = Tells-script c.args.settings.now 0 _ _ _ c.in_ok-progress.ensures.limits c.in_err-ended.ensures.fault;
-      too_small = λ small. let refused = c.in_ok-progress.ensures.too_long.0 small in absurd (cc);
-      untouched = λ small. let refused = c.in_ok-progress.ensures.too_long.0 small in absurd (cc);
-    }
+    rw (passed_on.1, passed_on.2)
+    (Tells-script c.args.settings.now 0 _ _ _ c.in_ok-progress.ensures.limits c.in_err-ended.ensures.fault)
 
-pub returns-in_err-gf : goal.returns-in_err-gf
-returns-in_err-gf g c =
-    let settings = c.args.settings.now in
+pub returns-in_err-gf-clause-fault : goal.returns-in_err-gf-clause-fault
+returns-in_err-gf-clause-fault g c =
     let held = g.W.Write.contents c.args.writer.now in
     let holds = g.W.Write.contents c.complete.new.writer in
     let run = c.in_ok-ended.ended in
-    let (read, consumed, over) = ended g (goal.at.returns-in_err-gf g c).In_ok-ended in
+    let (read, consumed, over) = ended g (goal.at.returns-in_err-gf-clause-fault g c).In_ok-ended in
     let passed_on = err_from_is_err_and c.from_residual-in_err-gf.result c.from_residual-in_err-gf.ensures.1 in
-    rw (passed_on.1, passed_on.2) record {
-      transcript = tt;
-      end = tt;
-      fault = Tells-unfinished settings 0 held holds holds read run over _ _ consumed c.in_ok-ended.ensures.end (nobody holds run)
-          c.file.result _ c.file.ensures (λ long characters keeps. (c.in_err-gf.ensures.too_long characters keeps).1 (ap Err long)) c.in_err-gf.ensures.fault;
-      too_small = λ small. let refused = c.in_ok-progress.ensures.too_long.0 small in absurd (cc);
-      untouched = λ small. let refused = c.in_ok-progress.ensures.too_long.0 small in absurd (cc);
-    }
+    rw (passed_on.1, passed_on.2)
+    (Tells-unfinished c.args.settings.now 0 held holds holds read run over _ _ consumed c.in_ok-ended.ensures.end (nobody holds run)
+    c.file.result _ c.file.ensures (λ long characters keeps. (c.in_err-gf.ensures.too_long characters keeps).1 (ap Err long)) c.in_err-gf.ensures.fault)
 
-pub returns : goal.returns
-returns g c = record {
-  transcript = λ looks.
-      let settings = c.args.settings.now in
-      let held = g.W.Write.contents c.args.writer.now in
-      let holds = g.W.Write.contents c.complete.new.writer in
-      let run = c.in_ok-ended.ended in
-      let (read, consumed, over) = ended g (goal.at.returns g c).In_ok-ended in
-      let outcome : Outcome = record { gf = c.in_ok-gf.gf; seen = c.new-2.result } in
-      let unread = g.R.Read.remaining c.args.reader.now in
-      let left = g.R.Read.remaining c.complete.new.reader in (
-        read,
-        consumed,
-        IsPerformance-over settings 0 held holds holds read run over unread left looks outcome c.file.result c.file.ensures
-            (λ characters keeps.
-            ((λ long. let refused = (c.in_ok-gf.ensures.too_long characters keeps).0 long in absurd (cc)), c.in_ok-gf.ensures.some characters keeps))
-            (nobody holds run) (ap length c.new-2.ensures.items) (rw c.new-2.ensures.items (All-nil _)),
-      );
-  end = c.in_ok-ended.ensures.end;
-  fault = tt;
-  too_small = λ small. let refused = c.in_ok-progress.ensures.too_long.0 small in absurd (cc);
-  untouched = λ small. let refused = c.in_ok-progress.ensures.too_long.0 small in absurd (cc);
-}
+pub returns-clause-transcript : goal.returns-clause-transcript
+returns-clause-transcript g c looks =
+    let held = g.W.Write.contents c.args.writer.now in
+    let holds = g.W.Write.contents c.complete.new.writer in
+    let run = c.in_ok-ended.ended in
+    let (read, consumed, over) = ended g (goal.at.returns-clause-transcript g c).In_ok-ended in
+    let outcome : Outcome = record { gf = c.in_ok-gf.gf; seen = c.new-2.result } in (
+      read,
+      consumed,
+      IsPerformance-over c.args.settings.now 0 held holds holds read run over (g.R.Read.remaining c.args.reader.now)
+          (g.R.Read.remaining c.complete.new.reader) looks outcome c.file.result c.file.ensures
+          (λ characters keeps.
+          ((λ long. let refused = (c.in_ok-gf.ensures.too_long characters keeps).0 long in absurd (cc)), c.in_ok-gf.ensures.some characters keeps))
+          (nobody holds run) (ap length c.new-2.ensures.items) (rw c.new-2.ensures.items (All-nil _)),
+    )

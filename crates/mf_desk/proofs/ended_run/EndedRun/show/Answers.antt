@@ -2,7 +2,7 @@ use Rattle.std.proofs.Common.{◌≡◌, ◌<◌, All, IfErr, IfOk, length, subs
 use Rattle.std.proofs.lemmas.Result.{IfErr-weaker, IfOk-weaker}
 use Rattle.mf_watch.specs.Watchers.{IsRecord}
 use Rattle.mf_desk.specs.EndedRuns.{BreaksLooks, last_looks}
-use Rattle.mf_desk.proofs.Showing.{IsShown-start, Tells-no_look}
+use Rattle.mf_desk.proofs.Showing.{IsShown-start, breaks-no_look}
 use Rattle.mf_desk.proofs.ended_run.EndedRun.show.Goals as goal
 
 pub returns-in-Ok-clause-seen : goal.returns-in-Ok-clause-seen
@@ -19,8 +19,6 @@ returns-in-Ok-clause-fault g c =
     subst (λ n. BreaksLooks (last_looks run n holds (g.W.Write.contents c.show_all.new.writer)) fault) count stops) c.show_all.ensures.fault
 
 pub returns-in-Err-clause-fault : goal.returns-in-Err-clause-fault
-returns-in-Err-clause-fault g c = λ viewers joined some settings held left read all_read over.
-    let run = c.args.self.now in
-    let holds = g.W.Write.contents c.args.writer.now in
-    Tells-no_look settings viewers held left holds read run over all_read run 0 holds (subst (λ r. IfErr r (λ _. 0 < viewers)) c.in-Err.is some)
-    (IsShown-start run holds)
+returns-in-Err-clause-fault g c = λ viewers joined some.
+    breaks-no_look viewers _ c.args.self.now (IsShown-start c.args.self.now (g.W.Write.contents c.args.writer.now))
+    (subst (λ r. IfErr r (λ _. 0 < viewers)) c.in-Err.is some)

@@ -1,4 +1,4 @@
-use Rattle.std.proofs.Common.{[], inl, false, refl, subst, sym, arith}
+use Rattle.std.proofs.Common.{[], inl, false, refl, sym, arith}
 use Rattle.std.proofs.KnownBytes.{Appends-nil}
 use Rattle.std.proofs.lemmas.Bool.{eqb-true}
 use Rattle.std.proofs.lemmas.List.{nil_from_length}
@@ -7,11 +7,11 @@ use Rattle.mf_text.specs.Tokens.{tokens_from, tokens_within}
 use Rattle.mf_text.specs.declared.command.Command.TheVariants.{Nothing}
 use Rattle.mf_session.specs.Answers.{Answers}
 use Rattle.mf_session.specs.Sessions.{limits}
-use Rattle.mf_session.specs.States.{Limits, State}
+use Rattle.mf_session.specs.States.{Limits, State, answer_with}
 use Rattle.mf_desk.proofs.performer.Performer.perform.Goals as goal
 
 -- an empty line prints nothing and changes nothing
-empty-answers : (bounds : Limits) (s : State) → Answers bounds s [] [] s
+empty-answers : (bounds : Limits) (s : State) → Answers bounds s [] (answer_with [] s)
 unfolding tokens_from tokens_within
 empty-answers bounds s =
     inl (record {
@@ -21,12 +21,18 @@ empty-answers bounds s =
         line_is = record { text = record { short = omega arith; text = refl }; spelled = refl };
         so = refl;
       };
-      answer = (refl, refl);
+      answer = refl;
     })
 
 pub returns-then-is_empty-clause-written : goal.returns-then-is_empty-clause-written
-returns-then-is_empty-clause-written g c = λ s stands.
-    let before = c.args.self.now in
+returns-then-is_empty-clause-written g c =
     let none = nil_from_length c.args.line.now (eqb-true _ 0 (sym c.if-is_empty.ensures)) in
-    let answer = subst (λ line. Answers (limits before.session) s line [] s) (sym none) (empty-answers (limits before.session) s) in
-    ([], Appends-nil _, record { answered = record { next = s; answer = answer; stands = stands }; counted = omega arith; short = omega arith })
+    let bounds = limits c.args.self.now.session in (
+      [],
+      Appends-nil _,
+      record {
+        answered = λ s stands. record { next = s; answer = rw none (empty-answers bounds s); stands = stands };
+        counted = omega arith;
+        short = omega arith;
+      },
+    )

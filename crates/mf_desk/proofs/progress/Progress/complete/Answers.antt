@@ -1,6 +1,7 @@
 use Rattle.std.proofs.Common.{subst}
 use Rattle.std.proofs.lemmas.Result.{IfOk-weaker, IfErr-weaker}
 use Rattle.mf_desk.specs.EndedRuns.{IsOver}
+use Rattle.mf_desk.specs.Streams.{Gets}
 use Rattle.mf_desk.proofs.ScriptEnds.{Breaks-unended, IsOver-ended}
 use Rattle.mf_desk.proofs.progress.Progress.complete.Goals as goal
 
@@ -12,7 +13,7 @@ returns-in-Ok-clause-over g c =
     let performer = c.read_all.new.self.performer in
     IfOk-weaker c.finish.result _ _ (λ run ended.
     let over = IsOver-ended held holds read performer run through (ended through.done.last through.done.stands) in
-    (read, consumed, subst (λ l. IsOver l held read run holds) c.in-Ok.ensures.limits over)) c.finish.ensures.ended
+    (read, consumed, subst (λ l. Gets held holds (IsOver l read run)) c.in-Ok.ensures.limits over)) c.finish.ensures.ended
 
 pub returns-in-Ok-clause-fault : goal.returns-in-Ok-clause-fault
 returns-in-Ok-clause-fault g c =

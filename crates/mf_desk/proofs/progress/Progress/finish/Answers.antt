@@ -1,9 +1,11 @@
-use Rattle.std.proofs.Common.{Result, Ok, Err, append-nil, inr, sym}
+use Rattle.std.proofs.Common.{ℕ, List, Option, Result, Ok, Err, append-nil, inr, sym}
 use Rattle.std.specs.Prelude.{OnOk}
 use Rattle.std.specs.Str.Lines.{lines}
 use Rattle.std.proofs.lemmas.Result.{err_from_is_err_and, IfErr-weaker}
+use Rattle.mf_desk.specs.Progress.{HasCounted, IsAfter}
 use Rattle.mf_desk.proofs.Ended.{lines-none}
 use Rattle.mf_desk.proofs.Stages.{HasCounted-flushed, HasCounted-last, empty-unended, Breaks-last, Breaks-flush}
+use Rattle.mf_desk.proofs.progress.Progress.finish.Goals.{In_ok-perform}
 use Rattle.mf_desk.proofs.progress.Progress.finish.Goals as goal
 
 pub returns-then-is_empty-clause-done : goal.returns-then-is_empty-clause-done
@@ -20,23 +22,23 @@ returns-in_err-perform-clause-fault g c =
     let passed_on = err_from_is_err_and c.from_residual.result c.from_residual.ensures.1 in
     let broken = rw c.at_end.ensures at c.in_err-perform.ensures.fault in
     rw (passed_on.1, passed_on.2) (λ held left read all_read after.
-    Breaks-last held _ read c.args.self.now after c.in_err-perform.field-0.0 left _ all_read (sym (c.if-is_empty.ensures))
-    (broken after.lines.done.last after.lines.done.stands))
+    Breaks-last held _ read c.args.self.now after c.in_err-perform.field-0.0 left _ all_read (sym (c.if-is_empty.ensures)) broken)
+
+-- the last line has been performed, and its text written
+performed : (g : _) (c : In_ok-perform g) (held : Option (List ℕ)) (read : List ℕ) → IsAfter held read c.args.self.now (g.W.Write.contents c.args.writer.now)
+    → HasCounted held (lines read) c.perform.new.self (g.W.Write.contents c.perform.new.writer)
+performed g c held read after =
+    HasCounted-last held _ read c.args.self.now after _ c.perform.new.self (sym c.if-is_empty.ensures) c.perform.ensures.limits
+    (rw c.at_end.ensures at c.in_ok-perform.ensures.written)
 
 pub returns-clause-done : goal.returns-clause-done
 returns-clause-done g c =
-    let some = sym c.if-is_empty.ensures in
-    let written = rw c.at_end.ensures at c.in_ok-perform.ensures.written in
-    always c.flush.result (λ held read after.
-    HasCounted-flushed held _ _ _ c.perform.new.self c.flush.ensures.kept
-    (HasCounted-last held _ read c.args.self.now after _ c.perform.new.self some c.perform.ensures.limits
-    (written after.lines.done.last after.lines.done.stands)))
+    let done = performed g (goal.at.returns-clause-done g c).In_ok-perform in
+    always c.flush.result (λ held read after. HasCounted-flushed held _ _ _ c.perform.new.self c.flush.ensures.kept (done held read after))
 
 pub returns-clause-fault : goal.returns-clause-fault
 returns-clause-fault g c =
-    let some = sym c.if-is_empty.ensures in
-    let written = rw c.at_end.ensures at c.in_ok-perform.ensures.written in
+    let done = performed g (goal.at.returns-clause-fault g c).In_ok-perform in
     IfErr-weaker c.flush.result _ _ (λ fault is held left read all_read after.
     Breaks-flush _ held left _ _ read (lines read) c.perform.new.self (inr (all_read, sym (append-nil _))) c.perform.ensures.limits c.flush.ensures.kept
-    (HasCounted-last held _ read c.args.self.now after _ c.perform.new.self some c.perform.ensures.limits
-    (written after.lines.done.last after.lines.done.stands)) fault is) c.flush.ensures.fault
+    (done held read after) fault is) c.flush.ensures.fault

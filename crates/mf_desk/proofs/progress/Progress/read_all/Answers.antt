@@ -4,7 +4,7 @@ use Rattle.std.proofs.lemmas.Result.{err_from_is_err_and, on_ok_weaker, IfErr-we
 use Rattle.std.specs.Io.KnownBytes.{Consumes, IsAtEnd}
 use Rattle.mf_desk.specs.Ended.{ended_lines}
 use Rattle.mf_desk.specs.Fault.{Breaks}
-use Rattle.mf_desk.specs.Streams.{HasPassed}
+use Rattle.mf_desk.specs.Streams.{Gets, Passing}
 use Rattle.mf_session.specs.Sessions.{limits}
 use Rattle.mf_desk.proofs.Stages.{Breaks-flush, Breaks-reads, IsAfter-flushed}
 use Rattle.mf_desk.proofs.progress.Progress.read_all.Goals as goal
@@ -72,7 +72,7 @@ returns-in_err-take-in-Ok-clause-fault g c =
     rw (passed_on.1, passed_on.2, ← c.reads.invariant.2) (
       bytes,
       Consumes-trans _ _ _ read _ consumed c.in-Ok.ensures.bytes.0,
-      subst (λ all. HasPassed (Breaks (limits c.reads.self.performer.session) c.in_err-take-in-Ok.field-0.0) left all held later) (append-nil bytes)
+      subst (λ all. Gets held later (Passing (Breaks (limits c.reads.self.performer.session) c.in_err-take-in-Ok.field-0.0) left all)) (append-nil bytes)
           (c.in_err-take-in-Ok.ensures.fault held _ read [] after),
     )
 

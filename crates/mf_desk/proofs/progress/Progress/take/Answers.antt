@@ -1,10 +1,11 @@
-use Rattle.std.proofs.Common.{◌≡◌, ◌+◌, ◌<◌, ◌==◌, ◌++◌, ◌∷◌, [], List, ℕ, true, length, get_or, take, drop, sym, ap, ◌∙◌, subst, arith, append-nil, append_assoc, refl, length-append, take-append-drop}
+use Rattle.std.proofs.Common.{◌≡◌, ◌+◌, ◌<◌, ◌==◌, ◌++◌, ◌∷◌, [], List, ℕ, true, length, get_or, take, drop, sym, ap, ◌∙◌, subst}
+use Rattle.std.proofs.Common.{arith, append-nil, append_assoc, refl, length-append, take-append-drop}
 use Rattle.std.proofs.lemmas.Bool.{eqb-true, eq-eqb}
 use Rattle.std.proofs.lemmas.List.{drop_more, get_or-take, get_or_default, length-take-le, take_rest}
 use Rattle.std.proofs.lemmas.Result.{err_from_is_err_and, on_ok_weaker, IfErr-weaker}
 use Rattle.mf_desk.specs.Progress.{IsAfter}
 use Rattle.mf_desk.specs.Fault.{Breaks}
-use Rattle.mf_desk.specs.Streams.{HasPassed}
+use Rattle.mf_desk.specs.Streams.{Gets, Passing}
 use Rattle.mf_session.specs.Sessions.{limits}
 use Rattle.mf_desk.proofs.progress.Progress.take.Goals as goal
 
@@ -36,7 +37,7 @@ returns-in_err-take_line-clause-fault g c =
     let passed_on = err_from_is_err_and c.from_residual.result c.from_residual.ensures.1 in
     rw (passed_on.1, passed_on.2, ← same) (
     λ held left read more after.
-    subst (λ all. HasPassed (Breaks (limits c.lines.self.performer.session) c.in_err-take_line.field-0.0) left all held later) (whole read more)
+    subst (λ all. Gets held later (Passing (Breaks (limits c.lines.self.performer.session) c.in_err-take_line.field-0.0) left all)) (whole read more)
     (c.in_err-take_line.ensures.fault held left (read ++ done) (drop (at + 1) rest ++ more) (goes_on held read after))
     )
 
@@ -71,8 +72,8 @@ pub returns-clause-fault : goal.returns-clause-fault
 returns-clause-fault g c =
     let (done, bytes_are, few, goes_on, same, identity_is) = c.lines.invariant in
     IfErr-weaker c.keep.result _ _ (λ fault cut_short held left read more after.
-    subst (λ l. HasPassed (Breaks l fault) left (read ++ c.args.bytes.now ++ more) held (g.W.Write.contents c.lines.writer)) same
-    (subst (λ all. HasPassed (Breaks (limits c.lines.self.performer.session) fault) left (all ++ more) held (g.W.Write.contents c.lines.writer))
+    subst (λ l. Gets held (g.W.Write.contents c.lines.writer) (Passing (Breaks l fault) left (read ++ c.args.bytes.now ++ more))) same
+    (subst (λ all. Gets held (g.W.Write.contents c.lines.writer) (Passing (Breaks (limits c.lines.self.performer.session) fault) left (all ++ more)))
     (all_taken read done c.lines.rest.now c.args.bytes.now bytes_are)
     (cut_short _ held left (read ++ done) more (goes_on held read after)))) c.keep.ensures.fault
 

@@ -4,7 +4,7 @@ use Rattle.std.proofs.lemmas.List.{nil_from_length}
 use Rattle.std.proofs.lemmas.Result.{err_from_is_err_and, on_ok_weaker, IfErr-weaker}
 use Rattle.mf_desk.specs.Progress.{IsAfter}
 use Rattle.mf_desk.specs.Fault.{Breaks}
-use Rattle.mf_desk.specs.Streams.{HasPassed}
+use Rattle.mf_desk.specs.Streams.{Gets, Passing}
 use Rattle.mf_session.specs.Sessions.{limits}
 use Rattle.mf_desk.proofs.Stages.{IsAfter-whole, Breaks-whole}
 use Rattle.mf_desk.proofs.progress.Progress.take_line.Goals as goal
@@ -21,22 +21,22 @@ returns-then-is_empty-clause-after g c =
     let written = rw c.before_line_feed-line.ensures at c.perform.ensures.written in
     on_ok_weaker c.perform.result (λ done held read after.
     IsAfter-whole held _ read c.args.bytes.now old after none c.requires.unbroken _
-    (record { performer = c.perform.new.self; line = old.line }) (done after.lines.done.last after.lines.done.stands) c.perform.ensures.limits
+    (record { performer = c.perform.new.self; line = old.line }) done c.perform.ensures.limits
     (nil_from_length old.line (eqb-true _ 0 none))) written
 
 pub returns-then-is_empty-clause-fault : goal.returns-then-is_empty-clause-fault
 returns-then-is_empty-clause-fault g c =
     let broken_off = rw c.before_line_feed-line.ensures at c.perform.ensures.fault in
     IfErr-weaker c.perform.result _ _ (λ fault broken held left read more after.
-    Breaks-whole held _ read c.args.bytes.now c.args.self.now after (sym (c.if-is_empty.ensures)) c.requires.unbroken fault left _ more
-    (broken after.lines.done.last after.lines.done.stands)) broken_off
+    Breaks-whole held _ read c.args.bytes.now c.args.self.now after (sym (c.if-is_empty.ensures)) c.requires.unbroken fault left _ more broken) broken_off
 
 pub returns-in_err-keep-clause-fault : goal.returns-in_err-keep-clause-fault
 returns-in_err-keep-clause-fault g c =
     let passed_on = err_from_is_err_and c.from_residual.result c.from_residual.ensures.1 in
+    let bounds = limits c.args.self.now.performer.session in
     rw (passed_on.1, passed_on.2) (
     λ held left read more after.
-    subst (λ all. HasPassed (Breaks (limits c.args.self.now.performer.session) c.in_err-keep.field-0.0) left all held (g.W.Write.contents c.args.writer.now))
+    subst (λ all. Gets held (g.W.Write.contents c.args.writer.now) (Passing (Breaks bounds c.in_err-keep.field-0.0) left all))
     (regrouped read c.args.bytes.now more) (c.in_err-keep.ensures.fault _ held left read (10 ∷ more) after)
     )
 
@@ -50,8 +50,9 @@ returns-clause-after g c =
 pub returns-clause-fault : goal.returns-clause-fault
 returns-clause-fault g c =
     IfErr-weaker c.end_line.result _ _ (λ fault cut_short held left read more after.
-    subst (λ performer. HasPassed (Breaks (limits performer.session) fault) left (read ++ (c.args.bytes.now ++ 10 ∷ []) ++ more) held
-    (g.W.Write.contents c.end_line.new.writer)) c.keep.ensures.same
-    (subst (λ front. HasPassed (Breaks (limits c.keep.new.self.performer.session) fault) left (front ++ more) held (g.W.Write.contents c.end_line.new.writer))
+    let later = g.W.Write.contents c.end_line.new.writer in
+    subst (λ performer. Gets held later (Passing (Breaks (limits performer.session) fault) left (read ++ (c.args.bytes.now ++ 10 ∷ []) ++ more)))
+    c.keep.ensures.same
+    (subst (λ front. Gets held later (Passing (Breaks (limits c.keep.new.self.performer.session) fault) left (front ++ more)))
     (append_assoc read c.args.bytes.now (10 ∷ []))
     (cut_short held left (read ++ c.args.bytes.now) more (c.in_ok-keep.ensures.after _ held read after)))) c.end_line.ensures.fault

@@ -21,7 +21,7 @@ returns-in-Ok-clause-answer c =
     let printed : c.into_bytes-text.result.items ≡ codes "[" ++ decimal c.args.code ++ codes "]\n" = search rules in
     record {
       next = state_of c.args.self.now (characters ++ shipped ∷ []);
-      answer = (inr (record { fits = fits; printed = printed; appended = refl }), record { pictures = refl; check = refl });
+      answer = inr (record { fits = fits; is = rw printed refl });
       stands = record { pictures = refl; check = refl; file = keeps };
     })
 
@@ -35,7 +35,7 @@ returns-in-Err-FileTooLong-clause-answer c =
     (rw (dx, width, c.source-picture.ensures) at (c.in-Err-FileTooLong.ensures.too_long [] characters kept)).1 (ap Err c.in-Err-FileTooLong.field-0-is) in
     record {
       next = state_of c.args.self.now characters;
-      answer = (inl (record { too_long = long; printed = printed; same = refl }), record { pictures = refl; check = refl });
+      answer = inl (record { too_long = long; is = rw printed refl });
       stands = record { pictures = refl; check = refl; file = keeps-same _ _ [] characters c.in-Err-FileTooLong.ensures.unchanged kept };
     }))
     c.refusal_line.ensures

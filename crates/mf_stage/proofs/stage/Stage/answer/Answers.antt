@@ -2,6 +2,7 @@ use Rattle.std.proofs.Common.{inl, refl, subst, sym}
 use Rattle.std.proofs.lemmas.Result.{err_from_is_err_and}
 use Rattle.std.specs.Io.KnownBytes.{Appends}
 use Rattle.mf_base.specs.Messages.{GetsMessage}
+use Rattle.mf_session.specs.States.{answer_with}
 use Rattle.mf_stage.proofs.Broken.{line-cut, line-published, nothing-done}
 use Rattle.mf_stage.specs.declared.stage.Stage.{Stage}
 use Rattle.mf_stage.proofs.Performed.{performed-published, published-all}
@@ -27,7 +28,7 @@ returns-in_err-publication-clause-begun g c =
     rw (failed.1, failed.2) (λ s stands.
     let answered = c.in_ok-text.ensures.answer s stands in
     let given = c.in_ok-publishes.ensures.0 c.if-publishes.true in
-    let all = published-all _ s c.args.line.now c.in_ok-text.text.items answered.next answered.answer given in
+    let all = published-all _ s c.args.line.now (answer_with c.in_ok-text.text.items answered.next) answered.answer given in
     line-published _ s answered.next c.args.line.now c.in_ok-text.text.items _ answered.answer answered.stands
     (subst (Appends _ _) c.as_slice.ensures.value c.in_ok-write_text.ensures.text) all
     (subst (λ shown. IsOfPlate shown c.in_err-publication.field-0.0) (sym all) (inl (c.in_err-publication.ensures.fault answered.next answered.stands)))
