@@ -1,5 +1,6 @@
 -- The lines of a script are its first line and the lines of the rest.
-use Rattle.std.proofs.Common.{◌≡◌, ◌≢◌, ◌⊎◌, ◌-◌, ◌<◌, ℕ, Bool, false, eqb, List, [], ◌∷◌, ◌++◌, get_or, length, take, inl, inr, refl, sym, ap, ◌∙◌, ⊎_elim, append-nil, length-append, append_assoc, subst, take_all, arith}
+use Rattle.std.proofs.Common.{◌≡◌, ◌≢◌, ◌⊎◌, ◌-◌, ◌<◌, ℕ, Bool, false, eqb, List, [], ◌∷◌, ◌++◌, get_or, length, take, inl, inr, refl, sym}
+use Rattle.std.proofs.Common.{ap, ◌∙◌, ⊎_elim, append-nil, length-append, append_assoc, subst, take_all, arith}
 use Rattle.std.proofs.BufReadLemmas.{take_through-append, drop_through-append}
 use Rattle.std.proofs.lemmas.Bool.{eqb-true, eqb-false, ne_eqb, eq-eqb, cases_Bool, cond-false, cond-true}
 use Rattle.std.proofs.lemmas.List.{get_or-take, get_or_at, get_or_push, length-take-le, take-append-le}

@@ -1,5 +1,6 @@
 -- The paths of image files.
-use Rattle.std.proofs.Common.{◌≡◌, ◌-◌, ◌++◌, ◌^◌, ℕ, List, [], Result, Ok, Err, String, IfOk, decimal, false, length, replicate, string_bytes, ap, ◌∙◌, append-nil, append_assoc, arith, codes}
+use Rattle.std.proofs.Common.{◌≡◌, ◌-◌, ◌++◌, ◌^◌, ℕ, List, [], Result, Ok, Err, String, IfOk, decimal, false, length, replicate}
+use Rattle.std.proofs.Common.{string_bytes, ap, ◌∙◌, append-nil, append_assoc, arith, codes}
 use Rattle.core.specs.Fmt.{char_count, format_spec, padded_integral, styled_decimal}
 use Rattle.core.specs.declared.fmt.FormatSpec.{FormatSpec}
 use Rattle.mf_stage.specs.Plates.{path_of, seven_digits}

@@ -8,7 +8,7 @@ use Rattle.std.specs.Str.Lines.{strip_carriage_return}
 abbrev pub without_ending : List ℕ → List ℕ
 without_ending line = if slice_index line (length line - 1) == 10 then strip_carriage_return (take (length line - 1) line) else line
 
--- of these bytes, which are not all, the first line was read, with the line feed that ends it if one does, and this is left
+-- of these bytes, of which there is at least one, the first line was read, with the line feed that ends it if one does, and this is left
 pub record Reads (input line : List ℕ) (left : Option (List ℕ)) : Type 0 where
   pub some : 0 < length input
   pub line_is : line ≡ take_through 10 input

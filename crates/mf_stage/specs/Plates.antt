@@ -1,5 +1,6 @@
 -- The image files of a picture.
 use Rattle.std.specs.Prelude.{◌≡◌, ◌-◌, ◌++◌, Bool, true, false, ℕ, List, Option, None, Some, codes, decimal, length, replicate, string_bytes}
+use Rattle.mf_image.specs.Boxes.{IsTooLargeForImage}
 use Rattle.mf_image.specs.Pgm.{pgm_bytes}
 use Rattle.mf_image.specs.Svg.{svg_text}
 use Rattle.mf_image.specs.declared.fault.ImageFault.{ImageFault}
@@ -19,8 +20,9 @@ seven_digits n = replicate (7 - length (decimal n)) 48 ++ decimal n
 abbrev pub path_of : List ℕ → ℕ → List ℕ → List ℕ
 path_of folder revision extension = folder ++ codes "/" ++ seven_digits revision ++ codes "." ++ extension
 
--- the SVG image of a picture that has this revision
+-- the SVG image of a picture that has this revision, and is not too large
 pub record IsSvg (plates : Plates) (revision : ℕ) (ds : List Dot) (image : Image) : Type 0 where
+  pub fits : IsTooLargeForImage ds → ⊥
   pub path : string_bytes image.path ≡ path_of (string_bytes plates.folder) revision (codes "svg")
   pub bytes : image.bytes.items ≡ svg_text ds
 

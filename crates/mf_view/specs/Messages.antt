@@ -1,7 +1,8 @@
 -- The messages of the program.
 use Rattle.std.specs.Prelude.{ℕ, List, ◌++◌, codes, decimal}
 use Rattle.mf_view.specs.declared.fault.ProgramFault.{ProgramFault}
-use Rattle.mf_view.specs.declared.fault.ProgramFault.TheVariants.{OutOfMemory, NoPlace, NoLook, TooSmall, FileTooLong, ReadFault, WriteFault, ImageTooLarge, PlateFault, NoCharacters}
+use Rattle.mf_view.specs.declared.fault.ProgramFault.TheVariants.{OutOfMemory, NoPlace, NoLook, TooSmall, FileTooLong, ReadFault}
+use Rattle.mf_view.specs.declared.fault.ProgramFault.TheVariants.{WriteFault, ImageTooLarge, PlateFault, NoCharacters}
 
 -- how the program is used
 abbrev pub usage : List ℕ

@@ -1,7 +1,8 @@
 -- The exit statuses of the program.
 use Rattle.std.specs.Prelude.{ℕ}
 use Rattle.mf_view.specs.declared.fault.ProgramFault.{ProgramFault}
-use Rattle.mf_view.specs.declared.fault.ProgramFault.TheVariants.{OutOfMemory, NoPlace, NoLook, TooSmall, FileTooLong, ReadFault, WriteFault, ImageTooLarge, PlateFault, NoCharacters}
+use Rattle.mf_view.specs.declared.fault.ProgramFault.TheVariants.{OutOfMemory, NoPlace, NoLook, TooSmall, FileTooLong, ReadFault}
+use Rattle.mf_view.specs.declared.fault.ProgramFault.TheVariants.{WriteFault, ImageTooLarge, PlateFault, NoCharacters}
 
 -- the status after a fault: 4 where memory, the place or a look was missing, 5 where the terminal is too small, else 3
 abbrev pub status_of : ProgramFault → ℕ

@@ -9,7 +9,7 @@ use mf_stage::StageFault;
 /// Why the program ends with a fault, other than that its words are refused. What was written before it stays.
 #[derive(Clone, Copy, Debug, PartialEq, Eq)]
 pub enum ProgramFault {
-    /// An allocation failed.
+    /// An allocation failed, or the reader lacked memory.
     OutOfMemory,
     /// There was no place for the viewer.
     NoPlace,

@@ -71,8 +71,8 @@ pub fn program<S: Wait + Threads + Files + Clock + Sync, R: Read, W: Write + Sen
         → ReportsFaultLast (texts_of words) result
         (screen_streams_of R.remaining reader.old W.contents screen.old screen.new E.contents errors.old errors.new) }
     ensures text_alone { AsksForText (texts_of words) → reader.new ≡ reader.old }
-    ensures too_small { IsCommandLine (texts_of words) → LacksRoom (texts_of words)
-        → (result ≡ TOO_SMALL) ⊎ (result ≡ WANTING) }
+    ensures too_small { IsCommandLine (texts_of words) → LacksRoom (texts_of words) → (result ≡ TOO_SMALL)
+        ⊎ ((result ≡ WANTING) × GetsMessage (E.contents errors.old) (E.contents errors.new) (message_of ProgramFault.OutOfMemory)) }
     ensures untouched { LacksRoom (texts_of words) → (reader.new ≡ reader.old) × (screen.new ≡ screen.old) }
 {
     let request = match read_words(alloc, words) {
