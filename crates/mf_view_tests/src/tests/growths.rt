@@ -100,14 +100,14 @@ fn a_stage_is_made(rt: HostRuntime) {
     refuse_growths(alloc);
     let made = Stage::new(&rt, alloc, &LIMITS, None);
     grow_again(alloc);
-    let stage = match made {
-        Ok((stage, _)) => stage,
+    match made {
+        Ok((stage, _)) => stage.discard(&rt),
         Err(fault) => {
             assert_same(&rt, fault, StageFault::OutOfMemory, "the refusal");
-            stage_and_desk(&rt, alloc, None).0
+            let (stage, _) = stage_and_desk(&rt, alloc, None);
+            stage.discard(&rt);
         }
-    };
-    stage.discard(&rt);
+    }
 }
 
 /// A script that runs out of memory has printed the texts of its first lines, each whole; with ample memory all of them.
@@ -120,7 +120,7 @@ fn a_script_is_performed(rt: HostRuntime) {
     let performed = stage.perform(
         &rt,
         alloc,
-        Pieces::whole(b"show totalweight a\nshow totalweight\n"),
+        Pieces::whole(b"show totalweight a\nshow totalweight currentpicture\n"),
         &mut transcript,
         &Held::new(),
     );
