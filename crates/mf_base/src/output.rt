@@ -22,8 +22,8 @@ pub fn write_counted<W: Write>(writer: &mut W, bytes: &[u8]) -> Result<(), usize
     Ok(())
 }
 
-/// Writes all these bytes, in as many writes as the writer needs, and flushes. Whether both succeeded: where the flush fails, all
-/// bytes were written.
+/// Writes all these bytes, in as many writes as the writer needs, and flushes. Whether both succeeded; where they did not, the writer
+/// took all bytes, or a front of them.
 pub fn write_and_flush<W: Write>(writer: &mut W, bytes: &[u8]) -> bool
     ensures all { result ≡ true → Appends (W.contents writer.old) (W.contents writer.new) bytes.now }
     ensures front { GetsMessage (W.contents writer.old) (W.contents writer.new) bytes.now }

@@ -121,10 +121,10 @@ impl Cycle {
         segment::ends(&self.points, place)
     }
 
-    /// The turning number: left turns less right turns, divided by 4 (mf.web, "turning number"). It is positive for a
-    /// cycle that turns counterclockwise. Refused with `Backtracks` and the first vertex at which the path turns
-    /// straight back, since such a cycle has no turning number; never refused with `TurningZero`: a turning number of 0
-    /// is an answer. Allocates nothing.
+    /// The turning number, in -1024..=1024: left turns less right turns, divided by 4 (mf.web, "turning number"). It is
+    /// positive for a cycle that turns counterclockwise. Refused with `Backtracks` and the first vertex at which the path
+    /// turns straight back, since such a cycle has no turning number; never refused with `TurningZero`: a turning number of
+    /// 0 is an answer. Allocates nothing.
     #[tactic(auto, using(crate::proofs::FirstFaults::never_reverses, crate::proofs::FirstFaults::no_reversal))]
     pub fn turning(&self) -> Result<i32, CycleFault>
         ensures value { IfOk result (λ number. number ≡ turning self.now) }

@@ -41,7 +41,7 @@ pub fn is_reversal(points: &[Point], vertex: usize) -> bool
     product(arriving.across, leaving.across) + product(arriving.up, leaving.up) < 0
 }
 
-/// The turn at a vertex: 1 to the left, -1 to the right, 0 straight on.
+/// The turn at a vertex: 1 to the left, -1 to the right, 0 straight on or straight back.
 pub fn turn(points: &[Point], vertex: usize) -> i32
     requires range { StaysInRange points.now }
     requires within { vertex < length points.now }

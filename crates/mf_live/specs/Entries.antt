@@ -14,6 +14,7 @@ pub record Entry : Type 0 where
   pub label : ℕ
   pub change : Change
 
+-- a change as the entry with this label
 abbrev pub entry : ℕ → Change → Entry
 entry n c = record { label = n; change = c }
 
@@ -39,6 +40,7 @@ rev L = revision_after (operations L)
 abbrev pub IsUnrefused : List Entry → Type 0
 IsUnrefused L = AreAccepted (operations L)
 
+-- whether a change is the end mark
 abbrev pub is_end : Change → Bool
 is_end (Operation op) = false
 is_end End = true
@@ -48,6 +50,7 @@ abbrev pub is_closed : List Entry → Bool
 is_closed [] = false
 is_closed (e ∷ es) = is_end e.change || is_closed es
 
+-- whether a list has no entry
 abbrev pub is_empty : List Entry → Bool
 is_empty [] = true
 is_empty (e ∷ es) = false

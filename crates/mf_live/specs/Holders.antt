@@ -26,6 +26,7 @@ identity h = book_of (version h)
 abbrev pub events : Holder → List Event
 events h = history (version h) (view h.swap.desk.place)
 
+-- what these events have accepted, and what they have published
 abbrev pub accepted_list : Holder → List Entry
 accepted_list h = accepted_of (events h)
 

@@ -3,6 +3,7 @@ use Rattle.std.specs.Prelude.{◌≡◌, ◌≢◌, ◌==◌, ◌⊎◌, ◌<◌
 use Rattle.std.specs.List.{filter}
 use Rattle.mf_live.specs.Entries.{Entry}
 
+-- the labels of a list, in order
 abbrev pub labels : List Entry → List ℕ
 labels L = map (λ (e : Entry). e.label) L
 

@@ -41,6 +41,7 @@ Knows x v = v.identified ≡ true → IsKnowledgeOf (book_of x) (events_of x) v.
 pub record EachSeatKnows (x : Version) (views : List View) : Type 0 where
   pub each_seat : (seat : ℕ) (v : View) → get_elem? views seat ≡ some v → Knows x v
 
+-- the knowledge of no picture, of which nothing has happened
 abbrev pub no_knowledge : Knowledge
 no_knowledge = record { seen = record { marker = record {}; book = record { number = 0; log_name = 0; cells_name = 0 }; names = []; log = [] } }
 
@@ -57,6 +58,7 @@ view_knowing k = record { identified = true; last = k; now = k; unwritten = [] }
 abbrev pub seen_knowledge : Bool → View → Knowledge
 seen_knowledge missed v = if missed then v.last else v.now
 
+-- what a look may keep of a view: what had been seen before the last look, or what was seen at it
 abbrev pub last_of : View → Knowledge
 last_of v = v.last
 

@@ -13,6 +13,7 @@ use Rattle.mf_live.specs.Viewers.{Extends, IsPublished, SeesTheSame, learnt_list
 abbrev pub sheet_picture : Sheet → List Dot
 sheet_picture s = s.picture
 
+-- its revision
 abbrev pub sheet_revision : Sheet → ℕ
 sheet_revision s = s.revision
 

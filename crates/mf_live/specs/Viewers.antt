@@ -64,6 +64,7 @@ pub record SeesTheSame (before after : Viewer) : Type 0 where
   pub looked : looked_at_list after ≡ looked_at_list before
   pub learnt : learnt_list after ≡ learnt_list before
 
+-- which picture a look is of
 abbrev pub look_identity : Look → Book
 look_identity l = notice_identity l.known
 

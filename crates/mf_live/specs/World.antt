@@ -6,6 +6,7 @@ use Rattle.mf_live.specs.declared.event.Event.TheVariants.{Accept, Refuse, Close
 use Rattle.mf_live.specs.Entries.{Operation, End, Entry, entry, pic, rev, next, is_closed, ends_last, IsUnrefused}
 use Rattle.mf_live.specs.Prefixes.{IsWholePrefix, longer}
 
+-- what the writer has accepted, what of that is published, what viewers have seen, and what notices say
 pub record World : Type 0 where
   pub accepted : List Entry
   pub published : List Entry
@@ -15,6 +16,7 @@ pub record World : Type 0 where
   -- whether the writer is gone
   pub dropped : Bool
 
+-- the world before anything has happened
 abbrev pub new_world : World
 new_world = record { accepted = []; published = []; seen = λ i. []; notices = []; dropped = false }
 
@@ -55,6 +57,7 @@ abbrev pub Happen : ℕ → World → List Event → Type 0
 Happen max_ops w [] = Unit {0}
 Happen max_ops w (e ∷ es) = May max_ops w e × Happen max_ops (after_event w e) es
 
+-- the world after these events, in this order
 abbrev pub world_after : World → List Event → World
 world_after w [] = w
 world_after w (e ∷ es) = world_after (after_event w e) es
@@ -77,8 +80,8 @@ pub record IsLawful (max_ops : ℕ) (w : World) : Type 0 where
   pub each_notice : All (λ n. IsWholePrefix n w.published) w.notices
   pub ended : ends_last w.accepted ≡ true
 
--- a look shows what is published, of which everything that its viewer had seen is a whole prefix, and then the viewer has seen
--- that
+-- a look shows what is published: that is what the viewer has seen after it, and everything that the viewer had seen before is a whole
+-- prefix of that
 abbrev pub ShowsMore : World → Event → Type 0
 ShowsMore w (Look i) = IsWholePrefix (w.seen i) w.published × ((after_event w (Look i)).seen i ≡ w.published)
 ShowsMore w e = Unit {0}

@@ -30,6 +30,7 @@ visible_list w = holders.visible_list w.holder
 abbrev pub max_ops : Writer → ℕ
 max_ops w = w.max_ops
 
+-- the same of a picture whose end mark is set but not published
 abbrev pub closing_identity : Closing → Book
 closing_identity c = holders.identity c.holder
 
@@ -42,6 +43,7 @@ closing_published_list c = holders.published_list c.holder
 abbrev pub closing_visible_list : Closing → List Entry
 closing_visible_list c = holders.visible_list c.holder
 
+-- which picture has ended
 abbrev pub ended_identity : Ended → Book
 ended_identity e = book_of e.swap.desk.shown.value
 

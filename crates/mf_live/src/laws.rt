@@ -19,10 +19,11 @@ use crate::viewer::Viewer;
 use crate::writer::Writer;
 use std::alloc::Global;
 
-/// For every list of events of one writer and any number of viewers, in every order: no accepted operation is refused; what is
-/// published is a whole prefix of what is accepted, and what each viewer has seen and what each notice says are whole prefixes of
-/// what is published; and each look shows what is published, of which everything that its viewer had looked at or learnt of is a
-/// whole prefix.
+/// Take any list of events of one writer and any number of viewers, in any order in which each of them can happen. Before and after
+/// each event no accepted operation is refused, and there are at most `max_ops`; what is published is a whole prefix of what is
+/// accepted, and the rest has the label of the next publish; what each viewer has seen and what each notice says are whole prefixes of
+/// what is published; and nothing follows the end mark. Each look shows what is published, of which everything that its viewer had
+/// looked at or learnt of is a whole prefix.
 pub fn every_schedule(max_ops: u32)
     ensures { EverySchedule max_ops }
 {}

@@ -29,11 +29,11 @@ step_at ds (Scale s) x y = weight_at ds (scale_source s.x x) (scale_source s.y y
 step_at ds (Quarter q) x y = turn_by q (weight_at ds) x y
 step_at ds Clear x y = pos 0
 
--- the picture after an operation on the picture ds, whether or not its weights are lawful
+-- the picture that an operation makes of the picture ds at the pixels of the field, whether or not the operation is refused
 unfoldable pub next_picture : List Dot → Op → List Dot
 next_picture ds op = picture_of (step_at ds op)
 
--- whether an operation takes a pixel out of the field; a turn maps the field to itself
+-- whether an operation takes a pixel out of the field: only a shift or a scale can
 abbrev pub leaves : Op → Dot → Bool
 leaves (Shift dx dy) d = not (stays_inside (shift_by dx) d.x && stays_inside (shift_by dy) d.y)
 leaves (Scale s) d = not (stays_inside (scale_by s.x) d.x && stays_inside (scale_by s.y) d.y)

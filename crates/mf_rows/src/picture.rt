@@ -100,7 +100,8 @@ impl Picture {
         self.pile.weight(x, y)
     }
 
-    /// The sum of all weights. METAFONT's `totalweight` is this number, scaled (mf.web: `total_weight`). It passes all edges once.
+    /// The sum of all weights, at most 2,197,882,568,700 in absolute value. METAFONT's `totalweight` is this number, scaled (mf.web:
+    /// `total_weight`). It passes all edges once.
     pub fn total(&self) -> i64
         ensures value { result ≡ total_of self.now }
         ensures lawful { IsPicture self.now }

@@ -11,6 +11,7 @@ run_line r =
     signed_decimal r.y ++ codes " " ++ signed_decimal r.x ++ codes " " ++ signed_decimal ((r.x +ℤ pos r.len) -ℤ pos 1) ++ codes " "
     ++ signed_decimal r.weight ++ codes "\n"
 
+-- the lines of runs, and the line `blank` where there are none
 abbrev pub lines_of : List Run → List ℕ
 lines_of [] = codes "blank\n"
 lines_of (r ∷ rs) = flat_map run_line (r ∷ rs)

@@ -32,7 +32,8 @@ fn enter(
 impl Viewer {
     /// Looks at what is published. It waits for nobody and allocates nothing. Refused with [`NoLook`], which hands the viewer
     /// back: it has then seen what it had seen before. What the look shows was published, all of it and no more, by the events
-    /// that it knows of its picture. Everything that the viewer had looked at or learnt of is a whole prefix of it.
+    /// that it knows of its picture. Everything that the viewer had looked at or learnt of is a whole prefix of it. Where the viewer
+    /// has seen the end mark, it is exactly what the viewer has seen.
     pub fn look(self) -> Result<Look, (Viewer, NoLook)>
         ensures identity { MatchResult result (λ look. look_identity look ≡ identity self) (λ refused. identity refused.0 ≡ identity self) }
         ensures extends { MatchResult result (λ look. Extends self (shown_list look)) (λ refused. SeesTheSame self refused.0) }

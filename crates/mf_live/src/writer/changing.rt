@@ -22,7 +22,7 @@ impl Writer {
     /// `TooManyOperations` exactly where as many operations were accepted as may be. Otherwise it is refused as `mf_ops::after`
     /// refuses it on the working picture: with `Backtracks` or `TurningZero`, for a contour under the turning check, with
     /// `OutOfField`, with `WeightTooLarge`, or with `OutOfMemory`, which may hide `WeightTooLarge` but no other refusal. A
-    /// refusal changes nothing and hands the operation back.
+    /// clear is refused with `TooManyOperations` alone. A refusal changes nothing and hands the operation back.
     pub fn apply(&mut self, alloc: Global, op: Op) -> Result<(), (Op, Fault)>
         ensures identity { identity self.new ≡ identity self.old }
         ensures published { published_list self.new ≡ published_list self.old }
@@ -71,8 +71,9 @@ impl Writer {
         self.holder.revision - self.holder.swap.published().notice.number
     }
 
-    /// Publishes all accepted operations at once; where all are published already, it does nothing. It may wait for looks that
-    /// are held. Refused with `OutOfMemory` where an allocation fails: nothing is published then, and the call can be made again.
+    /// Publishes all accepted operations at once; where all are published already, it does nothing, and is never refused. It may
+    /// wait for looks that are held. Refused with `OutOfMemory` where an allocation fails: nothing is published then, and the
+    /// call can be made again.
     pub fn publish<R: Wait>(&mut self, rt: &R) -> Result<(), OutOfMemory>
         ensures identity { identity self.new ≡ identity self.old }
         ensures accepted { accepted_list self.new ≡ accepted_list self.old }
