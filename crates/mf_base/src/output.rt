@@ -1,4 +1,4 @@
-//! Writing that counts how many bytes a writer took before it failed, and of texts that may be lost.
+//! Writing that counts how many bytes a writer took before it failed, and writing of texts that may be lost.
 ghost use Rattle.std.specs.Io.KnownBytes.{Appends};
 ghost use Rattle.std.specs.Prelude.{◌≡◌, ◌<◌, IfErr, OnOk, length, take, true, false};
 ghost use Rattle.mf_base.specs.Messages.{GetsMessage, GetsPart};

@@ -41,7 +41,7 @@ Knows x v = v.identified ≡ true → IsKnowledgeOf (book_of x) (events_of x) v.
 pub record EachSeatKnows (x : Version) (views : List View) : Type 0 where
   pub each_seat : (seat : ℕ) (v : View) → get_elem? views seat ≡ some v → Knows x v
 
--- the knowledge of no picture, of which nothing has happened
+-- the knowledge of a seat that knows nothing yet
 abbrev pub no_knowledge : Knowledge
 no_knowledge = record { seen = record { marker = record {}; book = record { number = 0; log_name = 0; cells_name = 0 }; names = []; log = [] } }
 
