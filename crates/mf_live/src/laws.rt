@@ -83,7 +83,8 @@ pub fn one_history(look: &Look, notice: &Notice)
 }
 
 /// A viewer that has learnt of the end sees the complete list. The events that its look knows have published it, and everything
-/// that the viewer had seen is a whole prefix of it. After `NoLook` the viewer has not looked, but has learnt of the end.
+/// that the viewer had seen is a whole prefix of it. After `NoLook` the viewer has not looked, but has learnt of the end. Requires a
+/// notice of the viewer's own picture, with the end mark.
 pub fn last_look(viewer: Viewer, notice: Notice) -> Result<Look, (Viewer, NoLook)>
     requires identity { viewers.notice_identity notice ≡ viewers.identity viewer }
     requires closed { is_closed (viewers.told_list notice) ≡ true }
@@ -101,7 +102,7 @@ pub fn last_look(viewer: Viewer, notice: Notice) -> Result<Look, (Viewer, NoLook
 
 /// The sheet of a viewer that has learnt of the end is the last picture, and everything that the viewer had seen is a whole
 /// prefix of the complete list. After `NoLook` the viewer has not looked, but has learnt of the end. After `OutOfMemory` it has
-/// looked at the complete list, and what it had seen before is a whole prefix of it then, too.
+/// looked at the complete list, and what it had seen before is a whole prefix of it then, too. Requires what `last_look` requires.
 pub fn last_sheet(viewer: &mut Viewer, alloc: Global, notice: Notice) -> Result<Sheet, SheetFault>
     requires identity { viewers.notice_identity notice ≡ viewers.identity viewer.old }
     requires closed { is_closed (viewers.told_list notice) ≡ true }
