@@ -15,7 +15,7 @@ pub enum GfFault {
     NoCharacters,
     /// The comment has more than 255 bytes.
     CommentTooLong,
-    /// An allocation failed. This never comes instead of another refusal, nor where a file without characters is not made.
+    /// An allocation failed. This never comes instead of another refusal, nor instead of the `None` of `finish_if_any`.
     OutOfMemory,
 }
 

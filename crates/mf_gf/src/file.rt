@@ -12,8 +12,8 @@ mod tail;
 /// The identification byte, which says that a file is a GF file (gftype.web).
 const GF_ID: u8 = 131;
 
-/// The numbers of a font, which are in the postamble: its design size `ds` in 1/1048576 point, its checksum `cs`, and the pixels
-/// per point, horizontally `hppp` and vertically `vppp`, in 1/65536 (gftype.web).
+/// The numbers of a font, which are in the postamble: its design size `ds` in 1/1048576 point, its check sum `cs`, and the pixels
+/// per point, horizontally `hppp` and vertically `vppp`, in 1/65536 (gftype.web). They are written as they are.
 #[derive(Clone, Copy, Debug, PartialEq, Eq)]
 pub struct FontWords {
     pub ds: i32,

@@ -18,7 +18,7 @@ pub fn new_command<'a>(alloc: Global, name: &'a str) -> Command<'a>
         .disable_version_flag(true)
 }
 
-/// The command with the option `--NAME N`, which takes the numbers `low..high`.
+/// The command with the option `--NAME N`, which takes the numbers `low..=high`. Refused where an allocation fails.
 pub fn with_number<'a>(
     alloc: Global,
     command: Command<'a>,
@@ -32,7 +32,7 @@ pub fn with_number<'a>(
     command.arg(Arg::new(alloc, name).long(name).value_parser(parser))
 }
 
-/// The command with the option `--NAME FILE`.
+/// The command with the option `--NAME FILE`. Refused where an allocation fails.
 pub fn with_file<'a>(
     alloc: Global,
     command: Command<'a>,
@@ -44,6 +44,7 @@ pub fn with_file<'a>(
 }
 
 /// The command with the flag `--NAME`, which is read back by `id`. (clap keeps the ids `help` and `version` for flags of its own.)
+/// Refused where an allocation fails.
 pub fn with_flag<'a>(
     alloc: Global,
     command: Command<'a>,
@@ -60,8 +61,9 @@ pub fn with_flag<'a>(
     )
 }
 
-/// What clap finds in the words, of which the first is the program's name. Refused with `BadWords` only where it finds a fault, and
-/// with `OutOfMemory` where an allocation fails. Requires a command of plain options.
+/// What clap finds in the words, of which the first is the program's name. Each number is in the range of its option, and each flag
+/// is on or off. Where clap finds a fault, it is always refused: with `BadWords`, which never comes elsewhere, or with `OutOfMemory`,
+/// which comes where an allocation fails. Requires a command of plain options.
 pub fn find_matches<'a>(
     command: Command<'a>,
     words: &'a [String],

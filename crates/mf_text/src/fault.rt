@@ -13,7 +13,7 @@ pub enum TextFault {
     Cycle(CycleFault),
     /// The weight is not -3, -2, -1, 1, 2 or 3.
     BadWeight,
-    /// The cull may not have this range of weights.
+    /// The range goes from a greater to a lesser weight, a kept range has 0 in it, or a dropped one does not.
     BadCull,
     /// The factor is 0 or exceeds 4095 in absolute value.
     BadScale,

@@ -13,8 +13,8 @@ use std::rt::Files;
 /// Units of the design size in a point (gftype.web).
 const UNITS_PER_POINT: u32 = 1_048_576;
 
-/// The numbers of a font with this design size in points and this resolution in dots per inch. A point is 1/72.27 inch. There is
-/// no checksum. Requires at most 2,047 points and 100,000 dots.
+/// The numbers of a font with this design size in points and this resolution in dots per inch. A point is 1/72.27 inch. The check
+/// sum is 0. Requires at most 2,047 points and 100,000 dots.
 pub fn font_words(design_size: u32, resolution: u32) -> FontWords
     requires points { design_size ≤ greatest_design_size }
     requires dots { resolution ≤ greatest_resolution }
