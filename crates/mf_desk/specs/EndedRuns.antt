@@ -29,7 +29,7 @@ pub record IsOver (limits : Limits) (read : List ℕ) (run : EndedRun) (text : L
   pub max_bytes_is : max_bytes_of run.file ≡ limits.max_bytes
   pub counted : run.written ≡ length text
 
--- everything that the reader had was read and performed, and the writer has got the transcript
+-- what was read was performed as a complete script, and the writer has got its transcript
 abbrev pub EndsWith : Limits → Streams → EndedRun → Type 0
 EndsWith limits s run = HasRead s (λ read. Gets s.held s.holds (IsOver limits read run))
 

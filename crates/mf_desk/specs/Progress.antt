@@ -23,7 +23,7 @@ pub record IsAfter (held : Option (List ℕ)) (read : List ℕ) (progress : Prog
   pub lines : HasCounted held (ended_lines read) progress.performer holds
   pub line : progress.line ≡ take MAX_KEPT (unended read)
 
--- everything that the reader had was read and performed
+-- what was read was performed as a complete script
 abbrev pub ReadsThrough : Streams → Performer → Type 0
 ReadsThrough s performer = HasRead s (λ read. HasCounted s.held (lines read) performer s.holds)
 

@@ -54,7 +54,7 @@ impl Model for Canvas {
 
 impl Canvas {
     /// The canvas of a terminal with this number of columns and rows, of which more than 1,000 count as 1,000. Refused with
-    /// `TooSmall` where there are fewer than 50 columns or fewer than 6 rows.
+    /// `TooSmall` exactly where there are fewer than 50 columns or fewer than 6 rows.
     pub fn new(columns: u32, rows: u32) -> Result<Canvas, TooSmall>
         ensures accepted { IsOk result ↔ IsLargeEnough columns rows }
         ensures value { IfOk result (λ canvas. canvas ≡ size_in columns rows) }

@@ -22,9 +22,9 @@ use std::alloc::Global;
 /// A picture as a frame of characters. Each line of a picture shows two rows of cells by half blocks. A cell is one pixel, or
 /// where the picture is larger than the canvas the least square of pixels, `scale` wide, with which it fits; it has the shade
 /// of its darkest pixel, so that nothing positive is lost: blank, negative, 1, 2, or 3 and more. Borders of cells lie on the
-/// axes, which are marked where nothing else is. Below come a line `revision R  totalweight T`, and a line `columns X1..X2
-/// rows Y1..Y2  scale S` with the least box of the picture in pixels, or `blank  scale 1`. Refused with `OutOfMemory` where an
-/// allocation fails.
+/// axes, which are marked where nothing else is. Below come a line `revision R  totalweight T`, and a line
+/// `columns X1..X2  rows Y1..Y2  scale S` with the least box of the picture in pixels, or `blank  scale 1`. Refused with
+/// `OutOfMemory` where an allocation fails.
 pub fn draw(
     alloc: Global,
     picture: &Picture,

@@ -22,7 +22,7 @@ greatest_side = 4096
 abbrev pub IsLargeBox : Box4 → Type 0
 IsLargeBox b = (greatest_side < extent b.min_x b.max_x) ⊎ (greatest_side < extent b.min_y b.max_y)
 
--- so has the box of the image of a picture
+-- the box of the image of a picture has more columns or rows than an image may have
 abbrev pub IsTooLargeForImage : List Dot → Type 0
 IsTooLargeForImage ds = IsLargeBox (image_box ds)
 

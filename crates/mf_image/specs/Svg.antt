@@ -82,7 +82,7 @@ cover v fill =
     codes "<rect x=\"" ++ signed_decimal v.left ++ codes "\" y=\"" ++ signed_decimal v.top ++ codes "\" width=\"" ++ signed_decimal v.width
     ++ codes "\" height=\"" ++ signed_decimal v.height ++ codes "\" fill=\"" ++ fill ++ codes "\"/>\n"
 
--- the axes, x = 0 and y = 0, where they meet the view box
+-- the axes: x = 0, as high as the view box, and y = 0, as wide; one that does not meet the view box lies outside of it
 unfoldable pub axes : ViewBox → List ℕ
 axes v =
     codes "<path d=\"M0 " ++ signed_decimal v.top ++ codes "v" ++ signed_decimal v.height ++ codes "M" ++ signed_decimal v.left ++ codes " 0h"

@@ -13,7 +13,7 @@ use mf_rows::{Box4, Picture};
 use mf_show::{extent, push_number};
 use std::alloc::Global;
 
-/// The PGM image of a picture (Netpbm's portable graymap, `P5`, at most 255): a byte for each pixel of its least box, rows in order
+/// The PGM image of a picture (Netpbm's portable graymap, `P5`, maxval 255): a byte for each pixel of its least box, rows in order
 /// from the top. A comment has the column of the left edge and the row of the top. 0 is 255 (white); 1, 2 and 3 are 120, 80 and 40;
 /// 4 to 42 are 39 to 1, and what is above is 0; -1 to -54 are 200 to 253, and what is below is 254. The image of the blank picture is
 /// one white pixel at the origin. Refused with `ImageTooLarge` exactly where the least box is wider or higher than 4,096 pixels, and

@@ -86,7 +86,7 @@ impl ViewBox {
         Ok(())
     }
 
-    /// Appends the axes, where they meet the view box.
+    /// Appends the axes, as high and as wide as the view box. One that does not meet the view box lies outside of it.
     fn push_axes(&self, text: &mut Vec<u8>) -> Result<(), OutOfMemory>
         requires { IsSmallBox self.now }
         ensures { IfOk result (λ _. text.new.items ≡ text.old.items ++ axes self.now) }

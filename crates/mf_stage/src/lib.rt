@@ -1,5 +1,5 @@
-//! The writer's side of a performance that is watched: a script is performed line by line, its transcript is written, and each
-//! published picture becomes a plate, which is an image file.
+//! The writer's side of a performance that is watched: a script is performed line by line, and its transcript is written. Where
+//! plates are asked for, each published picture becomes a plate, which is an SVG file and perhaps a PGM file.
 #![tactic(auto)]
 
 mod fault;

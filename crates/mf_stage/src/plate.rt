@@ -17,20 +17,25 @@ use std::rt::Files;
 pub struct Plates {
     /// The folder, which is not created.
     pub folder: String,
+    /// Whether each plate has a PGM image, too.
     pub pgm: bool,
 }
 
 /// An image file that is to be written.
 #[derive(Drop)]
 pub struct Image {
+    /// Its path: the folder, the revision in seven digits, and `.svg` or `.pgm`.
     pub path: String,
+    /// The bytes of the file.
     pub bytes: Vec<u8>,
 }
 
 /// The plate of a revision: its SVG image, and its PGM image where one is asked for.
 #[derive(Drop)]
 pub struct Plate {
+    /// The SVG image.
     pub svg: Image,
+    /// The PGM image; `None` where none is asked for.
     pub pgm: Option<Image>,
 }
 

@@ -34,7 +34,9 @@ pub struct Stage {
 /// What has been published, for those who look at it: its revision, and its plate where plates are asked for.
 #[derive(Drop)]
 pub struct Publication {
+    /// The revision: the number of operations that were published.
     pub revision: u32,
+    /// The plate of the published picture; `None` where plates are not asked for.
     pub plate: Option<Plate>,
 }
 
@@ -140,7 +142,9 @@ impl Stage {
         Ok(())
     }
 
-    /// Performs a line, writes its text and flushes it. Answers with what the line has published, if it has.
+    /// Performs a line, writes its text and flushes it. Answers with what the line has published, if it has; the plate is made, and
+    /// not written. Refused with `OutOfMemory`, before the line is performed or after its text is written; with `WriteFault`, and
+    /// then the text may be cut; and where plates are asked for, with `ImageTooLarge`, after the text of a publish is written.
     pub fn answer<S: Wait, W: Write>(
         &mut self,
         rt: &S,

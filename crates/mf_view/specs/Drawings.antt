@@ -62,7 +62,8 @@ abbrev pub LeavesLast : Easel → List Entry → Option (List ℕ) → Option (L
 LeavesLast easel whole holds later =
     (held : Option (List ℕ)) → HasDrawn easel held holds → ShowsLast (style_of easel) (canvas_of easel) whole held later
 
--- so it is after a drawing; after one that has failed no run ends well, so nothing is said of that
+-- the last picture is shown after a drawing that has succeeded; this is claimed only of runs that end well, and none does after a
+-- drawing that has failed
 abbrev pub EndsDrawing : Result (Unit {0}) EaselFault → Easel → List Entry → Option (List ℕ) → Option (List ℕ) → Type 0
 EndsDrawing drawn easel whole holds later =
     (held : Option (List ℕ)) → OnOk drawn (HasDrawn easel held holds) → ShowsLast (style_of easel) (canvas_of easel) whole held later

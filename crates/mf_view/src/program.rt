@@ -213,7 +213,7 @@ pub fn refuse_words<E: Write>(errors: &mut E) -> u8
     BAD_WORDS
 }
 
-/// Reports a fault by its name, as far as `errors` takes it, and answers with the status.
+/// Reports a fault by its name, and its revision if it has one, as far as `errors` takes them, and answers with the status.
 pub fn report<E: Write>(errors: &mut E, fault: ProgramFault) -> u8
     ensures status { result ≡ status_of fault }
     ensures message { GetsMessage (E.contents errors.old) (E.contents errors.new) (message_of fault) }
