@@ -39,7 +39,7 @@ const SETTINGS: Settings = Settings {
     },
 };
 
-/// How often each viewer looks while the script runs. When these looks happen is chance, so none of them is printed.
+/// How often each viewer looks in its thread. When these looks happen is chance, so none of them is printed.
 const LOOKS: u32 = 16;
 
 /// Exit status after a run that reached the end of its script, and wrote the font file where one was asked for.
