@@ -106,7 +106,7 @@ box_of_all [] = no_box
 box_of_all (c ∷ []) = box_of_pixels c.black
 box_of_all (c ∷ d ∷ cs) = join (box_of_pixels c.black) (box_of_all (d ∷ cs))
 
--- the postamble: post, its own place, the numbers of the font, and the box of all characters
+-- post, with which the postamble begins: its own place, the numbers of the font, and the box of all characters
 abbrev pub post : FontWords → CharacterBox → ℕ → List ℕ
 post words b place =
     (gf.post ∷ []) ++ word (pos place) ++ word words.ds ++ word (pos words.cs) ++ word words.hppp ++ word words.vppp

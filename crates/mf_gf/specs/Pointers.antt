@@ -1,5 +1,5 @@
--- The characters of a finished file, as a reader finds them. The last bytes give the place of the postamble. Each locator after
--- it gives the place of the last character with its code. Each character gives the place of the one before it as p (The
+-- The characters of a finished file, as a reader finds them. The last bytes give the place of post. Each locator after the numbers
+-- of post gives the place of the last character with its code. Each character gives the place of the one before it as p (The
 -- METAFONTbook, Appendix G; gftype.web).
 use Rattle.std.specs.Prelude.{◌≡◌, ◌<◌, ◌≤◌, ◌+◌, ◌*◌, ◌==◌, ◌↔◌, ℕ, zero, suc, ℤ, pos, negsuc, All, AllPairs, Any, List, [], ◌∷◌}
 use Rattle.std.specs.Prelude.{length, take, drop, reverse, filter, slice_index, Option, None, Some, option_map, if◌then◌else◌}
@@ -60,7 +60,7 @@ locators_within (suc n) bytes = elim (read_item bytes) [
   ]
 ]
 
--- the locators after the postamble: one for each of at most as many codes as there are, and then the ending
+-- the locators after the numbers of post: one for each of at most as many codes as there are, and then the ending
 abbrev pub locators_after : ℕ → List ℕ → Option (List Locator)
 locators_after place file = if slice_index file place == gf.post then locators_within (code_count + 1) (drop (place + gf.post_size) file) else None
 

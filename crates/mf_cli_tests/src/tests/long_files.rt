@@ -32,7 +32,7 @@ const TEXT: &[u8] = b"[1]\n[2]\n[3]\n[4]\n[5]\n[6]\n";
 /// A row of p pixels takes 2p bytes: one that starts it, p that paint a pixel, and p - 1 that skip a gap. Besides their rows,
 /// the combs of at most 128 pixels, whose boxes end at column 255 or before, take 6 + 1 bytes, and the longer ones 25 + 1. So the
 /// characters take 71, 263, 538, 1,050, 2,074 and 26 + 4095 * 4096 = 16,773,146 bytes. With the three bytes of the preamble
-/// these are 16,777,145 bytes, 71 fewer than the file may have. The postamble takes 37 more, the six locators 66 and the end
+/// these are 16,777,145 bytes, 71 fewer than the file may have. post takes 37 more, the six locators 66 and the ending
 /// 6 + 6, so the file would have 16,777,260 bytes: 44 too many.
 fn script_of_combs(alloc: Global) -> Result<String, AllocError> {
     let line = "addto a contour (0,0)--(1,0)--(1,1)--(0,1)--cycle\n";

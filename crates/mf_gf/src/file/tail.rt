@@ -1,4 +1,4 @@
-//! The end of a file: the postamble, the locators and what comes after them.
+//! The postamble, which ends a file: post with its numbers, the locators and the ending.
 ghost use Rattle.std.specs.Prelude.{◌≡◌, ◌⊎◌, ◌<◌, ◌≤◌, ◌↔◌, ◌+◌, ◌++◌, [], Err, IfErr, IfOk, List, None, Ok, ℕ, length};
 ghost use Rattle.mf_gf.specs.Files.{Character, IsLongFile, ending, file_if_any, file_of, post};
 ghost use Rattle.mf_gf.specs.Keeping.{IsRefusedAs, IsSameFile, Keeps, max_bytes_of, table_text};
@@ -94,7 +94,7 @@ impl GfFile {
     }
 }
 
-/// Appends the postamble, whose place in the file is `place`.
+/// Appends post and its numbers. `place` is its place in the file.
 fn put_post(out: &mut Spelling, words: &FontWords, bounds: &CharacterBox, place: u32)
     ensures held { (text : List ℕ) → Holds out.old text → Holds out.new (text ++ post words.now bounds.now place) }
     ensures room { out.new.room ≡ out.old.room }
@@ -112,7 +112,7 @@ fn put_post(out: &mut Spelling, words: &FontWords, bounds: &CharacterBox, place:
 }
 
 impl Spelling {
-    /// Appends the ending of a file. `place` is the place of the postamble, and the spelling so far has the bytes from there on.
+    /// Appends the ending of a file. `place` is the place of post, and the spelling so far has the bytes from there on.
     fn put_end(&mut self, place: u32)
         ensures held { (text : List ℕ) → Holds self.old text → Holds self.new (text ++ ending place (place + length text)) }
         ensures room { self.new.room ≡ self.old.room }
