@@ -1,13 +1,13 @@
 #!/usr/bin/env python3
 """Compares whole fonts with METAFONT's (`mf-nowin`, Debian packages texlive-binaries and texlive-base).
 
-    tests/fonts.py [PROGRAM]
+    tests/fonts.py [PROGRAM [FONT..]]
 
-METAFONT draws four fonts at two resolutions. tools/mf2mfp.py makes a script from the log of each, and PROGRAM, by default `mfpic`
-beside this folder, makes a font file from that. This script compares the black pixels of all characters in order, their codes,
-and dx and width of each code. It counts the characters whose boxes are the same, because METAFONT's may be larger. gftype must
-not complain about the file and must show the same pixels, and gftopk must pack it. The same is done with `pictures.mf`, a font
-with everything that is translated. What is not translated must be reported.
+METAFONT draws four fonts at two resolutions, or the fonts that are named at the lower one. tools/mf2mfp.py makes a script from the
+log of each, and PROGRAM, by default `mfpic` beside this folder, makes a font file from that. This script compares the black pixels of
+all characters in order, their codes, and dx and width of each code. It counts the characters whose boxes are the same, because
+METAFONT's may be larger. gftype must not complain about the file and must show the same pixels, and gftopk must pack it. The same is
+done with `pictures.mf`, a font with everything that is translated. What is not translated must be reported.
 
 examples/logo10.mfp must be the script of logo10 at the lower resolution. examples/logo10.gf must have METAFONT's characters, and
 the grid in examples/logo10.transcript must have METAFONT's weights.
@@ -15,6 +15,7 @@ the grid in examples/logo10.transcript must have METAFONT's weights.
 If METAFONT, its base, a source or one of the programs is not installed, nothing is compared.
 """
 
+import itertools
 import os
 import pathlib
 import re
@@ -253,14 +254,10 @@ def main() -> int:
     # These two are not counted as fonts, but they must pass.
     failed = 0 if are_told() else 1
     failed += 0 if is_passed(program, PICTURES, MODES[0]) else 1
-    passed = 0
-    for name in SOURCES:
-        for mode in MODES:
-            if is_passed(program, name, mode):
-                passed += 1
-            else:
-                failed += 1
-    print(f"{passed} passed, {failed} failed")
+    named = [(name, MODES[0]) for name in sys.argv[2:]]
+    results = [is_passed(program, *font) for font in named or itertools.product(SOURCES, MODES)]
+    failed += results.count(False)
+    print(f"{results.count(True)} passed, {failed} failed")
     return 1 if failed else 0
 
 

@@ -1,9 +1,11 @@
 """Proves a copy of a crate with edits, and reads what the prover says. (`wrong_bodies.py` uses it.)"""
 
+import contextlib
 import re
 import shutil
 import subprocess
 import sys
+from collections.abc import Iterable, Iterator
 from pathlib import Path
 
 from edited_source import Function, texts_of
@@ -14,6 +16,9 @@ from prover import ROOT, SOURCES, Prover  # noqa: E402
 # What the prover says about a function, and its last line.
 SAID = re.compile(r"^fn (\S+): (.*)$", re.M)
 VERDICT = re.compile(r"^(?:only|logic)=", re.M)
+# A goal that is not proved: what the prover says of it, and its name. It may say that it found values at which the goal is false.
+OPEN = re.compile(r"^note: src/\S+: (.*? \(`(\S+)`\).*)$", re.M)
+FALSE = "allow values at which this goal is false"
 # What an error says when a file of proofs/ uses a name that the changed body no longer has.
 GONE = re.compile(r"has no `|has no field|is not in scope|was not admitted")
 
@@ -66,6 +71,17 @@ class Room:
         # Where a check takes long, it says some things twice: first as news, without the notes that belong to them.
         return "".join(line for line in said.splitlines(keepends=True) if not line.startswith("so far: "))
 
+    @contextlib.contextmanager
+    def without_answers(self, symbols: Iterable[str]) -> Iterator[None]:
+        """Takes the answers of these functions away for a while. Their invariants stay, since a loop has none without them."""
+        files = [self.folder / folder_of(symbol) / "Answers.antt" for symbol in symbols]
+        texts = {file: file.read_text(encoding="utf-8") for file in files if file.is_file()}
+        for file in texts:
+            file.unlink()
+        yield
+        for file, text in texts.items():
+            file.write_text(text, encoding="utf-8")
+
     def symbols_of(self, functions: set[Function]) -> list[str]:
         """The symbols of these functions and of the closures in them."""
         return [symbol for function in sorted(functions) for symbol in self.symbols_in(function)]
@@ -91,14 +107,28 @@ def problem_of(said: str, control: list[str]) -> str:
     return "" if control and {*control} <= proved else "the control is not proved"
 
 
+def folder_of(symbol: str) -> str:
+    """The folder with the answers and invariants of a function."""
+    return "/".join(["proofs", *symbol.split("::")[1:]])
+
+
+def open_goals(symbol: str, said: str) -> dict[str, str]:
+    """The goals of a function itself that are not proved, and what the prover says of each."""
+    before, _, _ = said.partition(f"fn {symbol}: ")
+    # The notes on a function come between the line of the function before it and its own line.
+    return {name: words for words, name in OPEN.findall(before[before.rfind("\nfn ") + 1 :])}
+
+
+def newly_open(symbol: str, right: str, wrong: str) -> list[str]:
+    """The goals of a function that are open in the second check and not in the first one, or for which only the second one has found
+    values at which they are false."""
+    before, now = open_goals(symbol, right), open_goals(symbol, wrong)
+    return [name for name, words in now.items() if name not in before or (FALSE in words and FALSE not in before[name])]
+
+
 def own_reasons(symbol: str, said: str) -> tuple[list[str], list[str]]:
     """The reasons of a function itself for not being proved: its open goals, and the answers that do not fit. And the errors of
     its files that use names which are gone."""
-    folder = re.escape("/".join(symbol.split("::")[1:]))
-    errors = re.findall(rf"^\./(proofs/{folder}/\w+\.antt:\S+ error: .*)$", said, re.M)
+    errors = re.findall(rf"^\./({re.escape(folder_of(symbol))}/\w+\.antt:\S+ error: .*)$", said, re.M)
     gone = [error for error in errors if GONE.search(error)]
-    before, _, _ = said.partition(f"fn {symbol}: ")
-    # The notes on a function come between the line of the function before it and its own line.
-    notes = before[before.rfind("\nfn ") + 1 :]
-    goals = re.findall(r"^note: src/\S+: .*? \(`(\S+)`\)", notes, re.M)
-    return goals + [error for error in errors if error not in gone], gone
+    return [*open_goals(symbol, said), *(error for error in errors if error not in gone)], gone

@@ -16,8 +16,12 @@ is not proved says nothing. If the only reason is that a file of proofs/ uses a 
 judged, because a right body might be refused for the same reason. Each batch has a control, from crates/NAME/wrong/*.right: an
 edit that writes a right body in another way. If the control is not proved, the batch says nothing, and is tried again in halves.
 
-Every body that is proved or not judged is printed, with the line `why:` of its edit if it has one. The last line counts all
-bodies. The exit status is 1 if a body without such a line is proved or not judged.
+An answer, in a file of proofs/, is written for the right body, so it may refuse another right one. A body that only an answer
+refuses is tried once more without the answers of the functions that it changes, and so are these functions as they are. Then a
+goal that only the wrong body leaves open, or for which the prover finds values only there, is what refuses it.
+
+Every body that is proved, not judged, or refused by an answer alone is printed, with the line `why:` of its edit if it has one.
+The last line counts all bodies. The exit status is 1 if a body without such a line is proved or not judged.
 """
 
 import argparse
@@ -34,7 +38,7 @@ from collections.abc import Iterable
 from pathlib import Path
 
 from edited_source import Edit, Function, UnfitEdit, changed_by, read_edit, texts_of
-from proof_room import ROOT, SAID, Room, own_reasons, problem_of
+from proof_room import ROOT, SAID, Room, newly_open, own_reasons, problem_of
 
 # These are in tools/, which proof_room has put on the path.
 from build import prove_in_order  # isort: skip
@@ -49,8 +53,8 @@ OF_ANOTHER = re.compile(r"it calls|it passes|a call of")
 
 @dataclasses.dataclass
 class Body:
-    """A body: its edit, the functions that it changes and those that it concerns, the verdict with its reason, and an error about
-    a name that is gone."""
+    """A body: its edit, the functions that it changes and those that it concerns, the verdict with its reason, an error about a name
+    that is gone, and the goals that it leaves open where the answers are dropped."""
 
     edit: Edit
     changed: set[Function] = dataclasses.field(default_factory=set)
@@ -58,9 +62,14 @@ class Body:
     verdict: str = ""
     told: str = ""
     gone: str = ""
+    bare: list[str] = dataclasses.field(default_factory=list)
 
     def judge(self, verdict: str, told: str) -> None:
         self.verdict, self.told = verdict, shortened(told)
+
+    def meets_answer(self) -> bool:
+        """Whether an answer that does not fit is all that refused it at first."""
+        return self.verdict == REFUSED and self.told.startswith("proofs/")
 
 
 def shortened(text: str) -> str:
@@ -152,6 +161,16 @@ def try_batch(batch: list[Body], controls: list[Body], room: Room) -> None:
             judge(body, room, said)
 
 
+def try_without_answers(batch: list[Body], room: Room) -> None:
+    """Tries bodies that an answer has refused once more, without the answers of the functions that they change."""
+    symbols = room.symbols_of(set().union(*(body.changed for body in batch)))
+    with room.without_answers(symbols):
+        right = room.check(room.texts, symbols)
+        wrong = room.check(texts_with(batch, room.texts), symbols)
+    for body in batch:
+        body.bare = [goal for symbol in room.symbols_of(body.changed) for goal in newly_open(symbol, right, wrong)]
+
+
 def is_proved(control: Body, room: Room) -> bool:
     """Whether a control is proved when no other edit is applied."""
     symbols = room.symbols_of(control.changed)
@@ -170,9 +189,9 @@ class Trial:
         """The counts in words."""
         count = collections.Counter(body.verdict for body in self.bodies)
         why = collections.Counter(body.verdict for body in self.bodies if body.edit.why)
-        alone = sum(body.verdict == REFUSED and body.told.startswith("proofs/") for body in self.bodies)
+        bare, alone = (sum(body.meets_answer() and bool(body.bare) == it for body in self.bodies) for it in (True, False))
         gone = sum(bool(body.gone) for body in self.bodies)
-        misfit = f"{alone} by an answer that does not fit, {gone} with answers to goals that are gone"
+        misfit = f"{bare} once answers were dropped, {alone} by an answer alone, {gone} with answers to goals that are gone"
         said = [f"{count[REFUSED]} refused ({misfit})"]
         said += [f"{count[verdict]} {verdict} ({why[verdict]} with a reason)" for verdict in (PROVED, NOT_JUDGED)]
         return f"{len(self.bodies)} wrong bodies: {', '.join(said)}, {self.batches} batches, {self.seconds / 60:.1f} minutes"
@@ -204,6 +223,8 @@ def trial_of(crate: str) -> Trial:
                 judged = sum(bool(body.verdict) for body in trial.bodies)
                 print(f"{crate}: {judged} of {len(trial.bodies)} judged", file=sys.stderr, flush=True)
             left = [body for body in left if not body.verdict]
+        for batch in in_batches([body for body in trial.bodies if body.meets_answer()], room.texts):
+            try_without_answers(batch, room)
     for body in trial.bodies:
         if not body.verdict:
             body.judge(NOT_JUDGED, why)
@@ -220,6 +241,8 @@ def print_trial(crate: str, trial: Trial) -> None:
             print(f"  why: {body.edit.why}" if body.edit.why else "  it gives no reason")
         elif body.edit.why:
             print(f"{label}: refused, although it gives a reason why it is not: {body.edit.why}")
+        elif body.meets_answer() and not body.bare:
+            print(f"{label}: refused by an answer alone: {body.told}")
         elif body.gone:
             print(f"{label}: refused, for {body.told}, but also because of {body.gone}")
     print(f"{crate}: {trial.counts()}", flush=True)
