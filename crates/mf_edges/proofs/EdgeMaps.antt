@@ -18,22 +18,23 @@ use Rattle.mf_edges.proofs.EdgeSums.{with_edge_in-before, with_edge_in-behind, w
 
 -- to the left of a column, the new edges have the mapped weights of a row, the rest of whose edges are still to come;
 -- from the column on, the row without the rest has the running weight, and the new edges have its image
-pub record IsMappedSoFar (m : WeightMap) (es mapped rest : List Edge) (weight image : ℤ) : Type 0 where
+-- (the new edges come with the weight at their end, and the rest with the weight before it)
+pub record IsMappedSoFar (m : WeightMap) (es : List Edge) (new left : List Edge × ℤ) : Type 0 where
   pub low : ℤ
-  pub left : AreEdgesFrom low rest
-  pub sorted : AreEdgesFrom least_coordinate mapped
-  pub before : All (λ e. e.x <ℤ low) mapped
-  pub weights : (x : ℤ) → x <ℤ low → weight_in mapped x ≡ mapped_weight m (weight_in es x)
-  pub sum : (x : ℤ) → low ≤ℤ x → weight_in es x ≡ weight +ℤ weight_in rest x
-  pub running : (x : ℤ) → low ≤ℤ x → weight_in mapped x ≡ image
-  pub lawful : IsLawfulWeight weight
-  pub image_is : image ≡ mapped_weight m weight
+  pub rest : AreEdgesFrom low left.0
+  pub sorted : AreEdgesFrom least_coordinate new.0
+  pub before : All (λ e. e.x <ℤ low) new.0
+  pub weights : (x : ℤ) → x <ℤ low → weight_in new.0 x ≡ mapped_weight m (weight_in es x)
+  pub sum : (x : ℤ) → low ≤ℤ x → weight_in es x ≡ left.1 +ℤ weight_in left.0 x
+  pub running : (x : ℤ) → low ≤ℤ x → weight_in new.0 x ≡ new.1
+  pub lawful : IsLawfulWeight left.1
+  pub image_is : new.1 ≡ mapped_weight m left.1
 
-pub mapped_none : (m : WeightMap) (es : List Edge) → AreEdges es → IsWeightMap m → IsMappedSoFar m es [] es (pos 0) (pos 0)
+pub mapped_none : (m : WeightMap) (es : List Edge) → AreEdges es → IsWeightMap m → IsMappedSoFar m es ([], pos 0) (es, pos 0)
 unfolding weight_in
 mapped_none m es row map = record {
   low = least_coordinate;
-  left = row.sorted;
+  rest = row.sorted;
   sorted = tt;
   before = All-nil (λ e. e.x <ℤ least_coordinate);
   weights = λ x before. sym (ap (mapped_weight m) (weight_in-before least_coordinate es x row.sorted before) ∙ map.zero);
@@ -44,12 +45,12 @@ mapped_none m es row map = record {
 }
 
 pub mapped_read : (m : WeightMap) (es mapped : List Edge) (i : ℕ) (d : Edge) (weight image : ℤ) → i < length es
-    → IsMappedSoFar m es mapped (drop i es) weight image → IsMappedSoFar m es mapped (get_or es i d ∷ drop (i + 1) es) weight image
-mapped_read m es mapped i d weight image inside so_far = subst (λ rest. IsMappedSoFar m es mapped rest weight image) (drop_more es i d inside) so_far
+    → IsMappedSoFar m es (mapped, image) (drop i es, weight) → IsMappedSoFar m es (mapped, image) (get_or es i d ∷ drop (i + 1) es, weight)
+mapped_read m es mapped i d weight image inside so_far = subst (λ rest. IsMappedSoFar m es (mapped, image) (rest, weight)) (drop_more es i d inside) so_far
 
 -- where the rest adds nothing, the new edges have the mapped weight of the row
 mapped_where_none : (m : WeightMap) (es mapped rest : List Edge) (weight image : ℤ)
-    → IsMappedSoFar m es mapped rest weight image → (x : ℤ) → weight_in rest x ≡ pos 0 → weight_in mapped x ≡ mapped_weight m (weight_in es x)
+    → IsMappedSoFar m es (mapped, image) (rest, weight) → (x : ℤ) → weight_in rest x ≡ pos 0 → weight_in mapped x ≡ mapped_weight m (weight_in es x)
 mapped_where_none m es mapped rest weight image so_far x none =
     by_lt_z x so_far.low (so_far.weights x) (λ behind.
     let sum = so_far.sum x behind in
@@ -57,15 +58,15 @@ mapped_where_none m es mapped rest weight image so_far x none =
     so_far.running x behind ∙ (so_far.image_is ∙ ap (mapped_weight m) weight_is))
 
 module _ (m : WeightMap) (es mapped : List Edge) (e : Edge) (rest : List Edge) (weight image : ℤ)
-    (so_far : IsMappedSoFar m es mapped (e ∷ rest) weight image) where
+    (so_far : IsMappedSoFar m es (mapped, image) (e ∷ rest, weight)) where
   reach : IsColumnFrom so_far.low e.x
-  reach = record { from = so_far.left.1; left = so_far.left.0.left; right = so_far.left.0.right }
+  reach = record { from = so_far.rest.1; left = so_far.rest.0.left; right = so_far.rest.0.right }
 
   weight_here : weight_in es e.x ≡ weight +ℤ e.weight
   weight_here =
       let sum = so_far.sum e.x reach.from in
       let first = weight_in-left e rest e.x (omega (arith, ints)) in
-      let none = weight_in-before (e.x +ℤ pos 1) rest e.x so_far.left.2 (omega (arith, ints)) in
+      let none = weight_in-before (e.x +ℤ pos 1) rest e.x so_far.rest.2 (omega (arith, ints)) in
       omega (arith, ints)
 
   pub lawful_more : AreEdges es → IsLawfulWeight (weight +ℤ e.weight)
@@ -81,17 +82,17 @@ module _ (m : WeightMap) (es mapped : List Edge) (e : Edge) (rest : List Edge) (
     weights_before : (x : ℤ) → x <ℤ e.x → weight_in (mapped ++ unless_zero (record { x = e.x; weight = next -ℤ image })) x ≡ mapped_weight m (weight_in es x)
     weights_before x before =
         let none : weight_in (e ∷ rest) x ≡ pos 0 =
-        weight_in-right e rest x before ∙ weight_in-before (e.x +ℤ pos 1) rest x so_far.left.2 (omega (arith, ints)) in
+        weight_in-right e rest x before ∙ weight_in-before (e.x +ℤ pos 1) rest x so_far.rest.2 (omega (arith, ints)) in
         weight_in-push mapped e.x (next -ℤ image) x
         ∙ (with_edge_in-before mapped e.x (next -ℤ image) x before ∙ mapped_where_none m es mapped (e ∷ rest) weight image so_far x none)
 
     weights_here : (x : ℤ) → x ≡ e.x → weight_in (mapped ++ unless_zero (record { x = e.x; weight = next -ℤ image })) x ≡ mapped_weight m (weight_in es x)
     weights_here x here = rw here (running_more e.x (omega (arith, ints)) ∙ (next_is ∙ ap (mapped_weight m) (sym weight_here)))
 
-    pub mapped_more : AreEdges es → IsMappedSoFar m es (mapped ++ unless_zero (record { x = e.x; weight = next -ℤ image })) rest (weight +ℤ e.weight) next
+    pub mapped_more : AreEdges es → IsMappedSoFar m es (mapped ++ unless_zero (record { x = e.x; weight = next -ℤ image }), next) (rest, weight +ℤ e.weight)
     mapped_more row = record {
       low = e.x +ℤ pos 1;
-      left = so_far.left.2;
+      rest = so_far.rest.2;
       sorted = sorted_push mapped so_far.low e.x (next -ℤ image) so_far.sorted so_far.before reach;
       before = before_push mapped so_far.low e.x (next -ℤ image) so_far.before reach.from;
       weights = λ x before. by_lt_z x e.x (weights_before x) (λ behind. weights_here x (omega (arith, ints)));
@@ -105,7 +106,7 @@ module _ (m : WeightMap) (es mapped : List Edge) (e : Edge) (rest : List Edge) (
     }
 
 pub mapped_all : (m : WeightMap) (es mapped : List Edge) (weight image : ℤ) → AreEdges es → IsWeightMap m
-    → IsMappedSoFar m es mapped [] weight image → AreChanged (Weights m) es mapped
+    → IsMappedSoFar m es (mapped, image) ([], weight) → AreChanged (Weights m) es mapped
 unfolding weight_in image_in
 mapped_all m es mapped weight image row map so_far =
     let weights : (x : ℤ) → weight_in mapped x ≡ mapped_weight m (weight_in es x) = λ x. mapped_where_none m es mapped [] weight image so_far x refl in

@@ -14,7 +14,7 @@ use Rattle.mf_edges.specs.declared.edge.Edge.{Edge}
 use Rattle.mf_edges.specs.LawfulWeights.{IsLawfulWeight}
 use Rattle.mf_edges.specs.Edges.{weight_in, AreEdgesFrom, AreEdges}
 use Rattle.mf_edges.specs.Merging.{IsDifference, AreChanges, AreEdgesLeft, BeginAt, BeginFrom, IsSplitAt, unless_zero}
-use Rattle.mf_edges.specs.Sums.{with_edge_in, weight_in_both, HasEdgeSum, HasMoreEdges}
+use Rattle.mf_edges.specs.Sums.{with_edge_in, weight_in_both, IsEdgeSum, HasMoreEdges}
 use Rattle.mf_edges.proofs.EdgesAt.{step_at_edge}
 use Rattle.mf_edges.proofs.EdgesLemmas.{weight_in-append, weight_in-left, weight_in-right, weight_in-parts}
 use Rattle.mf_edges.proofs.EdgesLemmas.{edges_from-append, edges_from-drop, edges_from-lower, edges_from-take}
@@ -145,24 +145,20 @@ before_push sum low x w before le =
 
 -- ---- the sum so far
 
--- what was appended has, together with the edges that are left of two rows, their weights; the edges that are left are
--- at or to the right of a column, and what was appended is to the left of it
-pub record IsSumSoFar (before whole_left whole_right after es fs : List Edge) : Type 0 where
-  pub more : List Edge
-  pub all : after ≡ before ++ more
+-- new edges have, together with the edges that are left of two rows, the weights f; the edges that are left are at or to the right of
+-- a column, and the new ones are to the left of it
+pub record IsSumSoFar (f : ℤ → ℤ) (new es fs : List Edge) : Type 0 where
   pub low : ℤ
   pub reach : least_coordinate ≤ℤ low
-  pub sorted : AreEdgesFrom least_coordinate more
-  pub below : All (λ e. e.x <ℤ low) more
+  pub sorted : AreEdgesFrom least_coordinate new
+  pub below : All (λ e. e.x <ℤ low) new
   pub left : AreEdgesLeft low es
   pub right : AreEdgesLeft low fs
-  pub weights : (x : ℤ) → weight_in more x +ℤ weight_in_both es fs x ≡ weight_in_both whole_left whole_right x
+  pub weights : (x : ℤ) → weight_in new x +ℤ weight_in_both es fs x ≡ f x
 
-pub sum_none : (before es fs : List Edge) → AreEdges es → AreChanges fs → IsSumSoFar before es fs before es fs
+pub sum_none : (es fs : List Edge) → AreEdges es → AreChanges fs → IsSumSoFar (weight_in_both es fs) [] es fs
 unfolding weight_in
-sum_none before es fs left right = record {
-  more = [];
-  all = sym (append-nil before);
+sum_none es fs left right = record {
   low = least_coordinate;
   reach = omega (arith, ints);
   sorted = tt;
@@ -176,86 +172,77 @@ cond-sum : (test : Bool) (v w : ℤ) → cond test (v +ℤ w) (pos 0) ≡ cond t
 cond-sum true v w = refl
 cond-sum false v w = refl
 
-module _ (before whole_left whole_right after es fs : List Edge) (so_far : IsSumSoFar before whole_left whole_right after es fs) where
-  appended : (gs : List Edge) → after ++ gs ≡ before ++ (so_far.more ++ gs)
-  appended gs = ap (λ t. t ++ gs) so_far.all ∙ append_assoc before so_far.more gs
+abbrev pub nothing_more : (es : List Edge) → HasMoreEdges es es
+nothing_more es = record { more = []; all = sym (append-nil es) }
 
-  pub left_sorted : AreEdgesFrom least_coordinate es
-  left_sorted = edges_from-lower least_coordinate so_far.low es so_far.reach so_far.left.sorted
+abbrev pub still_more : {before after : List Edge} → HasMoreEdges before after → (es : List Edge) → HasMoreEdges before (after ++ es)
+still_more {before = before} m es = record { more = m.more ++ es; all = ap (λ t. t ++ es) m.all ∙ append_assoc before m.more es }
 
-  -- whatever they are, edges were appended
-  pub sum_kept : (gs : List Edge) → HasMoreEdges before (after ++ gs)
-  sum_kept gs = record { more = so_far.more ++ gs; all = appended gs }
+pub left_sorted : {f : ℤ → ℤ} {new es fs : List Edge} → IsSumSoFar f new es fs → AreEdgesFrom least_coordinate es
+left_sorted {es = es} so_far = edges_from-lower least_coordinate so_far.low es so_far.reach so_far.left.sorted
 
--- the next change, which comes after the first n edges of the left row
-pub record IsNextChange (es changes : List Edge) (n : ℕ) (f : Edge) (fs : List Edge) : Type 0 where
-  pub next : changes ≡ f ∷ fs
-  pub below : All (λ e. e.x <ℤ f.x) (take n es)
-  pub from : BeginFrom f.x (drop n es)
+-- the next change comes after the first n edges of the left row
+pub record IsNextChange (e : Edge) (es : List Edge) (n : ℕ) : Type 0 where
+  pub below : All (λ d. d.x <ℤ e.x) (take n es)
+  pub from : BeginFrom e.x (drop n es)
 
 -- these edges join, and then the change with the edge at its column
-module _ (before whole_left whole_right after es changes : List Edge) (n : ℕ) (f : Edge) (fs : List Edge)
-    (so_far : IsSumSoFar before whole_left whole_right after es changes) (is_next : IsNextChange es changes n f fs) where
-  right_left : AreEdgesLeft so_far.low (f ∷ fs)
-  right_left = subst (AreEdgesLeft so_far.low) is_next.next so_far.right
+module _ {f : ℤ → ℤ} {new es changes fs : List Edge} {e : Edge} {n : ℕ} (so_far : IsSumSoFar f new es changes) (changes_are : changes ≡ e ∷ fs)
+    (next : IsNextChange e es n) where
+  right_left : AreEdgesLeft so_far.low (e ∷ fs)
+  right_left = subst (AreEdgesLeft so_far.low) changes_are so_far.right
 
-  pub left_of_change : AreEdgesLeft f.x (drop n es)
+  pub left_of_change : AreEdgesLeft e.x (drop n es)
   left_of_change = record {
-    sorted = edges_from-drop so_far.low f.x n es so_far.left.sorted is_next.from;
+    sorted = edges_from-drop so_far.low e.x n es so_far.left.sorted next.from;
     differences = All-drop (λ e. IsDifference e.weight) n es so_far.left.differences;
   }
 
-  pub change_difference : IsDifference f.weight
-  change_difference = All-head (λ e. IsDifference e.weight) f fs right_left.differences
+  pub change_difference : IsDifference e.weight
+  change_difference = All-head (λ e. IsDifference e.weight) e fs right_left.differences
 
   abbrev kept : List Edge
-  kept = so_far.more ++ take n es
+  kept = new ++ take n es
 
   kept_sorted : AreEdgesFrom least_coordinate kept
   kept_sorted =
-      edges_from-append least_coordinate so_far.low so_far.more (take n es) so_far.reach so_far.sorted so_far.below
+      edges_from-append least_coordinate so_far.low new (take n es) so_far.reach so_far.sorted so_far.below
       (edges_from-take so_far.low n es so_far.left.sorted)
 
-  kept_below : All (λ e. e.x <ℤ f.x) kept
+  kept_below : All (λ d. d.x <ℤ e.x) kept
   kept_below =
-      let start : so_far.low ≤ℤ f.x = right_left.sorted.1 in
-      All-append (λ e. e.x <ℤ f.x) so_far.more (take n es)
-      (All-weaker (λ e. e.x <ℤ so_far.low) (λ e. e.x <ℤ f.x) (λ e lt. omega (arith, ints)) so_far.more so_far.below) is_next.below
+      let start : so_far.low ≤ℤ e.x = right_left.sorted.1 in
+      All-append (λ d. d.x <ℤ e.x) new (take n es)
+      (All-weaker (λ d. d.x <ℤ so_far.low) (λ d. d.x <ℤ e.x) (λ d lt. omega (arith, ints)) new so_far.below) next.below
 
-  pub sum_more : (v : ℤ) (others : List Edge) → IsSplitAt (drop n es) f.x v others
-      → IsSumSoFar before whole_left whole_right ((after ++ take n es) ++ unless_zero (record { x = f.x; weight = v +ℤ f.weight })) others fs
+  pub sum_more : (v : ℤ) (others : List Edge) → IsSplitAt (drop n es) e.x v others
+      → IsSumSoFar f (kept ++ unless_zero (record { x = e.x; weight = v +ℤ e.weight })) others fs
   unfolding weight_in weight_in_both with_edge_in
   sum_more v others split =
       let edge = right_left.sorted.0 in
-      let column : IsColumnFrom f.x f.x = record { from = omega (arith, ints); left = edge.left; right = edge.right } in
+      let column : IsColumnFrom e.x e.x = record { from = omega (arith, ints); left = edge.left; right = edge.right } in
       record {
-        more = kept ++ unless_zero (record { x = f.x; weight = v +ℤ f.weight });
-        all = ap (λ t. t ++ unless_zero (record { x = f.x; weight = v +ℤ f.weight })) (appended _ _ _ _ _ _ so_far (take n es)) ∙ append_assoc before kept _;
-        low = f.x +ℤ pos 1;
+        low = e.x +ℤ pos 1;
         reach = omega (arith, ints, edge.left);
-        sorted = sorted_push kept f.x f.x (v +ℤ f.weight) kept_sorted kept_below column;
-        below = before_push kept f.x f.x (v +ℤ f.weight) kept_below column.from;
+        sorted = sorted_push kept e.x e.x (v +ℤ e.weight) kept_sorted kept_below column;
+        below = before_push kept e.x e.x (v +ℤ e.weight) kept_below column.from;
         left = split.left;
-        right = record { sorted = right_left.sorted.2; differences = All-tail (λ e. IsDifference e.weight) f fs right_left.differences };
+        right = record { sorted = right_left.sorted.2; differences = All-tail (λ e. IsDifference e.weight) e fs right_left.differences };
         weights = λ x.
-            let old = rw is_next.next at (so_far.weights x) in
+            let old = rw changes_are at (so_far.weights x) in
             let parts = weight_in-parts n es x in
-            let pushed = weight_in-push kept f.x (v +ℤ f.weight) x in
-            let joined = weight_in-append so_far.more (take n es) x in
+            let pushed = weight_in-push kept e.x (v +ℤ e.weight) x in
+            let joined = weight_in-append new (take n es) x in
             let here = split.weights.weights x in
-            let both = cond-sum (int_le f.x x) v f.weight in
+            let both = cond-sum (int_le e.x x) v e.weight in
             omega (arith, ints);
       }
 
 -- where no change is left, all other edges of the left row join
-pub sum_all : (before whole_left whole_right after es : List Edge) → IsSumSoFar before whole_left whole_right after es []
-    → HasEdgeSum before whole_left whole_right (after ++ es)
+pub sum_all : {whole_left whole_right new es : List Edge} → IsSumSoFar (weight_in_both whole_left whole_right) new es []
+    → IsEdgeSum whole_left whole_right (new ++ es)
 unfolding weight_in weight_in_both
-sum_all before whole_left whole_right after es so_far = record {
-  more = so_far.more ++ es;
-  all = appended _ _ _ _ _ _ so_far es;
-  sum = record {
-    sorted = edges_from-append least_coordinate so_far.low so_far.more es so_far.reach so_far.sorted so_far.below so_far.left.sorted;
-    weights = record { weights = λ x. let old = so_far.weights x in let joined = weight_in-append so_far.more es x in omega (arith, ints) };
-  };
+sum_all {new = new} {es = es} so_far = record {
+  sorted = edges_from-append least_coordinate so_far.low new es so_far.reach so_far.sorted so_far.below so_far.left.sorted;
+  weights = record { weights = λ x. let old = so_far.weights x in let joined = weight_in-append new es x in omega (arith, ints) };
 }

@@ -2,38 +2,40 @@ use Rattle.std.proofs.Common.{◌≡◌, to_z, of_z, to_z-of_z, w32, arith}
 use Rattle.std.proofs.lemmas.Int.{ints}
 use Rattle.std.proofs.lemmas.List.{nil_from_length}
 use Rattle.std.proofs.lemmas.Result.{err_from_is_err_and}
-use Rattle.mf_edges.proofs.EdgeSums.{IsNextChange, sum_kept, difference_is, more_fits, sum_none}
+use Rattle.mf_edges.proofs.EdgeSums.{IsNextChange, nothing_more, still_more, difference_is, more_fits, sum_none}
 use Rattle.mf_edges.proofs.EdgeSums.{left_sorted, left_of_change, change_difference, sum_more, sum_all}
 use Rattle.mf_edges.proofs.edge_sum.push_sum_of_edges.Goals as goal
 use Rattle.mf_edges.proofs.edge_sum.push_sum_of_edges.Goals.{After-count_left_of}
 
 pub loop-change-init : goal.loop-change-init
-loop-change-init c = rw c.in_ok-reserve.ensures.items (sum_none c.args.sum.now.items c.args.left.now c.args.right.now c.requires.left c.requires.right)
+loop-change-init c =
+    rw c.in_ok-reserve.ensures.items (nothing_more c.args.sum.now.items, sum_none c.args.left.now c.args.right.now c.requires.left c.requires.right)
 
 pub count_left_of-requires : goal.count_left_of-requires
-count_left_of-requires c = left_sorted _ _ _ _ _ _ c.loop-change.invariant
+count_left_of-requires c = left_sorted c.loop-change.invariant.1
 
 -- the next change comes after the edges that are kept
-next : (c : After-count_left_of) → IsNextChange c.loop-change.left.now c.loop-change.right.now c.count_left_of.result c.in-Some.change.now c.in-Some.changes.now
+next : (c : After-count_left_of) → IsNextChange c.in-Some.change.now c.loop-change.left.now c.count_left_of.result
 next c =
     let x_is : to_z w32 (of_z w32 c.in-Some.change.now.x) ≡ c.in-Some.change.now.x = omega (arith, ints) in
-    record { next = c.in-Some.ensures.cases.0; below = rw x_is at c.count_left_of.ensures.left; from = rw x_is at c.count_left_of.ensures.others }
+    record { below = rw x_is at c.count_left_of.ensures.left; from = rw x_is at c.count_left_of.ensures.others }
 
 pub split_at-edge-requires : goal.split_at-edge-requires
 split_at-edge-requires c =
     let x_is : to_z w32 (of_z w32 c.in-Some.change.now.x) ≡ c.in-Some.change.now.x = omega (arith, ints) in
-    rw (x_is, c.split_at.ensures.back) (left_of_change _ _ _ _ _ _ _ _ _ c.loop-change.invariant (next (goal.at.split_at-edge-requires c).After-count_left_of))
+    rw (x_is, c.split_at.ensures.back)
+    (left_of_change c.loop-change.invariant.1 c.in-Some.ensures.cases.0 (next (goal.at.split_at-edge-requires c).After-count_left_of))
 
 pub overflow_add-edge : goal.overflow_add-edge
 overflow_add-edge c =
     let old = c.split_at-edge.ensures.difference in
-    let new = change_difference _ _ _ _ _ _ _ _ _ c.loop-change.invariant (next (goal.at.overflow_add-edge c).After-count_left_of) in
+    let new = change_difference c.loop-change.invariant.1 c.in-Some.ensures.cases.0 (next (goal.at.overflow_add-edge c).After-count_left_of) in
     omega (arith, ints)
 
 pub returns-in_err-push_unless_zero-clause-kept : goal.returns-in_err-push_unless_zero-clause-kept
 returns-in_err-push_unless_zero-clause-kept c =
     let fault = err_from_is_err_and c.from_residual-in_err-push_unless_zero.result c.from_residual-in_err-push_unless_zero.ensures.1 in
-    rw (fault.1, c.in_err-push_unless_zero.ensures.unchanged, c.in_ok-push_edges.ensures.pushed) (sum_kept _ _ _ _ _ _ c.loop-change.invariant _)
+    rw (fault.1, c.in_err-push_unless_zero.ensures.unchanged, c.in_ok-push_edges.ensures.pushed) (still_more c.loop-change.invariant.0 _)
 
 pub loop-change-preserved : goal.loop-change-preserved
 loop-change-preserved c =
@@ -41,14 +43,19 @@ loop-change-preserved c =
     let v = c.split_at-edge.result.0 in
     let x_is : to_z w32 (of_z w32 f.x) ≡ f.x = omega (arith, ints) in
     let split = rw (x_is, c.split_at.ensures.back) at c.split_at-edge.ensures in
-    let new = change_difference _ _ _ _ _ _ _ _ _ c.loop-change.invariant (next (goal.at.loop-change-preserved c).After-count_left_of) in
+    let after = next (goal.at.loop-change-preserved c).After-count_left_of in
+    let new = change_difference c.loop-change.invariant.1 c.in-Some.ensures.cases.0 after in
     let v_is = difference_is v split.difference in
     let w_is = difference_is f.weight new in
     let sum_is = to_z-of_z (more_fits v f.weight split.difference new) in
     rw (c.in_ok-push_unless_zero.ensures.pushed, c.in_ok-push_edges.ensures.pushed, c.split_at.ensures.front, x_is, v_is, w_is, sum_is)
-    (sum_more _ _ _ _ _ _ _ _ _ c.loop-change.invariant (next (goal.at.loop-change-preserved c).After-count_left_of) v _ split)
+    (still_more (still_more c.loop-change.invariant.0 _) _, sum_more c.loop-change.invariant.1 c.in-Some.ensures.cases.0 after v _ split)
 
 pub returns-clause-pushed : goal.returns-clause-pushed
 returns-clause-pushed c =
-    rw c.in_ok-extend_from_slice.ensures.items
-    (sum_all _ c.args.left.now c.args.right.now _ _ (rw (nil_from_length c.loop-change.right.now c.in_default.ensures.cases) at c.loop-change.invariant))
+    let all = still_more c.loop-change.invariant.0 c.loop-change.left.now in
+    rw c.in_ok-extend_from_slice.ensures.items (record {
+      more = all.more;
+      all = all.all;
+      sum = sum_all (rw (nil_from_length c.loop-change.right.now c.in_default.ensures.cases) at c.loop-change.invariant.1);
+    })
