@@ -1,10 +1,10 @@
 -- The sides of a contour add its weight times the winding number.
 use Rattle.std.proofs.Common.{◌≡◌, ◌≢◌, ◌&&◌, Bool, not, cond, int_le, int_lt, ℕ, ◌+◌, ◌*◌, ◌<◌, ◌≤◌, ℤ, pos, neg_ℤ, ◌+ℤ◌, ◌-ℤ◌, ◌*ℤ◌}
-use Rattle.std.proofs.Common.{List, [], ◌∷◌, ◌++◌, length, reverse, All, refl, sym, ap, ◌∙◌, inl, inr, arith, length-append, add-one}
+use Rattle.std.proofs.Common.{List, [], ◌∷◌, ◌++◌, length, reverse, All, refl, sym, ap, ◌∙◌, inl, inr, arith, length-append, append-nil, append_assoc, add-one}
 use Rattle.std.proofs.lemmas.Int.{ints}
 use Rattle.std.proofs.lemmas.List.Elements.{All-nil, All-cons, All-append}
 use Rattle.std.proofs.lemmas.List.{reverse-append, length-reverse}
-use Rattle.std.proofs.lemmas.List.Sorted.{IsPermutation-reverse, All-permutation}
+use Rattle.std.proofs.lemmas.List.Sorted.{IsPermutation-reverse, IsPermutation-append_left, IsPermutation-append_comm, All-permutation}
 use Rattle.mf_geom.specs.Coordinates.{greatest_coordinate}
 use Rattle.mf_geom.specs.declared.check.Check.TheVariants.{Off}
 use Rattle.mf_geom.specs.declared.point.Point.{Point}
@@ -23,12 +23,11 @@ use Rattle.mf_ops.specs.Sides.{HasSide, AddWinding}
 use Rattle.mf_ops.specs.Step.{step_at}
 use Rattle.mf_ops.specs.declared.op.Op.TheVariants.{Contour}
 
--- the corners of the segments that leave the first n vertices of a cycle, in two lists
-pub record AreSides (ps : List Point) (w : ℤ) (n : ℕ) (ks ls : List Corner) : Type 0 where
-  pub few : length ks + length ls ≤ 2 * n
-  pub firsts : All IsCorner ks
-  pub seconds : All IsCorner ls
-  pub added : (x y : ℤ) → added_by_all ks x y +ℤ added_by_all ls x y ≡ w *ℤ sum_below n (crossing_at ps x y)
+-- the corners of the segments that leave the first n vertices of a cycle
+pub record AreSides (ps : List Point) (w : ℤ) (n : ℕ) (ks : List Corner) : Type 0 where
+  pub few : length ks ≤ 2 * n
+  pub corners : All IsCorner ks
+  pub added : (x y : ℤ) → added_by_all ks x y ≡ w *ℤ sum_below n (crossing_at ps x y)
 
 added_by_all-append : (ks ls : List Corner) (x y : ℤ) → added_by_all (ks ++ ls) x y ≡ added_by_all ks x y +ℤ added_by_all ls x y
 unfolding added_by_all
@@ -88,97 +87,103 @@ lawful_ends w e lawful from to =
 
 -- so a vertical segment is a side with its two ends as corners
 pub HasSide-vertical : (w : ℤ) (e : Segment) (ks : List Corner) → IsCornerWeight w → IsInRange e.from → IsInRange e.to
-    → e.to.x ≡ e.from.x → All IsCorner ks → HasSide w e ks (ks ++ ends_of w e)
-HasSide-vertical w e ks lawful from to vertical corners = record {
-  few = let two = length-append ks (ends_of w e) in omega (arith, two);
-  corners = All-append IsCorner ks (ends_of w e) corners (lawful_ends w e lawful from to);
-  added = λ x y. added_by_all-append ks (ends_of w e) x y ∙ (λ t. added_by_all ks x y +ℤ added_by_all-ends w x y e vertical t);
+    → e.to.x ≡ e.from.x → HasSide w e ks (ks ++ ends_of w e)
+HasSide-vertical w e ks lawful from to vertical = record {
+  more = ends_of w e;
+  all = refl;
+  few = omega arith;
+  corners = lawful_ends w e lawful from to;
+  added = λ x y. added_by_all-ends w x y e vertical;
 }
 
 -- a horizontal segment needs no corners
-pub HasSide-horizontal : (w : ℤ) (e : Segment) (ks : List Corner) → IsRectilinear e → e.to.x ≢ e.from.x → All IsCorner ks → HasSide w e ks ks
-unfolding IsRectilinear across up
-HasSide-horizontal w e ks (inl horizontal) apart corners =
+pub HasSide-horizontal : (w : ℤ) (e : Segment) (ks : List Corner) → IsRectilinear e → e.to.x ≢ e.from.x → HasSide w e ks ks
+unfolding IsRectilinear across up added_by_all
+HasSide-horizontal w e ks (inl horizontal) apart =
     let same_height : e.to.y ≡ e.from.y = let rise = horizontal.1 in omega (arith, ints) in
-    record { few = omega arith; corners = corners; added = λ x y. rw (crossing-horizontal x y e same_height) (omega (arith, ints)) }
-HasSide-horizontal w e ks (inr vertical) apart corners = absurd (apart (let run = vertical.0 in omega (arith, ints)))
+    record {
+      more = [];
+      all = sym (append-nil ks);
+      few = omega arith;
+      corners = All-nil IsCorner;
+      added = λ x y. rw (crossing-horizontal x y e same_height) (omega (arith, ints));
+    }
+HasSide-horizontal w e ks (inr vertical) apart = absurd (apart (let run = vertical.0 in omega (arith, ints)))
 
--- the ends of a segment are in range
-pub IsInRange-ends : (ps : List Point) (n : ℕ) → IsRectilinearCycle ps → n < length ps → IsInRange (segment_at ps n).from × IsInRange (segment_at ps n).to
+-- a rectilinear segment between points in range
+pub record IsSegment (e : Segment) : Type 0 where
+  pub rectilinear : IsRectilinear e
+  pub from : IsInRange e.from
+  pub to : IsInRange e.to
+
+pub IsSegment-at : (ps : List Point) (n : ℕ) → IsRectilinearCycle ps → n < length ps → IsSegment (segment_at ps n)
 unfolding segment_at
-IsInRange-ends ps n cycle below = (cycle.range.in_range n below, cycle.range.in_range (next_place ps n) (next_place-below ps n below))
+IsSegment-at ps n cycle below = record {
+  rectilinear = cycle.rectilinear n below;
+  from = cycle.range.in_range n below;
+  to = cycle.range.in_range (next_place ps n) (next_place-below ps n below);
+}
 
-pub AreSides-none : (ps : List Point) (w : ℤ) → AreSides ps w 0 [] []
+pub AreSides-none : (ps : List Point) (w : ℤ) → AreSides ps w 0 []
 unfolding added_by_all sum_below
-AreSides-none ps w = record {
-  few = omega arith;
-  firsts = All-nil IsCorner;
-  seconds = All-nil IsCorner;
-  added = λ x y. omega (arith, ints);
-}
+AreSides-none ps w = record { few = omega arith; corners = All-nil IsCorner; added = λ x y. omega (arith, ints) }
 
--- the next segment may go to the first list
-pub AreSides-first : (ps : List Point) (w : ℤ) (n : ℕ) (ks more ls : List Corner) → AreSides ps w n ks ls → HasSide w (segment_at ps n) ks more
-    → AreSides ps w (n + 1) more ls
+-- the corners of the next segment may stand at the end of the second part
+pub AreSides-second : (ps : List Point) (w : ℤ) (n : ℕ) (ks ls new : List Corner) → AreSides ps w n (ks ++ ls) → HasSide w (segment_at ps n) ls new
+    → AreSides ps w (n + 1) (ks ++ new)
 unfolding sum_below crossing_at
-AreSides-first ps w n ks more ls sides side = record {
-  few = omega (arith, sides.few, side.few);
-  firsts = side.corners;
-  seconds = sides.seconds;
-  added = λ x y.
-      let e = segment_at ps n in
-      let grown = mul-add w (sum_below n (crossing_at ps x y)) (crossing x y e) in
-      rw add-one (omega (arith, ints, side.added x y, sides.added x y, grown));
-}
+AreSides-second ps w n ks ls new sides side =
+    rw (side.all, ← append_assoc ks ls side.more) (record {
+      few = omega (arith, length-append (ks ++ ls) side.more, sides.few, side.few);
+      corners = All-append IsCorner (ks ++ ls) side.more sides.corners side.corners;
+      added = λ x y.
+          let grown = mul-add w (sum_below n (crossing_at ps x y)) (crossing x y (segment_at ps n)) in
+          rw add-one (omega (arith, ints, added_by_all-append (ks ++ ls) side.more x y, side.added x y, sides.added x y, grown));
+    })
 
-AreSides-swapped : (ps : List Point) (w : ℤ) (n : ℕ) (ks ls : List Corner) → AreSides ps w n ks ls → AreSides ps w n ls ks
+AreSides-swapped : (ps : List Point) (w : ℤ) (n : ℕ) (ks ls : List Corner) → AreSides ps w n (ks ++ ls) → AreSides ps w n (ls ++ ks)
 AreSides-swapped ps w n ks ls sides = record {
-  few = omega (arith, sides.few);
-  firsts = sides.seconds;
-  seconds = sides.firsts;
-  added = λ x y. omega (arith, ints, sides.added x y);
+  few = omega (arith, length-append ks ls, length-append ls ks, sides.few);
+  corners = All-permutation IsCorner (ks ++ ls) (ls ++ ks) (IsPermutation-append_comm ks ls) sides.corners;
+  added = λ x y. omega (arith, ints, added_by_all-append ks ls x y, added_by_all-append ls ks x y, sides.added x y);
 }
 
--- or to the second one
-pub AreSides-second : (ps : List Point) (w : ℤ) (n : ℕ) (ks ls more : List Corner) → AreSides ps w n ks ls → HasSide w (segment_at ps n) ls more
-    → AreSides ps w (n + 1) ks more
-AreSides-second ps w n ks ls more sides side =
-    AreSides-swapped ps w (n + 1) more ks (AreSides-first ps w n ls more ks (AreSides-swapped ps w n ks ls sides) side)
+-- or of the first one
+pub AreSides-first : (ps : List Point) (w : ℤ) (n : ℕ) (ks new ls : List Corner) → AreSides ps w n (ks ++ ls) → HasSide w (segment_at ps n) ks new
+    → AreSides ps w (n + 1) (new ++ ls)
+AreSides-first ps w n ks new ls sides side =
+    AreSides-swapped ps w (n + 1) ls new (AreSides-second ps w n ls ks new (AreSides-swapped ps w n ks ls sides) side)
 
--- the corners of both lists may stand in one, those of the first from the last one back
-pub AreSides-joined : (ps : List Point) (w : ℤ) (n : ℕ) (ks ls : List Corner) → AreSides ps w n ks ls → AreSides ps w n (reverse ks ++ ls) []
-unfolding added_by_all
-AreSides-joined ps w n ks ls sides = record {
-  few = omega (arith, length-append (reverse ks) ls, length-reverse ks, sides.few);
-  firsts = All-append IsCorner (reverse ks) ls (All-permutation IsCorner ks (reverse ks) (IsPermutation-reverse ks) sides.firsts) sides.seconds;
-  seconds = All-nil IsCorner;
-  added = λ x y. omega (arith, ints, added_by_all-append (reverse ks) ls x y, added_by_all-reverse ks x y, sides.added x y);
-}
+-- the corners of the first part may stand from the last one back
+pub AreSides-joined : (ps : List Point) (w : ℤ) (n : ℕ) (ks ls : List Corner) → AreSides ps w n (ks ++ ls) → AreSides ps w n (reverse ks ++ ls)
+AreSides-joined ps w n ks ls sides =
+    let turned = IsPermutation-append_left ls ks (reverse ks) (IsPermutation-reverse ks) in
+    record {
+      few = omega (arith, length-append ks ls, length-append (reverse ks) ls, length-reverse ks, sides.few);
+      corners = All-permutation IsCorner (ks ++ ls) (reverse ks ++ ls) turned sides.corners;
+      added = λ x y.
+          let one = added_by_all-append ks ls x y in
+          omega (arith, ints, one, added_by_all-append (reverse ks) ls x y, added_by_all-reverse ks x y, sides.added x y);
+    }
 
--- the sides of the complete cycle add the weight times the crossings of all its segments
-added_by_all-sides : (ps : List Point) (w : ℤ) (ks : List Corner) → AreSides ps w (length ps) ks [] → (x y : ℤ)
-    → added_by_all ks x y ≡ w *ℤ sum_below (length ps) (crossing_at ps x y)
-unfolding added_by_all
-added_by_all-sides ps w ks sides x y = omega (arith, ints, sides.added x y)
-
--- they add nothing to the right of the field
-pub AreCorners-sides : (ps : List Point) (w : ℤ) (ks : List Corner) → IsRectilinearCycle ps → AreSides ps w (length ps) ks [] → AreCorners ks
+-- the sides of the complete cycle add nothing to the right of the field
+pub AreCorners-sides : (ps : List Point) (w : ℤ) (ks : List Corner) → IsRectilinearCycle ps → AreSides ps w (length ps) ks → AreCorners ks
 AreCorners-sides ps w ks cycle sides =
     let sized = cycle.range.sized in
     record {
       few = omega (arith, sides.few, sized.greatest);
-      corners = sides.firsts;
+      corners = sides.corners;
       closed = λ y.
           let balanced =
           crossings-beside ps greatest_coordinate y (pos 1)
           (λ i below. let point = cycle.range.in_range i below in unit_step-reached greatest_coordinate (point_at ps i).x point.x.greatest) in
-          added_by_all-sides ps w ks sides greatest_coordinate y ∙ ap (λ n. w *ℤ n) balanced ∙ omega (arith, ints);
+          sides.added greatest_coordinate y ∙ ap (λ n. w *ℤ n) balanced ∙ omega (arith, ints);
     }
 
 -- together they add the weight times the winding number
-pub AddWinding-sides : (ps : List Point) (w : ℤ) (ks : List Corner) → IsRectilinearCycle ps → AreSides ps w (length ps) ks [] → AddWinding ps w ks
+pub AddWinding-sides : (ps : List Point) (w : ℤ) (ks : List Corner) → IsRectilinearCycle ps → AreSides ps w (length ps) ks → AddWinding ps w ks
 AddWinding-sides ps w ks cycle sides = record {
-  added = λ x y. added_by_all-sides ps w ks sides x y ∙ ap (λ n. w *ℤ n) (sym (winding-crossings ps x y cycle));
+  added = λ x y. sides.added x y ∙ ap (λ n. w *ℤ n) (sym (winding-crossings ps x y cycle));
 }
 
 -- so a picture to which the sides of a contour were added has the weights of the step with the turning check off

@@ -1,5 +1,5 @@
 -- Filling a contour: the weight with which its cycle is filled, and the sides of the cycle, its vertical segments, as corners.
-use Rattle.std.specs.Prelude.{◌≡◌, ◌≢◌, Some, ◌+◌, ◌≤◌, ℤ, ◌+ℤ◌, ◌*ℤ◌, All, List, length}
+use Rattle.std.specs.Prelude.{◌≡◌, ◌≢◌, Some, ◌≤◌, ℤ, ◌*ℤ◌, All, List, ◌++◌, length}
 use Rattle.mf_geom.specs.declared.point.Point.{Point}
 use Rattle.mf_geom.specs.Crossing.{crossing}
 use Rattle.mf_geom.specs.Path.{Segment}
@@ -14,12 +14,13 @@ use Rattle.mf_ops.specs.declared.op.Op.{Op}
 use Rattle.mf_ops.specs.declared.op.Op.TheVariants.{Contour}
 use Rattle.mf_ops.specs.declared.op.OpFault.TheVariants.{Cycle}
 
--- the new corners are at most two more than the old ones, and add to each pixel also the weight w times the crossing of the segment
--- e
+-- at most two corners were appended, which add to each pixel the weight w times the crossing of the segment e
 pub record HasSide (w : ℤ) (e : Segment) (old new : List Corner) : Type 0 where
-  pub few : length new ≤ length old + 2
-  pub corners : All IsCorner new
-  pub added : (x y : ℤ) → added_by_all new x y ≡ added_by_all old x y +ℤ (w *ℤ crossing x y e)
+  pub more : List Corner
+  pub all : new ≡ old ++ more
+  pub few : length more ≤ 2
+  pub corners : All IsCorner more
+  pub added : (x y : ℤ) → added_by_all more x y ≡ w *ℤ crossing x y e
 
 -- these corners add to each pixel the weight w times the winding number of the cycle
 pub record AddWinding (ps : List Point) (w : ℤ) (ks : List Corner) : Type 0 where

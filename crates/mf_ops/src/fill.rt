@@ -1,11 +1,11 @@
 //! Filling a contour: the sides of its cycle become corners, and these are added to the picture.
-ghost use Rattle.std.specs.Prelude.{◌≡◌, ◌≢◌, None, Some, IfOk, IfErr, OnOk, OnErr, ◌*ℤ◌, All, List};
+ghost use Rattle.std.specs.Prelude.{◌≡◌, ◌≢◌, None, Some, IfOk, IfErr, OnOk, OnErr, ◌*ℤ◌, List};
 ghost use Rattle.std.specs.Int.{int_signum};
 ghost use Rattle.mf_geom.specs.Path.{IsInRange, IsRectilinear};
 ghost use Rattle.mf_geom.specs.Turning.{turning};
 ghost use Rattle.mf_geom.specs.Faults.{turning_fault};
 ghost use Rattle.mf_geom.specs.declared.check.Check.TheVariants.{Off};
-ghost use Rattle.mf_rows.specs.Corners.{IsCorner, IsCornerWeight, AreCorners};
+ghost use Rattle.mf_rows.specs.Corners.{IsCornerWeight, AreCorners};
 ghost use Rattle.mf_rows.specs.Dots.{Dot};
 ghost use Rattle.mf_ops.specs.Sides.{HasSide, AddWinding, FillsWith};
 ghost use Rattle.mf_ops.specs.Step.{next_picture, op_fault};
@@ -101,7 +101,6 @@ fn push_side(
     to: Point,
     weight: i32,
 ) -> Result<(), OutOfMemory>
-    requires corners { All IsCorner corners.old.items }
     requires segment { IsRectilinear (record { from = from; to = to }) }
     requires from { IsInRange from }
     requires to { IsInRange to }

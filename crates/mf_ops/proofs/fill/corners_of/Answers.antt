@@ -2,44 +2,31 @@ use Rattle.std.proofs.Common.{◌≡◌, ◌<◌, ◌++◌, reverse, length, ap,
 use Rattle.std.proofs.lemmas.Int.{ints}
 use Rattle.mf_geom.specs.Path.{segment_at}
 use Rattle.mf_ops.specs.Sides.{HasSide}
-use Rattle.mf_ops.proofs.Sides.{AreSides, AreSides-none, AreSides-first, AreSides-second, AreSides-joined, IsInRange-ends, AreCorners-sides, AddWinding-sides}
-use Rattle.mf_ops.proofs.fill.corners_of.Goals.{then-from-to+in_ok-push_side, else-from-to+in_ok-push_side-2}
+use Rattle.mf_ops.proofs.Sides.{AreSides, AreSides-none, AreSides-first, AreSides-second, AreSides-joined}
+use Rattle.mf_ops.proofs.Sides.{IsSegment, IsSegment-at, AreCorners-sides, AddWinding-sides}
+use Rattle.mf_ops.proofs.fill.corners_of.Goals.{After-segment_ends, then-from-to+in_ok-push_side, else-from-to+in_ok-push_side-2}
 use Rattle.mf_ops.proofs.fill.corners_of.Goals as goal
 
 pub loop-place-init : goal.loop-place-init
 loop-place-init c = rw (c.in_ok-rising.ensures.items, c.in_ok-falling.ensures.items) (AreSides-none _ _)
 
+-- the segment that leaves the vertex
+segment : (c : After-segment_ends) → IsSegment (record { from = c.segment_ends.result.0; to = c.segment_ends.result.1 })
+segment c =
+    let below : c.loop-place.place < length c.args.cycle.now = omega (arith, ap length c.points-count.ensures.points) in
+    rw (c.segment_ends.ensures.from, c.segment_ends.ensures.to) (IsSegment-at _ _ c.segment_ends.ensures.lawful below)
+
 pub push_side-requires : goal.push_side-requires
 push_side-requires c =
-    let ps = c.args.cycle.now in
-    let cycle = c.segment_ends.ensures.lawful in
     let weight_is : to_z w32 (of_z w32 c.args.weight) ≡ c.args.weight = omega (arith, ints) in
-    let count_is = ap length c.points-count.ensures.points in
-    let below : c.loop-place.place < length ps = omega (arith, count_is) in
-    let ends = IsInRange-ends ps c.loop-place.place cycle below in
-    rw (c.segment_ends.ensures.from, c.segment_ends.ensures.to) record {
-      corners = c.loop-place.invariant.firsts;
-      segment = cycle.rectilinear c.loop-place.place below;
-      from = ends.0;
-      to = ends.1;
-      weight = rw weight_is c.requires;
-    }
+    let is = segment (goal.at.push_side-requires c).After-segment_ends in
+    record { segment = is.rectilinear; from = is.from; to = is.to; weight = rw weight_is c.requires }
 
 pub push_side-requires-else-from-to : goal.push_side-requires-else-from-to
 push_side-requires-else-from-to c =
-    let ps = c.args.cycle.now in
-    let cycle = c.segment_ends.ensures.lawful in
     let weight_is : to_z w32 (of_z w32 c.args.weight) ≡ c.args.weight = omega (arith, ints) in
-    let count_is = ap length c.points-count.ensures.points in
-    let below : c.loop-place.place < length ps = omega (arith, count_is) in
-    let ends = IsInRange-ends ps c.loop-place.place cycle below in
-    rw (c.segment_ends.ensures.from, c.segment_ends.ensures.to) record {
-      corners = c.loop-place.invariant.seconds;
-      segment = cycle.rectilinear c.loop-place.place below;
-      from = ends.0;
-      to = ends.1;
-      weight = rw weight_is c.requires;
-    }
+    let is = segment (goal.at.push_side-requires-else-from-to c).After-segment_ends in
+    record { segment = is.rectilinear; from = is.from; to = is.to; weight = rw weight_is c.requires }
 
 pub loop-place-preserved : goal.loop-place-preserved
 loop-place-preserved c =
@@ -49,7 +36,7 @@ loop-place-preserved c =
     let rising = c.loop-place.rising.items in
     let falling = c.loop-place.falling.items in
     let weight_is : to_z w32 (of_z w32 w) ≡ w = omega (arith, ints) in
-    let so_far : AreSides ps w n rising falling = rw weight_is at c.loop-place.invariant in
+    let so_far : AreSides ps w n (rising ++ falling) = rw weight_is at c.loop-place.invariant in
     rw weight_is (elim c.if-from-to.branch [
       | then-from-to+in_ok-push_side up ↦
           let side : HasSide w (segment_at ps n) rising up.push_side.new.corners.items =
@@ -71,7 +58,7 @@ returns c =
     let weight_is : to_z w32 (of_z w32 w) ≡ w = omega (arith, ints) in
     let count_is = ap length c.points-count.ensures.points in
     let all : c.loop-place.place ≡ length ps = omega (arith, count_is) in
-    let apart : AreSides ps w (length ps) rising falling = rw (weight_is, all) at c.loop-place.invariant in
+    let apart : AreSides ps w (length ps) (rising ++ falling) = rw (weight_is, all) at c.loop-place.invariant in
     let sides = AreSides-joined ps w (length ps) rising falling apart in
     rw (c.in_ok-extend_from_slice.ensures.items, c.reverse.ensures.items, c.deref.ensures.value) record {
       lawful = AreCorners-sides ps w (reverse rising ++ falling) rectilinear sides;

@@ -24,11 +24,11 @@ returns-in_ok-push-2 c =
     let ended : c.push-then-from-to.new.self.items ≡ c.push.new.self.items ++ second ∷ [] =
     rw (weight_is, to_x, to_y, negated) at c.in_ok-push-2.ensures.items in
     let both = ended ∙ (λ t. begun t ++ second ∷ []) ∙ append_assoc old (first ∷ []) (second ∷ []) in
-    rw both (HasSide-vertical c.args.weight segment old c.requires.weight c.requires.from c.requires.to vertical c.requires.corners)
+    rw both (HasSide-vertical c.args.weight segment old c.requires.weight c.requires.from c.requires.to vertical)
 
 pub returns-else-from-to : goal.returns-else-from-to
 returns-else-from-to c =
     let from = c.args.from in
     let to = c.args.to in
     let apart : to.x ≢ from.x = λ same. c.if-from-to.false (ap (of_z w32) (sym same)) in
-    HasSide-horizontal c.args.weight (record { from = from; to = to }) c.args.corners.now.items c.requires.segment apart c.requires.corners
+    HasSide-horizontal c.args.weight (record { from = from; to = to }) c.args.corners.now.items c.requires.segment apart
