@@ -28,15 +28,15 @@ others_behind {y} n rs others lower = All-weaker (λ r. r.y ≤ℤ y) (λ r. r.y
 -- ---- the sum so far
 
 -- the numbers of its bands are less than `next`, and those of the bands that are left, and of what is left to add, are not
-pub record IsBandSumSoFar (whole_left whole_right : List EdgeRow) (sum bs : List (Arc Band Global)) (added : Addend) : Type 0 where
-  pub rows : IsRowSumSoFar whole_left whole_right (rows_of_bands sum) (rows_of_bands bs) (addend_rows added)
+pub record IsBandSumSoFar (f : ℤ → ℤ → ℤ) (sum bs : List (Arc Band Global)) (added : Addend) : Type 0 where
+  pub rows : IsRowSumSoFar f (rows_of_bands sum) (rows_of_bands bs) (addend_rows added)
   pub next : ℤ
   pub before : RiseBefore next sum
   pub left : RiseFrom next bs
   pub right : IsAddedFrom next added
 
 pub nothing_added : (bs : List (Arc Band Global)) (added : Addend) → AreRows (rows_of_bands bs) → HaveRisingNumbers bs → IsAddedFrom (pos 0) added
-    → IsBandSumSoFar (rows_of_bands bs) (addend_rows added) [] bs added
+    → IsBandSumSoFar (weight_in_all (rows_of_bands bs) (addend_rows added)) [] bs added
 nothing_added bs added left rising from = record {
   rows = sum_none (rows_of_bands bs) (addend_rows added) left (added_are_rows added from);
   next = pos 0;
@@ -45,8 +45,7 @@ nothing_added bs added left rising from = record {
   right = from;
 }
 
-module _ {whole_left whole_right : List EdgeRow} {sum bs : List (Arc Band Global)} {added : Addend}
-    (so_far : IsBandSumSoFar whole_left whole_right sum bs added) where
+module _ {f : ℤ → ℤ → ℤ} {sum bs : List (Arc Band Global)} {added : Addend} (so_far : IsBandSumSoFar f sum bs added) where
   pub least : pos 0 ≤ℤ so_far.next
   least = rise-ends (pos 0) so_far.next (numbers_of sum) so_far.before
 
@@ -103,24 +102,24 @@ module _ {whole_left whole_right : List EdgeRow} {sum bs : List (Arc Band Global
         only_own = only_first own_split others_left
 
         pub own_rows : AreRows (rows_of_bands own)
-        own_rows = rows_of_first (rows_split_at own_split) (rows_of_rest (rows_split_at split) (rows_left _ _ _ _ _ so_far.rows))
+        own_rows = rows_of_first (rows_split_at own_split) (rows_of_rest (rows_split_at split) (rows_left so_far.rows))
 
         -- the bands before it were appended
         module _ {middle : List EdgeRow} (with_before : middle ≡ rows_of_bands sum ++ rows_of_bands before) where
-          so_far_before : IsRowSumSoFar whole_left whole_right middle (rows_of_bands others) (addend_rows added)
+          so_far_before : IsRowSumSoFar f middle (rows_of_bands others) (addend_rows added)
           so_far_before =
-              sum_more_step _ _ _ _ _ so_far.rows (part.number -ℤ pos 1) _ _ [] (addend_rows added) (rows_split_at split) none_before _
-              (has_sum-left _ _ [] _ (rows_of_first (rows_split_at split) (rows_left _ _ _ _ _ so_far.rows)) refl with_before)
+              sum_more_step so_far.rows (part.number -ℤ pos 1) _ _ [] (addend_rows added) (rows_split_at split) none_before _
+              (has_sum-left _ _ [] _ (rows_of_first (rows_split_at split) (rows_left so_far.rows)) refl with_before)
 
           pub unlawful_in_band : IsUnlawfulSomewhere (weight_in_all (rows_of_bands own) (part_rows part))
-              → IsUnlawfulSomewhere (weight_in_all whole_left whole_right)
-          unlawful_in_band = unlawful_in_step _ _ _ _ _ so_far_before part.number _ _ _ _ (rows_split_at own_split) first.rows
+              → IsUnlawfulSomewhere f
+          unlawful_in_band = unlawful_in_step so_far_before part.number _ _ _ _ (rows_split_at own_split) first.rows
 
           -- and then the band with the sum
           pub added_more : {after : List (Arc Band Global)} → HasSum middle (rows_of_bands own) (part_rows part) (rows_of_bands after)
-              → RiseBefore (part.number +ℤ pos 1) after → IsBandSumSoFar whole_left whole_right after others_after rest
+              → RiseBefore (part.number +ℤ pos 1) after → IsBandSumSoFar f after others_after rest
           added_more more rising = record {
-            rows = sum_more_step _ _ _ _ _ so_far_before part.number _ _ _ _ (rows_split_at own_split) first.rows _ more;
+            rows = sum_more_step so_far_before part.number _ _ _ _ (rows_split_at own_split) first.rows _ more;
             next = part.number +ℤ pos 1;
             before = rising;
             left = rest_from own_split part.number others_left first.greatest;

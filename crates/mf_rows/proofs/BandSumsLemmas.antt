@@ -53,7 +53,7 @@ rows_from-both top y (r ∷ rs) rows below =
     let in_reach : r.y ≤ℤ top = rows.1 in
     (rows.0, omega (arith, ints, clamps), rows.2)
 
-module _ (whole_left whole_right sum rs ss : List EdgeRow) (so_far : IsRowSumSoFar whole_left whole_right sum rs ss) (n : ℤ)
+module _ {f : ℤ → ℤ → ℤ} {sum rs ss : List EdgeRow} (so_far : IsRowSumSoFar f sum rs ss) (n : ℤ)
     (first_left rest_left first_right rest_right : List EdgeRow)
     (split_left : AreSplitAtBand n rs first_left rest_left) (split_right : AreSplitAtBand n ss first_right rest_right) where
   from_top_left : AreRowsFrom so_far.top (first_left ++ rest_left)
@@ -81,7 +81,7 @@ module _ (whole_left whole_right sum rs ss : List EdgeRow) (so_far : IsRowSumSoF
 
   -- where the first rows have a weight, neither the sum so far nor the other rows have a row
   weight_in_all-step : (x y : ℤ) → weight_in_all first_left first_right x y ≢ pos 0
-      → weight_in_all whole_left whole_right x y ≡ weight_in_all first_left first_right x y
+      → f x y ≡ weight_in_all first_left first_right x y
   unfolding weight_in_all
   weight_in_all-step x y some =
       by_lt_z so_far.top y
@@ -107,7 +107,7 @@ module _ (whole_left whole_right sum rs ss : List EdgeRow) (so_far : IsRowSumSoF
       omega (arith, ints)))
 
   pub unlawful_in_step : IsUnlawfulSomewhere (weight_in_all first_left first_right)
-      → IsUnlawfulSomewhere (weight_in_all whole_left whole_right)
+      → IsUnlawfulSomewhere f
   unlawful_in_step unlawful =
       let x = unlawful.x in
       let y = unlawful.y in
@@ -121,7 +121,7 @@ module _ (whole_left whole_right sum rs ss : List EdgeRow) (so_far : IsRowSumSoF
       }
 
   pub sum_more_step : (after : List EdgeRow) → HasSum sum first_left first_right after
-      → IsRowSumSoFar whole_left whole_right after rest_left rest_right
+      → IsRowSumSoFar f after rest_left rest_right
   sum_more_step after step =
       let top = int_min so_far.top (lowest_of n -ℤ pos 1) in
       let lower : top ≤ℤ so_far.top = omega (arith, ints, clamps) in

@@ -224,12 +224,12 @@ pushed_behind rows new r lawful fits not_there has =
 -- ---- rows that are closed, one after another
 
 -- the first of the rows that are left, which is lawful, and those after it
-pub record IsNextRow (all closed : List EdgeRow) (rows : List OpenRow) (k : ℕ) (row : OpenRow) : Type 0 where
+pub record IsNextRow (all closed : List EdgeRow) (row : OpenRow) (left : List EdgeRow) : Type 0 where
   pub own : IsEdgeRow (open_row row)
-  pub rest : closed ++ open_row row ∷ open_rows (drop (k + 1) rows) ≡ all
+  pub rest : closed ++ open_row row ∷ left ≡ all
 
 pub next_row : (all closed : List EdgeRow) (rows : List OpenRow) (k : ℕ) (row : OpenRow) → AreRows all → k < length rows → row ≡ get_or rows k row
-    → closed ++ open_rows (drop k rows) ≡ all → IsNextRow all closed rows k row
+    → closed ++ open_rows (drop k rows) ≡ all → IsNextRow all closed row (open_rows (drop (k + 1) rows))
 next_row all closed rows k row lawful inside read so_far =
     let left = open_rows (drop (k + 1) rows) in
     let rest : closed ++ open_row row ∷ left ≡ all =

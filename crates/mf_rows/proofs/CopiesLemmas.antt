@@ -10,6 +10,7 @@ use Rattle.mf_edges.specs.declared.edge.Edge.{Edge}
 use Rattle.mf_rows.specs.declared.row_list.Head.{Head}
 use Rattle.mf_rows.specs.declared.row_list.Place.{Place}
 use Rattle.mf_rows.specs.declared.row_list.Place.TheVariants as place
+use Rattle.mf_rows.specs.declared.slice.RowSlice.{RowSlice}
 use Rattle.mf_rows.specs.Copies.{LiesBetween, IsMovable, IsMoved, IsCopied}
 use Rattle.mf_rows.specs.EdgeRows.{EdgeRow}
 use Rattle.mf_rows.specs.RowLists.{edges_between, edges_at, row_at, rows_at, IsRange, IsThere, IsPlaceOf, IsHead, AreHeads}
@@ -59,7 +60,21 @@ between_part es i j k l first order last =
 
 -- ---- edges are copied
 
-module _ (es : List Edge) (hs : List Head) (i : ℕ) (ds : List Edge) (j : ℕ) (copied : IsCopied es hs i ds j) where
+-- these heads are those before and those of some rows
+pub record AreMoved (ds : List Edge) (before after : List Head) (rs : List EdgeRow) : Type 0 where
+  pub heads : AreHeads ds after
+  pub rows : rows_at ds after ≡ rows_at ds before ++ rs
+
+pub moved_none : (ds : List Edge) (before : List Head) → AreHeads ds before → AreMoved ds before before []
+moved_none ds before heads = record { heads = heads; rows = sym (append-nil (rows_at ds before)) }
+
+module _ (rows : RowSlice) (i : ℕ) (ds : List Edge) (j : ℕ) (copied : IsCopied rows i ds j) where
+  abbrev es : List Edge
+  es = rows.edges.now
+
+  abbrev hs : List Head
+  hs = rows.heads.now
+
   edges_moved : (k l : ℕ) → i ≤ k → k ≤ l → l ≤ copied.end → edges_between ds ((k - i) + j) ((l - i) + j) ≡ edges_between es k l
   edges_moved k l first order last =
       let count : ℕ = copied.end - i in
@@ -89,30 +104,21 @@ module _ (es : List Edge) (hs : List Head) (i : ℕ) (ds : List Edge) (j : ℕ) 
   place_moved (place.Own own) (place.Among k l) there within moved = absurd moved
   place_moved (place.Own own) (place.Own other) there within moved = record { there = tt; edges = ap (λ v. v.items) moved }
 
--- these heads are those before and those of rows whose edges were copied
-pub record AreMoved (es ds : List Edge) (before after others : List Head) : Type 0 where
-  pub heads : AreHeads ds after
-  pub rows : rows_at ds after ≡ rows_at ds before ++ rows_at es others
-
-pub moved_none : (es ds : List Edge) (before : List Head) → AreHeads ds before → AreMoved es ds before before []
-moved_none es ds before heads = record { heads = heads; rows = sym (append-nil (rows_at ds before)) }
-
-module _ (es : List Edge) (hs : List Head) (i : ℕ) (ds : List Edge) (j : ℕ) (copied : IsCopied es hs i ds j) (placed : AreHeads es hs) where
   module _ (n : ℕ) (h : Head) (inside : n < length hs) (item : h ≡ get_or hs n h) where
     head_is : IsHead es h
-    head_is = head_at es hs placed n h inside item
+    head_is = head_at es hs rows.placed n h inside item
 
     within_is : LiesBetween i copied.end h.place
     within_is = subst (λ (g : Head). LiesBetween i copied.end g.place) (sym item) (copied.within n h inside)
 
     pub head_movable : IsMovable i j h.place
-    head_movable = place_movable es hs i ds j copied h.place head_is.there within_is
+    head_movable = place_movable h.place head_is.there within_is
 
-    pub moved_next : (before heads : List Head) → AreMoved es ds before heads (take n hs) → (p : Place) → IsMoved i j h.place p
-        → AreMoved es ds before (heads ++ record { y = h.y; reach = h.reach; place = p } ∷ []) (take (n + 1) hs)
+    pub moved_next : (before heads : List Head) → AreMoved ds before heads (rows_at es (take n hs)) → (p : Place) → IsMoved i j h.place p
+        → AreMoved ds before (heads ++ record { y = h.y; reach = h.reach; place = p } ∷ []) (rows_at es (take (n + 1) hs))
     moved_next before heads so_far p moved =
         let g : Head = record { y = h.y; reach = h.reach; place = p } in
-        let at = place_moved es hs i ds j copied h.place p head_is.there within_is moved in
+        let at = place_moved h.place p head_is.there within_is moved in
         let more = take_next hs n h inside item in
         record {
           heads = heads_push ds ds (nothing_more ds) heads so_far.heads g (edges_at es h.place) at head_is.reached;
@@ -122,19 +128,20 @@ module _ (es : List Edge) (hs : List Head) (i : ℕ) (ds : List Edge) (j : ℕ) 
               ∙ ap (λ (rs : List EdgeRow). rows_at ds before ++ rs) (sym (map_push (row_at es) (take n hs) h) ∙ ap (rows_at es) (sym more));
         }
 
-pub moved_all : (es ds : List Edge) (before after hs : List Head) (n : ℕ) → length hs ≤ n → AreMoved es ds before after (take n hs)
+pub moved_all : (es ds : List Edge) (before after hs : List Head) (n : ℕ) → length hs ≤ n → AreMoved ds before after (rows_at es (take n hs))
     → rows_at ds after ≡ rows_at ds before ++ rows_at es hs
 moved_all es ds before after hs n all so_far = so_far.rows ∙ ap (λ (gs : List Head). rows_at ds before ++ rows_at es gs) (take_all n hs all)
 
 -- ---- edges are appended to others
 
-pub copied_behind : (es fs ds : List Edge) (hs : List Head) (i end : ℕ) → IsRange es i end → All (λ h. LiesBetween i end h.place) hs
-    → ds ≡ fs ++ edges_between es i end → length ds < 2 ^ 64 → IsCopied es hs i ds (length fs)
-copied_behind es fs ds hs i end range within all fits =
-    let part : List Edge = edges_between es i end in
+pub copied_behind : (rows : RowSlice) (fs ds : List Edge) (i end : ℕ) → IsRange rows.edges.now i end
+    → All (λ h. LiesBetween i end h.place) rows.heads.now → ds ≡ fs ++ edges_between rows.edges.now i end → length ds < 2 ^ 64
+    → IsCopied rows i ds (length fs)
+copied_behind rows fs ds i end range within all fits =
+    let part : List Edge = edges_between rows.edges.now i end in
     let order = range.order in
     let inside = range.within in
-    let count : length part ≡ end - i = length-between es i end inside in
+    let count : length part ≡ end - i = length-between rows.edges.now i end inside in
     let long : length ds ≡ length fs + length part = ap (λ (gs : List Edge). length gs) all ∙ length-append fs part in
     record {
       end = end;

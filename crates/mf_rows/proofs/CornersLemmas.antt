@@ -19,7 +19,7 @@ use Rattle.mf_rows.specs.Corners.{added_by, added_by_all, IsCorner, IsCornerWeig
 use Rattle.mf_edges.specs.LawfulWeights.{IsLawfulWeight}
 use Rattle.mf_edges.specs.Edges.{weight_in, AreEdgesFrom, AreOpenEdges, AreEdges}
 use Rattle.mf_rows.specs.EdgeRows.{EdgeRow, AreRows, weight_in_rows}
-use Rattle.mf_rows.specs.Strips.{first_height_of, ReachDownTo, HasStrip}
+use Rattle.mf_rows.specs.Strips.{first_height_of, strip_between, ReachDownTo, HasStrip}
 use Rattle.mf_edges.specs.Sums.{HaveWeights, with_edge_in}
 use Rattle.mf_rows.specs.Sums.{HaveFieldWeights}
 
@@ -237,7 +237,7 @@ module _ (all : List Corner) (place : ℕ) (any : Corner) (es : List Edge) (rs :
           omega (arith, ints, swept.given.closed y, below_corner greatest_coordinate y some, nothing_above greatest_coordinate y (omega (arith, ints)));
     }
 
-    swept_more : (ss : List EdgeRow) → HasStrip rs fs (first_height_of left) here.y ss → IsSwept all left fs ss
+    swept_more : (ss : List EdgeRow) → HasStrip (strip_between fs (first_height_of left) here.y) rs ss → IsSwept all left fs ss
     swept_more ss strip = record {
       given = swept.given;
       corners = corners_left;
@@ -259,7 +259,7 @@ module _ (all : List Corner) (place : ℕ) (any : Corner) (es : List Edge) (rs :
       pub top : y ≤ℤ greatest_coordinate
       pub edges : n <ℤ y → AreEdges fs
       pub rows : ReachDownTo y rs
-      pub more : (ss : List EdgeRow) → HasStrip rs fs n y ss → IsSwept all left fs ss
+      pub more : (ss : List EdgeRow) → HasStrip (strip_between fs n y) rs ss → IsSwept all left fs ss
 
     pub level : (n : ℤ) → n ≡ first_height_of left → IsLevel (to_z w32 (of_z w32 n)) (to_z w32 (of_z w32 here.y))
     level n is =

@@ -103,22 +103,31 @@ edge_taken w e es fs first whole =
 abbrev run_between : ℤ → ℤ → ℤ → ℤ → Run
 run_between y x u w = record { y = y; x = x; len = unsigned_abs (u -ℤ x); weight = w }
 
--- runs of row y from column low on, with these weights, followed by those of the rows below: none of them could be longer
-pub record AreRowRuns (y low : ℤ) (weight : ℤ → ℤ) (below rs : List Run) : Type 0 where
-  pub from : AreRunsFrom (place low y) rs
-  pub own : (x : ℤ) → low ≤ℤ x → x ≤ℤ last_in_field → weight_at (flat_map dots_of rs) x y ≡ weight x
-  pub others : (x v : ℤ) → y ≢ v → weight_at (flat_map dots_of rs) x v ≡ weight_at (flat_map dots_of below) x v
+-- the rows from row y down: the weights of that row, and the runs of the rows below it
+pub record RowsFrom : Type 0 where
+  pub y : ℤ
+  pub weight : ℤ → ℤ
+  pub below : List Run
+
+-- runs of the first of these rows from column low on, followed by those of the rows below: none of them could be longer
+pub record AreRowRuns (rows : RowsFrom) (low : ℤ) (rs : List Run) : Type 0 where
+  pub from : AreRunsFrom (place low rows.y) rs
+  pub own : (x : ℤ) → low ≤ℤ x → x ≤ℤ last_in_field → weight_at (flat_map dots_of rs) x rows.y ≡ rows.weight x
+  pub others : (x v : ℤ) → rows.y ≢ v → weight_at (flat_map dots_of rs) x v ≡ weight_at (flat_map dots_of rows.below) x v
   pub maximal : AreMaximal rs
 
 module _ (y : ℤ) (below : List Run) (bottom : least_coordinate ≤ℤ y) (top : y ≤ℤ last_in_field)
     (later : AreRunsFrom (place greatest_coordinate y) below) (maximal : AreMaximal below) where
+  abbrev pub with_weights : (ℤ → ℤ) → RowsFrom
+  with_weights f = record { y = y; weight = f; below = below }
+
   -- no run is left in the row
-  no_runs : (f : ℤ → ℤ) → AreRowRuns y greatest_coordinate f below below
+  no_runs : (f : ℤ → ℤ) → AreRowRuns (with_weights f) greatest_coordinate below
   no_runs f = record { from = later; own = λ x left right. absurd (omega (arith, ints)); others = λ x v apart. refl; maximal = maximal }
 
   -- to the left of them the row may be blank
-  after_gap : (low high : ℤ) (f g : ℤ → ℤ) (rs : List Run) → low ≤ℤ high → AreRowRuns y high f below rs
-      → ((x : ℤ) → low ≤ℤ x → x <ℤ high → g x ≡ pos 0) → ((x : ℤ) → high ≤ℤ x → g x ≡ f x) → AreRowRuns y low g below rs
+  after_gap : (low high : ℤ) (f g : ℤ → ℤ) (rs : List Run) → low ≤ℤ high → AreRowRuns (with_weights f) high rs
+      → ((x : ℤ) → low ≤ℤ x → x <ℤ high → g x ≡ pos 0) → ((x : ℤ) → high ≤ℤ x → g x ≡ f x) → AreRowRuns (with_weights g) low rs
   after_gap low high f g rs le runs gap behind = record {
     from = runs_from-lower (place low y) (place high y) rs (place-le low high y le) runs.from;
     own = λ x left right. by_lt_z x high
@@ -129,8 +138,9 @@ module _ (y : ℤ) (below : List Run) (bottom : least_coordinate ≤ℤ y) (top 
   }
 
   -- or have a run of another weight
-  after_run : (low high w : ℤ) (f g : ℤ → ℤ) (rs : List Run) → low ≤ℤ high → IsRun (run_between y low high w) → AreRowRuns y high f below rs → f high ≢ w
-      → ((x : ℤ) → low ≤ℤ x → x <ℤ high → g x ≡ w) → ((x : ℤ) → high ≤ℤ x → g x ≡ f x) → AreRowRuns y low g below (run_between y low high w ∷ rs)
+  after_run : (low high w : ℤ) (f g : ℤ → ℤ) (rs : List Run) → low ≤ℤ high → IsRun (run_between y low high w) → AreRowRuns (with_weights f) high rs
+      → f high ≢ w → ((x : ℤ) → low ≤ℤ x → x <ℤ high → g x ≡ w) → ((x : ℤ) → high ≤ℤ x → g x ≡ f x)
+      → AreRowRuns (with_weights g) low (run_between y low high w ∷ rs)
   after_run low high w f g rs le run runs apart here behind =
       let r = run_between y low high w in
       let end : low +ℤ pos r.len ≡ high = omega (arith, ints) in
@@ -148,7 +158,7 @@ module _ (y : ℤ) (below : List Run) (bottom : least_coordinate ≤ℤ y) (top 
 
   -- each edge begins a run, or a gap, up to the next edge
   runs_from_edge : (w : ℤ) (e : Edge) (es : List Edge) → IsRestOfRow e.x w (e ∷ es)
-      → AreRowRuns y e.x (λ x. w +ℤ weight_in (e ∷ es) x) below (runs_of_edges y w (e ∷ es) ++ below)
+      → AreRowRuns (with_weights (λ x. w +ℤ weight_in (e ∷ es) x)) e.x (runs_of_edges y w (e ∷ es) ++ below)
   unfolding runs_of_edges weight_in
   runs_from_edge w e [] rest =
       after_gap e.x greatest_coordinate _ _ below rest.sorted.0.right (no_runs (λ x. w +ℤ weight_in (e ∷ []) x))
@@ -173,7 +183,7 @@ module _ (y : ℤ) (below : List Run) (bottom : least_coordinate ≤ℤ y) (top 
       let sum = weight_in-left f es f.x (omega (arith, ints)) in
       let none = weight_in-before (f.x +ℤ pos 1) es f.x behind.sorted.2 (omega (arith, ints)) in
       behind.sorted.0.nonzero (omega (arith, ints)) in
-      cond_both (int_eq z (pos 0)) [] (own ∷ []) (λ first. AreRowRuns y e.x weight below ((first ++ others) ++ below))
+      cond_both (int_eq z (pos 0)) [] (own ∷ []) (λ first. AreRowRuns (with_weights weight) e.x ((first ++ others) ++ below))
       (λ blank. after_gap e.x f.x _ weight (others ++ below) (omega (arith, ints)) next
       (λ x left right. here x left right ∙ (Decides-int_eq z (pos 0)).0 blank) further)
       (λ weighty. after_run e.x f.x z _ weight (others ++ below) (omega (arith, ints)) (record {
@@ -187,7 +197,7 @@ module _ (y : ℤ) (below : List Run) (bottom : least_coordinate ≤ℤ y) (top 
       }) next changed here further)
 
   -- so they are the runs of the whole row
-  pub runs_of_row : (es : List Edge) → AreEdges es → AreRowRuns y least_coordinate (weight_in es) below (runs_of_edges y (pos 0) es ++ below)
+  pub runs_of_row : (es : List Edge) → AreEdges es → AreRowRuns (with_weights (weight_in es)) least_coordinate (runs_of_edges y (pos 0) es ++ below)
   unfolding runs_of_edges weight_in
   runs_of_row [] edges =
       after_gap least_coordinate greatest_coordinate _ _ below (omega (arith, ints)) (no_runs (weight_in [])) (λ x left right. refl) (λ x behind. refl)

@@ -59,14 +59,14 @@ weight_behind top (g ∷ gs) x y layers below =
 -- ---- bands are added at the places before place p
 
 -- the groups that are made, those from place p on and the rows that are left weigh as much as all groups and all rows
-pub record IsAddedUpTo (p : ℕ) (gs : Groups) (rs : List EdgeRow) (sum : Groups) (rest : List EdgeRow) : Type 0 where
+pub record IsAddedUpTo (p : ℕ) (whole : Groups × List EdgeRow) (sum : Groups) (rest : List EdgeRow) : Type 0 where
   pub place : length sum ≡ p
   pub layers : AreLayersFrom last_in_field sum
   pub left : AreRowsFrom (top_of_place p) rest
   pub weights : (x y : ℤ)
-      → weight_in_rows (rows_of_groups sum) x y +ℤ weight_in_all (rows_of_groups (drop p gs)) rest x y ≡ weight_in_all (rows_of_groups gs) rs x y
+      → weight_in_rows (rows_of_groups sum) x y +ℤ weight_in_all (rows_of_groups (drop p whole.0)) rest x y ≡ weight_in_all (rows_of_groups whole.0) whole.1 x y
 
-pub added_none : (gs : Groups) (rs : List EdgeRow) → AreRows rs → IsAddedUpTo 0 gs rs [] rs
+pub added_none : (gs : Groups) (rs : List EdgeRow) → AreRows rs → IsAddedUpTo 0 (gs, rs) [] rs
 unfolding weight_in_rows
 added_none gs rs rows = record {
   place = refl;
@@ -76,7 +76,7 @@ added_none gs rs rows = record {
 }
 
 module _ (p : ℕ) (gs : Groups) (rs : List EdgeRow) (sum : Groups) (rest own others : List EdgeRow)
-    (groups : AreGroups gs) (so_far : IsAddedUpTo p gs rs sum rest) (split : IsSplitAtPlace p rest own others) where
+    (groups : AreGroups gs) (so_far : IsAddedUpTo p (gs, rs) sum rest) (split : IsSplitAtPlace p rest own others) where
   layer_of_own : IsLayer (top_of_place p) own
   layer_of_own = own_is_layer p rest own others so_far.left split
 
@@ -99,7 +99,7 @@ module _ (p : ℕ) (gs : Groups) (rs : List EdgeRow) (sum : Groups) (rest own ot
       omega (arith, ints)
 
   pub added_more : (g : Option (Arc Group Global)) → AreRows (rows_at_place g)
-      → HaveRowWeights (weight_in_all (rows_in_place gs p) own) (rows_at_place g) → IsAddedUpTo (p + 1) gs rs (sum ++ g ∷ []) others
+      → HaveRowWeights (weight_in_all (rows_in_place gs p) own) (rows_at_place g) → IsAddedUpTo (p + 1) (gs, rs) (sum ++ g ∷ []) others
   added_more g rows weights = record {
     place = omega (arith, so_far.place, length-append sum (g ∷ []));
     layers = layers_from-more last_in_field sum g so_far.layers
@@ -138,18 +138,13 @@ module _ (p : ℕ) (gs : Groups) (rs : List EdgeRow) (sum : Groups) (rest own ot
 
 -- ---- where no group and no row is left, all are added
 
-all_weights : (p : ℕ) (gs : Groups) (rs : List EdgeRow) (sum : Groups) (rest : List EdgeRow) → IsAddedUpTo p gs rs sum rest
-    → rows_of_groups (drop p gs) ≡ [] → rest ≡ [] → HaveRowWeights (weight_in_all (rows_of_groups gs) rs) (rows_of_groups sum)
+pub added_before : (p : ℕ) (gs : Groups) (rs : List EdgeRow) (sum : Groups) (rest : List EdgeRow) → IsAddedUpTo p (gs, rs) sum rest
+    → length gs ≤ p → rest ≡ [] → HaveRowWeights (weight_in_all (rows_of_groups gs) rs) (rows_of_groups sum)
 unfolding weight_in_all weight_in_rows
-all_weights p gs rs sum rest so_far no_group no_row = record {
+added_before p gs rs sum rest so_far short none = record {
   weights = λ x y.
       let all = so_far.weights x y in
-      let none = ap (λ rs. weight_in_rows rs x y) no_group in
-      let nothing = ap (λ rs. weight_in_rows rs x y) no_row in
+      let no_group = ap (λ hs. weight_in_rows (rows_of_groups hs) x y) (drop_of_length-le gs short) in
+      let no_row = ap (λ rs. weight_in_rows rs x y) none in
       omega (arith, ints);
 }
-
-pub added_before : (p : ℕ) (gs : Groups) (rs : List EdgeRow) (sum : Groups) (rest : List EdgeRow) → IsAddedUpTo p gs rs sum rest
-    → length gs ≤ p → rest ≡ [] → HaveRowWeights (weight_in_all (rows_of_groups gs) rs) (rows_of_groups sum)
-added_before p gs rs sum rest so_far short none =
-    all_weights p gs rs sum rest so_far (ap rows_of_groups (drop_of_length-le gs short)) none

@@ -66,13 +66,19 @@ pub begin_from : (low : ℤ) (es : List Edge) → AreEdgesFrom low es → BeginF
 begin_from low [] edges = tt
 begin_from low (e ∷ es) edges = edges.1
 
--- a row is cut before an edge, and w is its weight there
-pub record IsCut (es before : List Edge) (e : Edge) (behind : List Edge) (w : ℤ) : Type 0 where
-  split : es ≡ before ++ e ∷ behind
-  edges : AreEdges es
-  weight : weight_in before greatest_coordinate ≡ w
+-- an edge of a row, and the other edges
+record Cut : Type 0 where
+  before : List Edge
+  edge : Edge
+  behind : List Edge
 
-module _ {es before : List Edge} {e : Edge} {behind : List Edge} {w : ℤ} (cut : IsCut es before e behind w) where
+-- a row is cut before an edge, and w is its weight there
+record IsCut (es : List Edge) (c : Cut) (w : ℤ) : Type 0 where
+  split : es ≡ c.before ++ c.edge ∷ c.behind
+  edges : AreEdges es
+  weight : weight_in c.before greatest_coordinate ≡ w
+
+module _ {es before : List Edge} {e : Edge} {behind : List Edge} {w : ℤ} (cut : IsCut es (record { before = before; edge = e; behind = behind }) w) where
   among : IsEdgeAmong least_coordinate before e behind
   among = edge_among least_coordinate before e behind (subst (AreEdgesFrom least_coordinate) cut.split cut.edges.sorted)
 
@@ -135,7 +141,7 @@ none_at_first p es edges = record {
 
 module _ (p : Pixels) (es rest others : List Edge) (e : Edge) (w : ℤ) (next : rest ≡ e ∷ others) (edges : AreEdges es)
     (so_far : IsNoneBefore p es rest w) where
-  first_cut : IsCut es so_far.passed e others w
+  first_cut : IsCut es (record { before = so_far.passed; edge = e; behind = others }) w
   first_cut = record {
     split = so_far.split ∙ ap (λ fs. so_far.passed ++ fs) next;
     edges = edges;
@@ -187,7 +193,7 @@ none_at_right p es edges =
 
 module _ (p : Pixels) (es rest before : List Edge) (e : Edge) (w : ℤ) (last : rest ≡ before ++ e ∷ []) (edges : AreEdges es)
     (so_far : IsNoneBehind p es rest w) where
-  last_cut : IsCut es before e so_far.passed (w -ℤ e.weight)
+  last_cut : IsCut es (record { before = before; edge = e; behind = so_far.passed }) (w -ℤ e.weight)
   last_cut =
       let split = so_far.split ∙ ap (λ fs. fs ++ so_far.passed) last ∙ append_assoc before (e ∷ []) so_far.passed in
       let among = edge_among least_coordinate before e so_far.passed (subst (AreEdgesFrom least_coordinate) split edges.sorted) in

@@ -22,7 +22,7 @@ use Rattle.mf_rows.specs.EdgeRows.{EdgeRow, AreRowsFrom, AreRows, weight_in_rows
 use Rattle.mf_edges.specs.RowChanges.{row_image, IsRowChange, EdgesAllowChange, image_in, AreChanged}
 use Rattle.mf_rows.specs.RowChanges.{image_in_rows}
 use Rattle.mf_rows.specs.RowMoves.{strip}
-use Rattle.mf_rows.specs.Strips.{ReachDownTo, HasStrip}
+use Rattle.mf_rows.specs.Strips.{Strip, strip_between, ReachDownTo, HasStrip}
 use Rattle.mf_rows.specs.Sums.{HaveRowWeights}
 use Rattle.mf_rows.proofs.EdgeRowsLemmas.{weight_in_rows-here, weight_in_rows-elsewhere, weight_in_rows-below, rows_from-below}
 use Rattle.mf_rows.proofs.RowListLemmas.{edge_decides}
@@ -38,7 +38,7 @@ next_rows rows k row inside read =
 
 -- a row goes below rows that are higher
 pub strip_of_row : (old : List EdgeRow) (y : ℤ) (es : List Edge) → least_coordinate ≤ℤ y → y ≤ℤ last_in_field → es ≢ [] → AreEdges es
-    → ReachDownTo (y +ℤ pos 1) old → HasStrip old es y (y +ℤ pos 1) (old ++ record { y = y; edges = es } ∷ [])
+    → ReachDownTo (y +ℤ pos 1) old → HasStrip (strip_between es y (y +ℤ pos 1)) old (old ++ record { y = y; edges = es } ∷ [])
 unfolding strip
 strip_of_row old y es bottom top some edges reach =
     let one : unsigned_abs ((y +ℤ pos 1) -ℤ y) ≡ 1 = omega (arith, ints) in
@@ -47,66 +47,72 @@ strip_of_row old y es bottom top some edges reach =
     rw here at (rw one at below)
 
 pub strip_unless_blank : (old : List EdgeRow) (y : ℤ) (es : List Edge) → least_coordinate ≤ℤ y → y ≤ℤ last_in_field → AreEdges es
-    → ReachDownTo (y +ℤ pos 1) old → HasStrip old es y (y +ℤ pos 1) (old ++ unless_blank (record { y = y; edges = es }))
+    → ReachDownTo (y +ℤ pos 1) old → HasStrip (strip_between es y (y +ℤ pos 1)) old (old ++ unless_blank (record { y = y; edges = es }))
 strip_unless_blank old y [] bottom top edges reach =
     rw (append-nil old) (no_strip old [] y (y +ℤ pos 1) reach (omega (arith, ints)) (λ _. refl))
 strip_unless_blank old y (e ∷ es) bottom top edges reach = strip_of_row old y (e ∷ es) bottom top (λ none. absurd cc) edges reach
 
 -- a strip adds its weights, so that with what is left before and after it the weights stay the same
-pub strip_weights : (old new : List EdgeRow) (es : List Edge) (bottom top x y before after : ℤ) → HasStrip old es bottom top new → ReachDownTo top old
-    → bottom ≤ℤ top → (bottom ≤ℤ y → y <ℤ top → weight_in es x +ℤ after ≡ before) → ((bottom ≤ℤ y → y <ℤ top → ⊥) → after ≡ before)
+pub strip_weights : (s : Strip) (old new : List EdgeRow) (x y before after : ℤ) → HasStrip s old new → ReachDownTo s.top old → s.bottom ≤ℤ s.top
+    → (s.bottom ≤ℤ y → y <ℤ s.top → weight_in s.edges x +ℤ after ≡ before) → ((s.bottom ≤ℤ y → y <ℤ s.top → ⊥) → after ≡ before)
     → weight_in_rows new x y +ℤ after ≡ weight_in_rows old x y +ℤ before
-strip_weights old new es bottom top x y before after strip reach order inside outside =
-    by_lt_z y bottom
+strip_weights s old new x y before after strip reach order inside outside =
+    by_lt_z y s.bottom
     (λ below.
-    let none = below_reach top old x y reach (omega (arith, ints)) in
-    omega (arith, ints, below_reach bottom new x y strip.rows below, outside (λ from _. omega (arith, ints))))
-    (λ from. by_lt_z y top
-    (λ under. omega (arith, ints, strip.strip x y from under, below_reach top old x y reach under, inside from under))
+    let none = below_reach s.top old x y reach (omega (arith, ints)) in
+    omega (arith, ints, below_reach s.bottom new x y strip.rows below, outside (λ from _. omega (arith, ints))))
+    (λ from. by_lt_z y s.top
+    (λ under. omega (arith, ints, strip.strip x y from under, below_reach s.top old x y reach under, inside from under))
     (λ above. omega (arith, ints, strip.above x y above, outside (λ _ under. omega (arith, ints)))))
 
--- rows are made one after another, so that together they have the weights f: row y becomes rows from `down y` up
-pub record IsMadeSoFar (P : EdgeRow → Type 0) (f : List EdgeRow → ℤ → ℤ → ℤ) (down : ℤ → ℤ) (whole left made : List EdgeRow) : Type 0 where
+-- how rows are made of others: which rows may be taken, the weights of what is made of rows, and that row y becomes rows from `down y` up
+pub record Making : Type 1 where
+  pub Allows : EdgeRow → Type 0
+  pub image : List EdgeRow → ℤ → ℤ → ℤ
+  pub down : ℤ → ℤ
+
+-- rows are made one after another, and with the image of those that are left they have the weights of that of all
+pub record IsMadeSoFar (m : Making) (whole left made : List EdgeRow) : Type 0 where
   pub low : ℤ
   pub to_come : AreRowsFrom (low -ℤ pos 1) left
-  pub allowed : All P left
-  pub rows : ReachDownTo (down low) made
-  pub weights : (x y : ℤ) → weight_in_rows made x y +ℤ f left x y ≡ f whole x y
+  pub allowed : All m.Allows left
+  pub rows : ReachDownTo (m.down low) made
+  pub weights : (x y : ℤ) → weight_in_rows made x y +ℤ m.image left x y ≡ m.image whole x y
 
-module _ {P : EdgeRow → Type 0} {f : List EdgeRow → ℤ → ℤ → ℤ} {down : ℤ → ℤ} (whole : List EdgeRow) where
-  pub made_none : AreRows whole → All P whole → IsMadeSoFar P f down whole whole []
+module _ {m : Making} (whole : List EdgeRow) where
+  pub made_none : AreRows whole → All m.Allows whole → IsMadeSoFar m whole whole []
   unfolding weight_in_rows
   made_none rows allowed = record {
     low = greatest_coordinate;
     to_come = rows.rows;
     allowed = allowed;
-    rows = record { rows = tt; reach = All-nil (λ r. down greatest_coordinate ≤ℤ r.y) };
+    rows = record { rows = tt; reach = All-nil (λ r. m.down greatest_coordinate ≤ℤ r.y) };
     weights = λ x y. omega (arith, ints);
   }
 
-  module _ (rest made : List EdgeRow) (r : EdgeRow) (up : (a b : ℤ) → a ≤ℤ b → down a ≤ℤ down b) (so_far : IsMadeSoFar P f down whole (r ∷ rest) made) where
-    pub made_reach : ReachDownTo (down (r.y +ℤ pos 1)) made
+  module _ (rest made : List EdgeRow) (r : EdgeRow) (up : (a b : ℤ) → a ≤ℤ b → m.down a ≤ℤ m.down b) (so_far : IsMadeSoFar m whole (r ∷ rest) made) where
+    pub made_reach : ReachDownTo (m.down (r.y +ℤ pos 1)) made
     made_reach =
         let le : r.y ≤ℤ (so_far.low -ℤ pos 1) = so_far.to_come.1 in
         let end = up (r.y +ℤ pos 1) so_far.low (omega (arith, ints)) in
         record { rows = so_far.rows.rows; reach = λ k d inside. let from = so_far.rows.reach k d inside in omega (arith, ints) }
 
-    pub made_more : (after : List EdgeRow) (es : List Edge) → HasStrip made es (down r.y) (down (r.y +ℤ pos 1)) after
-        → ((x y : ℤ) → down r.y ≤ℤ y → y <ℤ down (r.y +ℤ pos 1) → weight_in es x +ℤ f rest x y ≡ f (r ∷ rest) x y)
-        → ((x y : ℤ) → (down r.y ≤ℤ y → y <ℤ down (r.y +ℤ pos 1) → ⊥) → f rest x y ≡ f (r ∷ rest) x y) → IsMadeSoFar P f down whole rest after
+    pub made_more : (after : List EdgeRow) (es : List Edge) → HasStrip (strip_between es (m.down r.y) (m.down (r.y +ℤ pos 1))) made after
+        → ((x y : ℤ) → m.down r.y ≤ℤ y → y <ℤ m.down (r.y +ℤ pos 1) → weight_in es x +ℤ m.image rest x y ≡ m.image (r ∷ rest) x y)
+        → ((x y : ℤ) → (m.down r.y ≤ℤ y → y <ℤ m.down (r.y +ℤ pos 1) → ⊥) → m.image rest x y ≡ m.image (r ∷ rest) x y)
+        → IsMadeSoFar m whole rest after
     made_more after es strip inside outside =
         let order = up r.y (r.y +ℤ pos 1) (omega (arith, ints)) in
         record {
           low = r.y;
           to_come = so_far.to_come.2;
-          allowed = All-tail P r rest so_far.allowed;
+          allowed = All-tail m.Allows r rest so_far.allowed;
           rows = strip.rows;
-          weights = λ x y. strip_weights made after es (down r.y) (down (r.y +ℤ pos 1)) x y (f (r ∷ rest) x y) (f rest x y) strip made_reach order
-              (inside x y) (outside x y)
+          weights = λ x y. strip_weights _ made after x y (m.image (r ∷ rest) x y) (m.image rest x y) strip made_reach order (inside x y) (outside x y)
               ∙ so_far.weights x y;
         }
 
-  pub made_all : (made : List EdgeRow) → ((x y : ℤ) → f [] x y ≡ pos 0) → IsMadeSoFar P f down whole [] made → HaveRowWeights (f whole) made
+  pub made_all : (made : List EdgeRow) → ((x y : ℤ) → m.image [] x y ≡ pos 0) → IsMadeSoFar m whole [] made → HaveRowWeights (m.image whole) made
   made_all made none so_far = record { weights = λ x y. omega (arith, ints, so_far.weights x y, none x y) }
 
 -- ---- edges that are compared
@@ -153,7 +159,7 @@ module _ (c : RowChange) (r : EdgeRow) (rest : List EdgeRow) (x v : ℤ) where
 
 -- the new rows have the weights of all rows after the change except for those that are left
 abbrev pub IsChangeSoFar : RowChange → List EdgeRow → List EdgeRow → List EdgeRow → Type 0
-IsChangeSoFar c = IsMadeSoFar (λ r. EdgesAllowChange c r.edges) (image_in_rows c) (λ y. y)
+IsChangeSoFar c = IsMadeSoFar (record { Allows = λ r. EdgesAllowChange c r.edges; image = image_in_rows c; down = λ y. y })
 
 pub change_more : (c : RowChange) (whole rest changed : List EdgeRow) (r : EdgeRow) (image : List Edge) → IsRowChange c
     → IsChangeSoFar c whole (r ∷ rest) changed → AreChanged c r.edges image

@@ -69,7 +69,7 @@ module _ {whole mirrored : List EdgeRow} (left : List EdgeRow) (r : EdgeRow) (so
         rows = strip.rows;
         weights = λ x v.
             let parts = weight_in_rows-append left (r ∷ []) x (opposite v) in
-            strip_weights mirrored _ r.edges y (y +ℤ pos 1) x v _ (weight_in_rows left x (opposite v)) strip reach (omega (arith, ints))
+            strip_weights _ mirrored _ x v _ (weight_in_rows left x (opposite v)) strip reach (omega (arith, ints))
             (λ from under. omega (arith, ints, weight_in_rows-here r [] x (opposite v) (omega (arith, ints))))
             (λ outside. omega (arith, ints, weight_in_rows-elsewhere r [] x (opposite v) (λ here. outside (omega (arith, ints)) (omega (arith, ints)))))
             ∙ so_far.weights x v;

@@ -63,7 +63,7 @@ module _ (s : Stretch) (r : EdgeRow) (rest : List EdgeRow) (x v : ℤ) (stretch 
 
 -- the new rows have the stretched weights of all rows except for those that are left
 abbrev pub IsStretchSoFar : Stretch → List EdgeRow → List EdgeRow → List EdgeRow → Type 0
-IsStretchSoFar s = IsMadeSoFar (λ r. PlaceStaysInside s r.y) (stretch_in_rows s) (target_of s)
+IsStretchSoFar s = IsMadeSoFar (record { Allows = λ r. PlaceStaysInside s r.y; image = stretch_in_rows s; down = target_of s })
 
 -- the next row becomes its strip
 pub stretch_more : (s : Stretch) (whole rest stretched after : List EdgeRow) (r : EdgeRow) → IsStretch s

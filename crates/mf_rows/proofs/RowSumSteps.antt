@@ -9,18 +9,18 @@ use Rattle.mf_rows.specs.Bands.{AreAbove, AreBelow}
 use Rattle.mf_edges.specs.LawfulWeights.{IsLawfulWeight}
 use Rattle.mf_edges.specs.Edges.{weight_in, AreEdgesFrom}
 use Rattle.mf_rows.specs.EdgeRows.{EdgeRow, AreRowsFrom, AreRows, weight_in_rows}
-use Rattle.mf_rows.specs.Merging.{IsSplitAtHeight, HasRowSum, IsUnlawfulInRow}
+use Rattle.mf_rows.specs.Merging.{IsSplitAtHeight, HasNewRow, IsUnlawfulInRow}
 use Rattle.mf_rows.specs.Sums.{weight_in_all, HaveRowWeights, IsUnlawfulSomewhere, StayWithin}
 use Rattle.mf_edges.proofs.EdgesLemmas.{weight_in-left, weight_in-before}
 use Rattle.mf_rows.proofs.EdgeRowsLemmas.{weight_in_rows-append, weight_in_rows-here, weight_in_rows-elsewhere, weight_in_rows-above}
 use Rattle.mf_rows.proofs.EdgeRowsLemmas.{weight_in_rows-below, rows_from-higher, rows_from-below, rows_from-append}
-use Rattle.mf_rows.proofs.RowSums.{IsRowSumSoFar, rows_behind, IsRowSumAbove}
+use Rattle.mf_rows.proofs.RowSums.{IsRowSumSoFar, rows_behind}
 
 -- ---- the next row that is added
 
-module _ (whole_left whole_right sum rs ss : List EdgeRow) (y : ℤ) (at : IsRowSumAbove whole_left whole_right sum rs ss y) where
+module _ {f : ℤ → ℤ → ℤ} {sum rs ss : List EdgeRow} (y : ℤ) (so_far : IsRowSumSoFar f sum rs ss) (reach : y ≤ℤ so_far.top) where
   above_first : AreAbove y sum
-  above_first = All-weaker (λ r. at.so_far.top <ℤ r.y) (λ r. y <ℤ r.y) (λ r lt. omega (arith, ints, at.reach)) sum at.so_far.above
+  above_first = All-weaker (λ r. so_far.top <ℤ r.y) (λ r. y <ℤ r.y) (λ r lt. omega (arith, ints, reach)) sum so_far.above
 
   module _ (found_left found_right others_left others_right : List EdgeRow)
       (split_left : IsSplitAtHeight rs y found_left others_left) (split_right : IsSplitAtHeight ss y found_right others_right) where
@@ -32,17 +32,17 @@ module _ (whole_left whole_right sum rs ss : List EdgeRow) (y : ℤ) (at : IsRow
         rw (split_left.all, split_right.all) (omega (arith, ints))
 
     -- there is no other row at the height
-    weight_in_all-first : (x : ℤ) → weight_in_all whole_left whole_right x y ≡ weight_in_all found_left found_right x y
+    weight_in_all-first : (x : ℤ) → f x y ≡ weight_in_all found_left found_right x y
     unfolding weight_in_all
     weight_in_all-first x =
-        let old = at.so_far.weights x y in
+        let old = so_far.weights x y in
         let split = weight_in_all-split x y in
         let none_before = weight_in_rows-above sum x y above_first in
         let none_left = weight_in_rows-below others_left x y (rows_from-below (y -ℤ pos 1) y others_left split_left.left (omega (arith, ints))) in
         let none_right = weight_in_rows-below others_right x y (rows_from-below (y -ℤ pos 1) y others_right split_right.left (omega (arith, ints))) in
         omega (arith, ints)
 
-    pub unlawful_somewhere : IsUnlawfulInRow (weight_in_all found_left found_right) y → IsUnlawfulSomewhere (weight_in_all whole_left whole_right)
+    pub unlawful_somewhere : IsUnlawfulInRow (weight_in_all found_left found_right) y → IsUnlawfulSomewhere f
     unlawful_somewhere column = record {
       x = column.x;
       y = y;
@@ -50,19 +50,19 @@ module _ (whole_left whole_right sum rs ss : List EdgeRow) (y : ℤ) (at : IsRow
       unlawful = λ lawful. column.unlawful (subst IsLawfulWeight (weight_in_all-first column.x) lawful);
     }
 
-    pub sum_more : (after : List EdgeRow) → HasRowSum sum y found_left found_right after → IsRowSumSoFar whole_left whole_right after others_left others_right
+    pub sum_more : (after : List EdgeRow) → HasNewRow (weight_in_all found_left found_right) y sum after → IsRowSumSoFar f after others_left others_right
     sum_more after more = rw more.all (record {
       top = y -ℤ pos 1;
-      in_field = omega (arith, ints, at.so_far.in_field, at.reach);
-      rows = rows_from-append last_in_field sum more.more at.so_far.rows
-          (rows_from-higher last_in_field y more.more (omega (arith, ints, at.so_far.in_field, at.reach)) more.here.rows)
+      in_field = omega (arith, ints, so_far.in_field, reach);
+      rows = rows_from-append last_in_field sum more.more so_far.rows
+          (rows_from-higher last_in_field y more.more (omega (arith, ints, so_far.in_field, reach)) more.here.rows)
           (All-weaker (λ r. y <ℤ r.y) (λ r. AreBelow r.y more.more) (λ r lt. rows_from-below y r.y more.more more.here.rows lt) sum above_first);
       above = All-append (λ r. (y -ℤ pos 1) <ℤ r.y) sum more.more
           (All-weaker (λ r. y <ℤ r.y) (λ r. (y -ℤ pos 1) <ℤ r.y) (λ r lt. omega (arith, ints)) sum above_first) more.here.above;
       left = split_left.left;
       right = split_right.left;
       weights = λ x c.
-          let old = at.so_far.weights x c in
+          let old = so_far.weights x c in
           let split = weight_in_all-split x c in
           let sum_is = weight_in_rows-append sum more.more x c in
           let more_is = more.weights.weights x c in
@@ -70,18 +70,17 @@ module _ (whole_left whole_right sum rs ss : List EdgeRow) (y : ℤ) (at : IsRow
     })
 
 -- where nothing is left to add, the rows that are left follow
-pub sum_all_weights : (whole_left whole_right sum rs : List EdgeRow) → IsRowSumSoFar whole_left whole_right sum rs []
-    → HaveRowWeights (weight_in_all whole_left whole_right) (sum ++ rs)
+pub sum_all_weights : {f : ℤ → ℤ → ℤ} {sum rs : List EdgeRow} → IsRowSumSoFar f sum rs [] → HaveRowWeights f (sum ++ rs)
 unfolding weight_in_all weight_in_rows
-sum_all_weights whole_left whole_right sum rs so_far = record {
+sum_all_weights {sum = sum} {rs = rs} so_far = record {
   weights = λ x y.
       let all = so_far.weights x y in
       let both = weight_in_rows-append sum rs x y in
       omega (arith, ints);
 }
 
-pub sum_all_rows : (whole_left whole_right sum rs : List EdgeRow) → IsRowSumSoFar whole_left whole_right sum rs [] → AreRows (sum ++ rs)
-sum_all_rows whole_left whole_right sum rs so_far = rows_behind whole_left whole_right sum rs [] so_far rs so_far.left
+pub sum_all_rows : {f : ℤ → ℤ → ℤ} {sum rs : List EdgeRow} → IsRowSumSoFar f sum rs [] → AreRows (sum ++ rs)
+sum_all_rows {rs = rs} so_far = rows_behind so_far rs so_far.left
 
 -- ---- how far a sum reaches
 

@@ -1,5 +1,5 @@
 -- The sum of two lists of rows, row by row.
-use Rattle.std.proofs.Common.{◌≡◌, ◌≢◌, ℤ, pos, ◌+ℤ◌, ◌-ℤ◌, ◌≤ℤ◌, ◌<ℤ◌, List, [], ◌∷◌, ◌++◌, refl, ap, sym, subst, ◌∙◌, arith}
+use Rattle.std.proofs.Common.{◌≡◌, ◌≢◌, ℤ, pos, ◌+ℤ◌, ◌-ℤ◌, ◌≤ℤ◌, ◌<ℤ◌, to_z, of_z, w32, List, [], ◌∷◌, ◌++◌, refl, ap, sym, subst, ◌∙◌, arith}
 use Rattle.std.specs.List.{All}
 use Rattle.std.proofs.lemmas.Int.{ints, by_lt_z}
 use Rattle.std.proofs.lemmas.List.{append-nil}
@@ -10,7 +10,7 @@ use Rattle.mf_rows.specs.Bands.{AreAbove, AreBelow}
 use Rattle.mf_edges.specs.LawfulWeights.{IsLawfulWeight}
 use Rattle.mf_edges.specs.Edges.{weight_in}
 use Rattle.mf_rows.specs.EdgeRows.{EdgeRow, IsEdgeRow, AreRowsFrom, AreRows, weight_in_rows}
-use Rattle.mf_rows.specs.Merging.{IsRowAt, IsSplitAtHeight, HasRowSum, IsUnlawfulInRow}
+use Rattle.mf_rows.specs.Merging.{IsRowAt, IsSplitAtHeight, HasNewRow, IsUnlawfulInRow}
 use Rattle.mf_edges.specs.Reaches.{StaysInReach}
 use Rattle.mf_edges.specs.Sums.{IsEdgeSum, IsUnlawfulColumn, weight_in_both, HaveWeights}
 use Rattle.mf_rows.specs.Sums.{weight_in_all}
@@ -84,7 +84,7 @@ module _ (y : ℤ) (l r : EdgeRow) (left : IsRowAt y (l ∷ [])) (right : IsRowA
 
   -- two rows that cancel leave no row
   pub sum_of_both-blank : (before : List EdgeRow) (es : List Edge) → es ≡ []
-      → HaveWeights (weight_in_both l.edges r.edges) es → HasRowSum before y (l ∷ []) (r ∷ []) before
+      → HaveWeights (weight_in_both l.edges r.edges) es → HasNewRow (weight_in_all (l ∷ []) (r ∷ [])) y before before
   unfolding weight_in weight_in_rows
   sum_of_both-blank before es none weights = record {
     more = [];
@@ -98,7 +98,7 @@ module _ (y : ℤ) (l r : EdgeRow) (left : IsRowAt y (l ∷ [])) (right : IsRowA
   }
 
   pub sum_of_both-some : (before : List EdgeRow) (es : List Edge) (reach : ℤ) → es ≢ [] → IsEdgeSum l.edges r.edges es
-      → StaysInReach reach es → HasRowSum before y (l ∷ []) (r ∷ []) (before ++ record { y = y; edges = es } ∷ [])
+      → StaysInReach reach es → HasNewRow (weight_in_all (l ∷ []) (r ∷ [])) y before (before ++ record { y = y; edges = es } ∷ [])
   sum_of_both-some before es reach some sum reached =
       let weights = sum.weights in
       let row : IsEdgeRow (record { y = y; edges = es }) = record {
@@ -120,23 +120,23 @@ module _ (y : ℤ) (l r : EdgeRow) (left : IsRowAt y (l ∷ [])) (right : IsRowA
       }
 
 -- a row is added where there is none
-pub sum_of_right : (before : List EdgeRow) (y : ℤ) (ss : List EdgeRow) → IsRowAt y ss → HasRowSum before y [] ss (before ++ ss)
+pub sum_of_right : (before : List EdgeRow) (y : ℤ) (ss : List EdgeRow) → IsRowAt y ss → HasNewRow (weight_in_all [] ss) y before (before ++ ss)
 unfolding weight_in_all weight_in_rows
 sum_of_right before y ss here = record { more = ss; all = refl; here = here; weights = record { weights = λ x c. omega (arith, ints) } }
 
 -- ---- the sum so far
 
--- above a height the sum has the weights of two lists of rows, and what is left of the lists gives all others
-pub record IsRowSumSoFar (whole_left whole_right sum rs ss : List EdgeRow) : Type 0 where
+-- above a height the sum has the weights f, and what is left of two lists of rows gives all others
+pub record IsRowSumSoFar (f : ℤ → ℤ → ℤ) (sum rs ss : List EdgeRow) : Type 0 where
   pub top : ℤ
   pub in_field : top ≤ℤ last_in_field
   pub rows : AreRowsFrom last_in_field sum
   pub above : AreAbove top sum
   pub left : AreRowsFrom top rs
   pub right : AreRowsFrom top ss
-  pub weights : (x y : ℤ) → weight_in_rows sum x y +ℤ weight_in_all rs ss x y ≡ weight_in_all whole_left whole_right x y
+  pub weights : (x y : ℤ) → weight_in_rows sum x y +ℤ weight_in_all rs ss x y ≡ f x y
 
-pub sum_none : (rs ss : List EdgeRow) → AreRows rs → AreRows ss → IsRowSumSoFar rs ss [] rs ss
+pub sum_none : (rs ss : List EdgeRow) → AreRows rs → AreRows ss → IsRowSumSoFar (weight_in_all rs ss) [] rs ss
 unfolding weight_in_rows
 sum_none rs ss left right = record {
   top = last_in_field;
@@ -148,7 +148,7 @@ sum_none rs ss left right = record {
   weights = λ x y. omega (arith, ints);
 }
 
-module _ (whole_left whole_right sum rs ss : List EdgeRow) (so_far : IsRowSumSoFar whole_left whole_right sum rs ss) where
+module _ {f : ℤ → ℤ → ℤ} {sum rs ss : List EdgeRow} (so_far : IsRowSumSoFar f sum rs ss) where
   pub rows_left : AreRows rs
   rows_left = record { rows = rows_from-higher last_in_field so_far.top rs so_far.in_field so_far.left }
 
@@ -160,28 +160,26 @@ module _ (whole_left whole_right sum rs ss : List EdgeRow) (so_far : IsRowSumSoF
 
 -- ---- the rows above the next one that is added
 
--- a sum so far that ends at row y or above it
-pub record IsRowSumAbove (whole_left whole_right sum rs ss : List EdgeRow) (y : ℤ) : Type 0 where
-  pub so_far : IsRowSumSoFar whole_left whole_right sum rs ss
-  pub reach : y ≤ℤ so_far.top
-
 rows_from-first : (top y : ℤ) (rows : List EdgeRow) → AreRowsFrom top rows → All (λ row. row.y ≤ℤ y) rows → AreRowsFrom y rows
 rows_from-first top y [] rows up_to = tt
 rows_from-first top y (r ∷ rs) rows up_to = (rows.0, All-head (λ row. row.y ≤ℤ y) r rs up_to, rows.2)
 
 -- the rows above the first one that is added join the sum as they are
-module _ (whole_left whole_right sum left right : List EdgeRow) (so_far : IsRowSumSoFar whole_left whole_right sum left right)
+module _ {f : ℤ → ℤ → ℤ} {sum left right : List EdgeRow} (so_far : IsRowSumSoFar f sum left right)
     (added : EdgeRow) (rest_right : List EdgeRow) (right_is : right ≡ added ∷ rest_right)
-    (above others : List EdgeRow) (left_is : left ≡ above ++ others) (higher : AreAbove added.y above)
-    (up_to : All (λ row. row.y ≤ℤ added.y) others) where
+    (above others : List EdgeRow) (left_is : left ≡ above ++ others) (higher : AreAbove (to_z w32 (of_z w32 added.y)) above)
+    (up_to : All (λ row. row.y ≤ℤ to_z w32 (of_z w32 added.y)) others) where
   from_top : AreRowsFrom so_far.top (above ++ others)
   from_top = subst (AreRowsFrom so_far.top) left_is so_far.left
 
   added_rows : AreRowsFrom so_far.top (added ∷ rest_right)
   added_rows = subst (AreRowsFrom so_far.top) right_is so_far.right
 
-  pub rest_from : AreRowsFrom added.y others
-  rest_from = rows_from-first so_far.top added.y others (rows_from-back so_far.top above others from_top) up_to
+  height_is : to_z w32 (of_z w32 added.y) ≡ added.y
+  height_is = omega (arith, ints, added_rows.0.bottom, added_rows.0.top)
+
+  pub rest_from : AreRowsFrom (to_z w32 (of_z w32 added.y)) others
+  rest_from = rows_from-first so_far.top (to_z w32 (of_z w32 added.y)) others (rows_from-back so_far.top above others from_top) up_to
 
   pub added_split : IsSplitAtHeight right added.y (added ∷ []) rest_right
   added_split = record {
@@ -190,25 +188,24 @@ module _ (whole_left whole_right sum left right : List EdgeRow) (so_far : IsRowS
     left = added_rows.2;
   }
 
-  pub sum_with_above : IsRowSumAbove whole_left whole_right (sum ++ above) others right added.y
+  pub sum_with_above : (next : IsRowSumSoFar f (sum ++ above) others right) × (added.y ≤ℤ next.top)
   unfolding weight_in_all
   sum_with_above =
       let first_rows = rows_from-front so_far.top above others from_top in
-      let in_reach : added.y ≤ℤ so_far.top = added_rows.1 in
-      record {
-        so_far = record {
+      let in_reach : added.y ≤ℤ so_far.top = added_rows.1 in (
+        record {
           top = added.y;
           in_field = omega (arith, ints, so_far.in_field);
-          rows = (rows_behind whole_left whole_right sum left right so_far above first_rows).rows;
+          rows = (rows_behind so_far above first_rows).rows;
           above = All-append (λ r. added.y <ℤ r.y) sum above
-              (All-weaker (λ r. so_far.top <ℤ r.y) (λ r. added.y <ℤ r.y) (λ r lt. omega (arith, ints)) sum so_far.above) higher;
-          left = rest_from;
+              (All-weaker (λ r. so_far.top <ℤ r.y) (λ r. added.y <ℤ r.y) (λ r lt. omega (arith, ints)) sum so_far.above) (rw height_is at higher);
+          left = rw height_is at rest_from;
           right = rw right_is (added_rows.0, omega (arith, ints), added_rows.2);
           weights = λ x y.
               let old = so_far.weights x y in
               let split = ap (λ rs. weight_in_rows rs x y) left_is ∙ weight_in_rows-append above others x y in
               let more = weight_in_rows-append sum above x y in
               omega (arith, ints);
-        };
-        reach = omega (arith, ints);
-      }
+        },
+        omega (arith, ints),
+      )

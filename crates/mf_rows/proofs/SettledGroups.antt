@@ -176,16 +176,16 @@ added_nothing gs gs' rs none same = rw (none, same) (sum_with_none (rows_of_grou
 
 -- ---- what was beside the groups up to place i is in the groups
 
-pub record AreSettledTo (i : ℕ) (gs hs gs' hs' : Groups) : Type 0 where
-  pub groups : AreGroups gs'
-  pub recent : AreGroups hs'
-  pub count : length hs' ≡ length hs
-  pub places : length hs' ≤ length gs'
-  pub done : (k : ℕ) → k < i → rows_in_place hs' k ≡ []
-  pub weights : HaveSameSum gs hs gs' hs'
+pub record AreSettledTo (i : ℕ) (old new : Groups × Groups) : Type 0 where
+  pub groups : AreGroups new.0
+  pub recent : AreGroups new.1
+  pub count : length new.1 ≡ length old.1
+  pub places : length new.1 ≤ length new.0
+  pub done : (k : ℕ) → k < i → rows_in_place new.1 k ≡ []
+  pub weights : HaveSameSum old.0 old.1 new.0 new.1
 
 pub settled_none : (gs hs gs' : Groups) → AreGroups gs' → AreGroups hs → length hs ≤ length gs' → rows_of_groups gs' ≡ rows_of_groups gs
-    → AreSettledTo 0 gs hs gs' hs
+    → AreSettledTo 0 (gs, hs) (gs', hs)
 settled_none gs hs gs' groups recent places same = record {
   groups = groups;
   recent = recent;
@@ -201,9 +201,9 @@ by_last zero (suc k) less before last = absurd (omega arith)
 by_last (suc i) zero less before last = before (omega arith)
 by_last (suc i) (suc k) less before last = by_last i k (omega arith) (λ lt. before (omega arith)) (λ is. last (ap suc is))
 
-pub settled_more : (i : ℕ) (gs hs gs' hs' : Groups) (g : Option (Arc Group Global)) → i < length hs' → AreSettledTo i gs hs gs' hs'
+pub settled_more : (i : ℕ) (gs hs gs' hs' : Groups) (g : Option (Arc Group Global)) → i < length hs' → AreSettledTo i (gs, hs) (gs', hs')
     → AreRows (rows_at_place g) → HaveRowWeights (weight_in_all (rows_in_place gs' i) (rows_in_place hs' i)) (rows_at_place g)
-    → AreSettledTo (i + 1) gs hs (set gs' i g) (set hs' i None)
+    → AreSettledTo (i + 1) (gs, hs) (set gs' i g, set hs' i None)
 unfolding weight_in_all weight_in_rows
 settled_more i gs hs gs' hs' g inside so_far rows weights =
     let layer = sum_is_layer (top_of last_in_field i) (rows_in_place gs' i) (rows_in_place hs' i) (rows_at_place g)
@@ -228,7 +228,7 @@ settled_more i gs hs gs' hs' g inside so_far rows weights =
       };
     }
 
-pub all_settled : (i : ℕ) (gs hs gs' hs' : Groups) → length hs' ≤ i → AreSettledTo i gs hs gs' hs' → rows_of_groups hs' ≡ []
+pub all_settled : (i : ℕ) (gs hs gs' hs' : Groups) → length hs' ≤ i → AreSettledTo i (gs, hs) (gs', hs') → rows_of_groups hs' ≡ []
 all_settled i gs hs gs' hs' all so_far = none_left hs' (λ k inside. so_far.done k (omega arith))
 
 -- ---- a pile whose groups took up some of what is beside them

@@ -10,15 +10,16 @@ use Rattle.mf_rows.specs.declared.row_list.Head.{Head}
 use Rattle.mf_rows.specs.declared.row_list.Place.{Place}
 use Rattle.mf_rows.specs.RowLists.{rows_at, IsPlaceOf, AreHeads}
 use Rattle.mf_rows.specs.RowMoves.{strip}
+use Rattle.mf_rows.specs.Strips.{Strip, strip_between}
 use Rattle.mf_rows.proofs.RowListLemmas.{heads_push, nothing_more, row_of_push}
 
 -- the old rows are followed by the first `down` rows of a strip
-pub record AreCopiesSoFar (old : List EdgeRow) (es : List Edge) (bottom top down : ℤ) (new : List EdgeRow) : Type 0 where
-  pub all : new ++ strip bottom es (unsigned_abs ((top -ℤ bottom) -ℤ down)) ≡ old ++ strip bottom es (unsigned_abs (top -ℤ bottom))
+pub record AreCopiesSoFar (old : List EdgeRow) (s : Strip) (down : ℤ) (new : List EdgeRow) : Type 0 where
+  pub all : new ++ strip s.bottom s.edges (unsigned_abs ((s.top -ℤ s.bottom) -ℤ down)) ≡ old ++ strip s.bottom s.edges (unsigned_abs (s.top -ℤ s.bottom))
 
-pub copies_none : (old : List EdgeRow) (es : List Edge) (bottom top : ℤ) → AreCopiesSoFar old es bottom top (pos 0) old
-copies_none old es bottom top =
-    let all : (top -ℤ bottom) -ℤ pos 0 ≡ top -ℤ bottom = omega (arith, ints) in
+pub copies_none : (old : List EdgeRow) (s : Strip) → AreCopiesSoFar old s (pos 0) old
+copies_none old s =
+    let all : (s.top -ℤ s.bottom) -ℤ pos 0 ≡ s.top -ℤ s.bottom = omega (arith, ints) in
     record { all = rw all refl }
 
 -- a number and the next one, as naturals
@@ -30,24 +31,23 @@ are_sizes : (larger smaller : ℤ) → pos 0 ≤ℤ smaller → larger ≡ small
 are_sizes larger smaller least next = record { next = omega (arith, ints); size = omega (arith, ints) }
 
 -- the next row goes below them
-pub copies_more : (old : List EdgeRow) (es : List Edge) (bottom top down : ℤ) (new : List EdgeRow)
-    → (down +ℤ pos 1) ≤ℤ (top -ℤ bottom) → AreCopiesSoFar old es bottom top down new
-    → AreCopiesSoFar old es bottom top (down +ℤ pos 1) (new ++ record { y = top -ℤ (down +ℤ pos 1); edges = es } ∷ [])
+pub copies_more : (old : List EdgeRow) (s : Strip) (down : ℤ) (new : List EdgeRow) → (down +ℤ pos 1) ≤ℤ (s.top -ℤ s.bottom)
+    → AreCopiesSoFar old s down new → AreCopiesSoFar old s (down +ℤ pos 1) (new ++ record { y = s.top -ℤ (down +ℤ pos 1); edges = s.edges } ∷ [])
 unfolding strip
-copies_more old es bottom top down new le so_far =
-    let below = (top -ℤ bottom) -ℤ (down +ℤ pos 1) in
-    let sizes = are_sizes ((top -ℤ bottom) -ℤ down) below (omega (arith, ints)) (omega (arith, ints)) in
+copies_more old s down new le so_far =
+    let below = (s.top -ℤ s.bottom) -ℤ (down +ℤ pos 1) in
+    let sizes = are_sizes ((s.top -ℤ s.bottom) -ℤ down) below (omega (arith, ints)) (omega (arith, ints)) in
     let n = unsigned_abs below in
-    let place : top -ℤ (down +ℤ pos 1) ≡ bottom +ℤ pos n = rw sizes.size (omega (arith, ints)) in
-    let row : EdgeRow = record { y = bottom +ℤ pos n; edges = es } in
-    record { all = rw place (append_assoc new (row ∷ []) (strip bottom es n) ∙ rw sizes.next at so_far.all) }
+    let place : s.top -ℤ (down +ℤ pos 1) ≡ s.bottom +ℤ pos n = rw sizes.size (omega (arith, ints)) in
+    let row : EdgeRow = record { y = s.bottom +ℤ pos n; edges = s.edges } in
+    record { all = rw place (append_assoc new (row ∷ []) (strip s.bottom s.edges n) ∙ rw sizes.next at so_far.all) }
 
 -- all rows of the strip are there
-pub copies_all : (old : List EdgeRow) (es : List Edge) (bottom top down : ℤ) (new : List EdgeRow) → top -ℤ bottom ≡ down
-    → AreCopiesSoFar old es bottom top down new → new ≡ old ++ strip bottom es (unsigned_abs (top -ℤ bottom))
+pub copies_all : (old : List EdgeRow) (s : Strip) (down : ℤ) (new : List EdgeRow) → s.top -ℤ s.bottom ≡ down → AreCopiesSoFar old s down new
+    → new ≡ old ++ strip s.bottom s.edges (unsigned_abs (s.top -ℤ s.bottom))
 unfolding strip
-copies_all old es bottom top down new end so_far =
-    let none : (top -ℤ bottom) -ℤ down ≡ pos 0 = omega (arith, ints) in
+copies_all old s down new end so_far =
+    let none : (s.top -ℤ s.bottom) -ℤ down ≡ pos 0 = omega (arith, ints) in
     sym (append-nil new) ∙ rw none at so_far.all
 
 -- the height of the next row, as the code computes it
@@ -76,12 +76,12 @@ pub record StripHeads : Type 0 where
 -- the old heads are followed by the first `down` heads of a strip
 pub record AreHeadsSoFar (old : List Head) (s : StripHeads) (down : ℤ) (new : List Head) : Type 0 where
   pub heads : (es row : List Edge) → AreHeads es old → IsPlaceOf es s.place row → StaysInReach s.reach row → AreHeads es new
-  pub rows : (es row : List Edge) → IsPlaceOf es s.place row → AreCopiesSoFar (rows_at es old) row s.bottom s.top down (rows_at es new)
+  pub rows : (es row : List Edge) → IsPlaceOf es s.place row → AreCopiesSoFar (rows_at es old) (strip_between row s.bottom s.top) down (rows_at es new)
 
 pub heads_none : (old : List Head) (s : StripHeads) → AreHeadsSoFar old s (pos 0) old
 heads_none old s = record {
   heads = λ es row heads placed reached. heads;
-  rows = λ es row placed. copies_none (rows_at es old) row s.bottom s.top;
+  rows = λ es row placed. copies_none (rows_at es old) (strip_between row s.bottom s.top);
 }
 
 -- the next head goes below them
@@ -95,11 +95,12 @@ module _ (old : List Head) (s : StripHeads) (down : ℤ) (new : List Head) (in_r
     heads = λ es row heads placed reached.
         heads_push es es (nothing_more es) new (so_far.heads es row heads placed reached) next_head row (shared es row placed) reached;
     rows = λ es row placed.
-        subst (AreCopiesSoFar (rows_at es old) row s.bottom s.top (down +ℤ pos 1)) (sym (row_of_push es new next_head row (shared es row placed)))
-        (copies_more (rows_at es old) row s.bottom s.top down (rows_at es new) in_reach (so_far.rows es row placed));
+        let rows = strip_between row s.bottom s.top in
+        subst (AreCopiesSoFar (rows_at es old) rows (down +ℤ pos 1)) (sym (row_of_push es new next_head row (shared es row placed)))
+        (copies_more (rows_at es old) rows down (rows_at es new) in_reach (so_far.rows es row placed));
   }
 
 pub heads_all : (old : List Head) (s : StripHeads) (down : ℤ) (new : List Head) → s.top -ℤ s.bottom ≡ down → AreHeadsSoFar old s down new
     → (es row : List Edge) → IsPlaceOf es s.place row → rows_at es new ≡ rows_at es old ++ strip s.bottom row (unsigned_abs (s.top -ℤ s.bottom))
 heads_all old s down new end so_far es row placed =
-    copies_all (rows_at es old) row s.bottom s.top down (rows_at es new) end (so_far.rows es row placed)
+    copies_all (rows_at es old) (strip_between row s.bottom s.top) down (rows_at es new) end (so_far.rows es row placed)

@@ -10,7 +10,7 @@ use Rattle.mf_rows.specs.Bands.{AreBelow}
 use Rattle.mf_edges.specs.Edges.{weight_in, AreEdges}
 use Rattle.mf_rows.specs.EdgeRows.{EdgeRow, AreRowsFrom, weight_in_rows}
 use Rattle.mf_rows.specs.RowMoves.{strip}
-use Rattle.mf_rows.specs.Strips.{ReachDownTo, HasStrip}
+use Rattle.mf_rows.specs.Strips.{strip_between, ReachDownTo, HasStrip}
 use Rattle.mf_rows.proofs.EdgeRowsLemmas.{weight_in_rows-append, weight_in_rows-here, weight_in_rows-elsewhere}
 use Rattle.mf_rows.proofs.EdgeRowsLemmas.{weight_in_rows-none, weight_in_rows-above, rows_from-append}
 use Rattle.mf_rows.proofs.RowSums.{by_same}
@@ -28,7 +28,7 @@ reach_lower bottom top rs le down = record {
 
 -- a strip with no rows or no edges adds nothing
 pub no_strip : (rs : List EdgeRow) (es : List Edge) (bottom top : ℤ) → ReachDownTo top rs → bottom ≤ℤ top
-    → (bottom <ℤ top → es ≡ []) → HasStrip rs es bottom top rs
+    → (bottom <ℤ top → es ≡ []) → HasStrip (strip_between es bottom top) rs rs
 unfolding weight_in
 no_strip rs es bottom top down le none = record {
   rows = reach_lower bottom top rs le down;
@@ -79,7 +79,7 @@ strip_rows top bottom es (suc n) low high reach some edges = (
 
 -- a strip with edges goes below rows that reach down to its top
 pub strip_below : (old : List EdgeRow) (es : List Edge) (bottom top : ℤ) → ReachDownTo top old → least_coordinate ≤ℤ bottom → bottom <ℤ top
-    → top ≤ℤ greatest_coordinate → es ≢ [] → AreEdges es → HasStrip old es bottom top (old ++ strip bottom es (unsigned_abs (top -ℤ bottom)))
+    → top ≤ℤ greatest_coordinate → es ≢ [] → AreEdges es → HasStrip (strip_between es bottom top) old (old ++ strip bottom es (unsigned_abs (top -ℤ bottom)))
 strip_below old es bottom top down low below in_reach some edges =
     let n = unsigned_abs (top -ℤ bottom) in
     let new = strip bottom es n in

@@ -43,38 +43,56 @@ none_over all ls rs all_is left right = sym all_is ∙ rw (nil_from_length ls le
 abbrev pub sum_of : Edge → Edge → ℕ
 sum_of e f = of_z w32 (to_z w32 (of_z w32 e.weight) +ℤ to_z w32 (of_z w32 f.weight))
 
--- an edge of each of two rows: P says that an edge is taken, and what is left then, and R that a column comes before another. The
--- numbers are as the code computes them
-pub record AreTaken (P : Edge → List Edge → List Edge → Type 0) (R : ℤ → ℤ → Type 0) (all ls rs es fs : List Edge) (e f : Edge) : Type 0 where
-  pub left : R (to_z w32 (of_z w32 e.x)) (to_z w32 (of_z w32 f.x)) → P e es rs
-  pub right : R (to_z w32 (of_z w32 f.x)) (to_z w32 (of_z w32 e.x)) → P f ls fs
-  pub sum : FitsSigned w32 (to_z w32 (of_z w32 e.weight) +ℤ to_z w32 (of_z w32 f.weight))
-  pub here : to_z w32 (of_z w32 e.x) ≡ to_z w32 (of_z w32 f.x) → sum_of e f ≢ 0
-      → P (record { x = to_z w32 (of_z w32 f.x); weight = to_z w32 (sum_of e f) }) es fs
-  pub cancelled : to_z w32 (of_z w32 e.x) ≡ to_z w32 (of_z w32 f.x) → sum_of e f ≡ 0 → AreLeftOfBoth es fs × (edges_of_both es fs ≡ all)
+-- an edge of a row, and the others
+pub record SplitRow : Type 0 where
+  pub row : List Edge
+  pub edge : Edge
+  pub others : List Edge
 
-module _ (P : Edge → List Edge → List Edge → Type 0) (R : ℤ → ℤ → Type 0) (all ls rs es fs : List Edge) (e f : Edge) where
-  taken : IsEdge e → IsEdge f → IsDifference e.weight → IsDifference f.weight → AreLeftOfBoth es fs
-      → (R e.x f.x → P e es rs) → (R f.x e.x → P f ls fs)
-      → (put : List Edge → List Edge) → put [] ≡ edges_of_both es fs → (e.x ≡ f.x → all ≡ put (joined e f)) → ((g : Edge) → all ≡ put (g ∷ []) → P g es fs)
-      → AreTaken P R all ls rs es fs e f
-  taken edge other left right others first second put none all_is some =
-      let x : to_z w32 (of_z w32 e.x) ≡ e.x = omega (arith, ints, edge.left, edge.right) in
-      let y : to_z w32 (of_z w32 f.x) ≡ f.x = omega (arith, ints, other.left, other.right) in
-      let sum = more_fits e.weight f.weight left right in
-      let is : to_z w32 (sum_of e f) ≡ e.weight +ℤ f.weight = rw (difference_is e.weight left, difference_is f.weight right) (to_z-of_z sum) in
-      record {
-        left = rw (x, y) first;
-        right = rw (x, y) second;
-        sum = rw (difference_is e.weight left, difference_is f.weight right) sum;
-        here = λ same more.
-            let nonzero = λ (zero : e.weight +ℤ f.weight ≡ pos 0). more (rw (difference_is e.weight left, difference_is f.weight right) (ap (of_z w32) zero)) in
-            let column : e.x ≡ f.x = rw (x, y) at same in
-            rw (y, is) (some _ (all_is column ∙ ap put (joined-some e f nonzero ∙ rw column refl)));
-        cancelled = λ same zero. (others, sym (all_is (rw (x, y) at same) ∙ ap put (joined-none e f (sym is ∙ ap (to_z w32) zero)) ∙ none));
-      }
+-- the side from which edges of two rows are taken: all edges together, that one of them is taken and what is left then, and that one
+-- column comes before another
+pub record Side : Type 1 where
+  pub all : List Edge
+  pub IsTaken : Edge → List Edge → List Edge → Type 0
+  pub before : ℤ → ℤ → Type 0
+
+-- an edge of each of two rows. The numbers are as the code computes them
+pub record AreTaken (s : Side) (l r : SplitRow) : Type 0 where
+  pub left : s.before (to_z w32 (of_z w32 l.edge.x)) (to_z w32 (of_z w32 r.edge.x)) → s.IsTaken l.edge l.others r.row
+  pub right : s.before (to_z w32 (of_z w32 r.edge.x)) (to_z w32 (of_z w32 l.edge.x)) → s.IsTaken r.edge l.row r.others
+  pub sum : FitsSigned w32 (to_z w32 (of_z w32 l.edge.weight) +ℤ to_z w32 (of_z w32 r.edge.weight))
+  pub here : to_z w32 (of_z w32 l.edge.x) ≡ to_z w32 (of_z w32 r.edge.x) → sum_of l.edge r.edge ≢ 0
+      → s.IsTaken (record { x = to_z w32 (of_z w32 r.edge.x); weight = to_z w32 (sum_of l.edge r.edge) }) l.others r.others
+  pub cancelled : to_z w32 (of_z w32 l.edge.x) ≡ to_z w32 (of_z w32 r.edge.x) → sum_of l.edge r.edge ≡ 0
+      → AreLeftOfBoth l.others r.others × (edges_of_both l.others r.others ≡ s.all)
+
+taken : (s : Side) (l r : SplitRow) → IsEdge l.edge → IsEdge r.edge → IsDifference l.edge.weight → IsDifference r.edge.weight
+    → AreLeftOfBoth l.others r.others → (s.before l.edge.x r.edge.x → s.IsTaken l.edge l.others r.row)
+    → (s.before r.edge.x l.edge.x → s.IsTaken r.edge l.row r.others)
+    → (put : List Edge → List Edge) → put [] ≡ edges_of_both l.others r.others → (l.edge.x ≡ r.edge.x → s.all ≡ put (joined l.edge r.edge))
+    → ((g : Edge) → s.all ≡ put (g ∷ []) → s.IsTaken g l.others r.others) → AreTaken s l r
+taken s l r edge other left right others first second put none all_is some =
+    let e = l.edge in
+    let f = r.edge in
+    let x : to_z w32 (of_z w32 e.x) ≡ e.x = omega (arith, ints, edge.left, edge.right) in
+    let y : to_z w32 (of_z w32 f.x) ≡ f.x = omega (arith, ints, other.left, other.right) in
+    let sum = more_fits e.weight f.weight left right in
+    let is : to_z w32 (sum_of e f) ≡ e.weight +ℤ f.weight = rw (difference_is e.weight left, difference_is f.weight right) (to_z-of_z sum) in
+    record {
+      left = rw (x, y) first;
+      right = rw (x, y) second;
+      sum = rw (difference_is e.weight left, difference_is f.weight right) sum;
+      here = λ same more.
+          let nonzero = λ (zero : e.weight +ℤ f.weight ≡ pos 0). more (rw (difference_is e.weight left, difference_is f.weight right) (ap (of_z w32) zero)) in
+          let column : e.x ≡ f.x = rw (x, y) at same in
+          rw (y, is) (some _ (all_is column ∙ ap put (joined-some e f nonzero ∙ rw column refl)));
+      cancelled = λ same zero. (others, sym (all_is (rw (x, y) at same) ∙ ap put (joined-none e f (sym is ∙ ap (to_z w32) zero)) ∙ none));
+    }
 
 -- ---- the first edge
+
+abbrev pub from_left : List Edge → Side
+from_left all = record { all = all; IsTaken = IsFirstOfBoth all; before = λ x y. x <ℤ y }
 
 rest_left : (e : Edge) (es : List Edge) → AreEdgesLeft least_coordinate (e ∷ es) → AreEdgesLeft least_coordinate es
 rest_left e es left =
@@ -96,13 +114,14 @@ module _ {all ls rs : List Edge} (now : AreLeftOfBoth ls rs × (edges_of_both ls
   first_of_right {f = f} {fs = fs} none right_is =
       rw (← now.1, none, right_is) (record { all = refl; others = record { left = left_of_none; right = rest_left f fs (rw right_is at now.0.right) } })
 
-  pub first_taken : {e f : Edge} {es fs : List Edge} → ls ≡ e ∷ es → rs ≡ f ∷ fs → AreTaken (IsFirstOfBoth all) (λ x y. x <ℤ y) all ls rs es fs e f
+  pub first_taken : {e f : Edge} {es fs : List Edge} → ls ≡ e ∷ es → rs ≡ f ∷ fs
+      → AreTaken (from_left all) (record { row = ls; edge = e; others = es }) (record { row = rs; edge = f; others = fs })
   first_taken {e = e} {f = f} {es = es} {fs = fs} left_is right_is =
       let left = rw left_is at now.0.left in
       let right = rw right_is at now.0.right in
       let rest = rest_left e es left in
       let others = rest_left f fs right in
-      rw (← now.1, left_is, right_is) (taken _ _ _ _ _ es fs e f left.sorted.0 right.sorted.0
+      rw (← now.1, left_is, right_is) (taken _ _ _ left.sorted.0 right.sorted.0
       (All-head (λ e. IsDifference e.weight) e es left.differences) (All-head (λ e. IsDifference e.weight) f fs right.differences)
       (record { left = rest; right = others })
       (λ lt. record {
@@ -117,6 +136,9 @@ module _ {all ls rs : List Edge} (now : AreLeftOfBoth ls rs × (edges_of_both ls
       (λ g is. record { all = is; others = record { left = rest; right = others } }))
 
 -- ---- the last edge
+
+abbrev pub from_right : List Edge → Side
+from_right all = record { all = all; IsTaken = IsLastOfBoth all; before = λ x y. y <ℤ x }
 
 last_among : (e : Edge) (es : List Edge) → AreEdgesLeft least_coordinate (es ++ e ∷ []) → IsEdgeAmong least_coordinate es e []
 last_among e es left = edge_among least_coordinate es e [] left.sorted
@@ -149,7 +171,7 @@ module _ {all ls rs : List Edge} (now : AreLeftOfBoth ls rs × (edges_of_both ls
       (record { all = refl; others = record { left = left_of_none; right = (rest_before f fs (rw right_is at now.0.right)).0 } })
 
   pub last_taken : {e f : Edge} {es fs : List Edge} → ls ≡ es ++ e ∷ [] → rs ≡ fs ++ f ∷ []
-      → AreTaken (IsLastOfBoth all) (λ x y. y <ℤ x) all ls rs es fs e f
+      → AreTaken (from_right all) (record { row = ls; edge = e; others = es }) (record { row = rs; edge = f; others = fs })
   last_taken {e = e} {f = f} {es = es} {fs = fs} left_is right_is =
       let whole = rw left_is at now.0.left in
       let right_whole = rw right_is at now.0.right in
@@ -157,7 +179,7 @@ module _ {all ls rs : List Edge} (now : AreLeftOfBoth ls rs × (edges_of_both ls
       let right = last_among f fs right_whole in
       let rest = rest_before e es whole in
       let others = rest_before f fs right_whole in
-      rw (← now.1, left_is, right_is) (taken _ _ _ _ _ es fs e f left.edge right.edge rest.1 others.1 (record { left = rest.0; right = others.0 })
+      rw (← now.1, left_is, right_is) (taken _ _ _ left.edge right.edge rest.1 others.1 (record { left = rest.0; right = others.0 })
       (λ lt. record {
         all = both-left_last e es (fs ++ f ∷ []) left.edge left.ended (ends_before e.x f fs right.ended lt);
         others = record { left = rest.0; right = right_whole };

@@ -5,7 +5,7 @@ use Rattle.mf_rows.specs.declared.row.Row.{Row}
 use Rattle.mf_rows.specs.Bands.{edge_row, AreAbove}
 use Rattle.mf_edges.specs.LawfulWeights.{IsLawfulWeight}
 use Rattle.mf_rows.specs.EdgeRows.{EdgeRow, AreRowsFrom}
-use Rattle.mf_rows.specs.Sums.{HaveRowWeights, weight_in_all}
+use Rattle.mf_rows.specs.Sums.{HaveRowWeights}
 
 -- a list has row y and no other row, or no row at all
 pub record IsRowAt (y : ℤ) (rs : List EdgeRow) : Type 0 where
@@ -23,12 +23,12 @@ pub record IsSplitAtHeight (rs : List EdgeRow) (y : ℤ) (found others : List Ed
   pub here : IsRowAt y found
   pub left : AreRowsFrom (y -ℤ pos 1) others
 
--- row y was appended, with the weights of two rows together, unless it is blank
-pub record HasRowSum (before : List EdgeRow) (y : ℤ) (rs ss after : List EdgeRow) : Type 0 where
+-- row y was appended, with the weights f, unless it is blank
+pub record HasNewRow (f : ℤ → ℤ → ℤ) (y : ℤ) (before after : List EdgeRow) : Type 0 where
   pub more : List EdgeRow
   pub all : after ≡ before ++ more
   pub here : IsRowAt y more
-  pub weights : HaveRowWeights (weight_in_all rs ss) more
+  pub weights : HaveRowWeights f more
 
 -- at some pixel of row y that lies in the field, f gives a weight that is not lawful
 pub record IsUnlawfulInRow (f : ℤ → ℤ → ℤ) (y : ℤ) : Type 0 where

@@ -16,8 +16,17 @@ pub record ReachDownTo (bottom : ℤ) (rs : List EdgeRow) : Type 0 where
   pub rows : AreRowsFrom last_in_field rs
   pub reach : All (λ r. bottom ≤ℤ r.y) rs
 
--- the new rows are the old ones, and from row `bottom` up to the row below height `top` rows with these edges
-pub record HasStrip (old : List EdgeRow) (es : List Edge) (bottom top : ℤ) (new : List EdgeRow) : Type 0 where
-  pub rows : ReachDownTo bottom new
-  pub strip : (x y : ℤ) → bottom ≤ℤ y → y <ℤ top → weight_in_rows new x y ≡ weight_in es x
-  pub above : (x y : ℤ) → top ≤ℤ y → weight_in_rows new x y ≡ weight_in_rows old x y
+-- a row at each height from `bottom` up to the one below `top`, all with these edges
+pub record Strip : Type 0 where
+  pub edges : List Edge
+  pub bottom : ℤ
+  pub top : ℤ
+
+abbrev pub strip_between : List Edge → ℤ → ℤ → Strip
+strip_between es bottom top = record { edges = es; bottom = bottom; top = top }
+
+-- the new rows are the old ones and those of a strip
+pub record HasStrip (s : Strip) (old new : List EdgeRow) : Type 0 where
+  pub rows : ReachDownTo s.bottom new
+  pub strip : (x y : ℤ) → s.bottom ≤ℤ y → y <ℤ s.top → weight_in_rows new x y ≡ weight_in s.edges x
+  pub above : (x y : ℤ) → s.top ≤ℤ y → weight_in_rows new x y ≡ weight_in_rows old x y

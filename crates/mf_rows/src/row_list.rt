@@ -79,7 +79,7 @@ impl Model for RowList {
 
 impl RowList {
     ghost use Rattle.mf_rows.specs.Bands.{edge_row};
-    ghost use Rattle.mf_rows.specs.Merging.{IsRowAt, HasRowSum, IsUnlawfulInRow};
+    ghost use Rattle.mf_rows.specs.Merging.{IsRowAt, HasNewRow, IsUnlawfulInRow};
     ghost use Rattle.mf_rows.specs.Sums.{weight_in_all};
 
     /// No rows. Allocates nothing.
@@ -171,7 +171,7 @@ impl RowList {
     ) -> Result<(), AddFault>
         requires left { IsRowAt right.now.y (edge_row left.now ∷ []) }
         requires right { IsRowAt right.now.y (edge_row right.now ∷ []) }
-        ensures pushed { OnOk result (HasRowSum self.old right.now.y (edge_row left.now ∷ []) (edge_row right.now ∷ []) self.new) }
+        ensures pushed { OnOk result (HasNewRow (weight_in_all (edge_row left.now ∷ []) (edge_row right.now ∷ [])) right.now.y self.old self.new) }
         ensures too_large { IfErr result (λ fault. fault ≢ AddFault.OutOfMemory
             → IsUnlawfulInRow (weight_in_all (edge_row left.now ∷ []) (edge_row right.now ∷ [])) right.now.y) }
     {
@@ -202,7 +202,7 @@ impl RowList {
     ) -> Result<(), AddFault>
         requires left { IsRowAt right.now.y (edge_row left.now ∷ []) }
         requires right { IsRowAt right.now.y (edge_row right.now ∷ []) }
-        ensures pushed { OnOk result (HasRowSum self.old right.now.y (edge_row left.now ∷ []) (edge_row right.now ∷ []) self.new) }
+        ensures pushed { OnOk result (HasNewRow (weight_in_all (edge_row left.now ∷ []) (edge_row right.now ∷ [])) right.now.y self.old self.new) }
         ensures too_large { IfErr result (λ fault. fault ≢ AddFault.OutOfMemory
             → IsUnlawfulInRow (weight_in_all (edge_row left.now ∷ []) (edge_row right.now ∷ [])) right.now.y) }
     {

@@ -2,7 +2,7 @@
 ghost use Rattle.std.specs.Prelude.{◌≡◌, ◌≢◌, ◌∷◌, ◌++◌, [], IfOk, IfErr, OnOk};
 ghost use Rattle.mf_rows.specs.Bands.{edge_row, slice_rows};
 ghost use Rattle.mf_rows.specs.EdgeRows.{AreRows};
-ghost use Rattle.mf_rows.specs.Merging.{IsRowAt, row_found, HasRowSum, IsUnlawfulInRow};
+ghost use Rattle.mf_rows.specs.Merging.{IsRowAt, row_found, HasNewRow, IsUnlawfulInRow};
 ghost use Rattle.mf_rows.specs.Sums.{weight_in_all, HaveRowWeights, StayWithin, IsUnlawfulSomewhere};
 
 use crate::bands::BAND_HEIGHT;
@@ -68,7 +68,7 @@ fn push_row_sum(
 ) -> Result<(), AddFault>
     requires left { IsRowAt right.y (row_found left) }
     requires right { IsRowAt right.y (edge_row right ∷ []) }
-    ensures pushed { OnOk result (HasRowSum sum.old right.entry.y (row_found left.entry) (edge_row right.entry ∷ []) sum.new) }
+    ensures pushed { OnOk result (HasNewRow (weight_in_all (row_found left.entry) (edge_row right.entry ∷ [])) right.entry.y sum.old sum.new) }
     ensures too_large { IfErr result (λ fault. fault ≢ AddFault.OutOfMemory
         → IsUnlawfulInRow (weight_in_all (row_found left.entry) (edge_row right.entry ∷ [])) right.entry.y) }
 {

@@ -65,7 +65,7 @@ fn push_relocated(
     to: usize,
 ) -> Result<(), OutOfMemory>
     requires heads { AreHeads edges.now heads.old.items }
-    requires copied { IsCopied rows.edges.now rows.heads.now from edges.now to }
+    requires copied { IsCopied rows from edges.now to }
     ensures heads { AreHeads edges.now heads.new.items }
     ensures rows { OnOk result (rows_at edges.now heads.new.items ≡ rows_at edges.now heads.old.items ++ slice_rows rows.entry) }
 {

@@ -48,7 +48,7 @@ loop-part-preserved c =
 pub returns-clause-rows : goal.returns-clause-rows
 returns-clause-rows c =
     let all = rw (c.in_default.ensures.none refl) at c.loop-part.invariant.rows in
-    rw c.in_ok-push_shared-2.ensures.rows (sum_all_rows _ _ _ _ all)
+    rw c.in_ok-push_shared-2.ensures.rows (sum_all_rows all)
 
 pub returns-clause-rising : goal.returns-clause-rising
 returns-clause-rising c = all_rise c.loop-part.invariant _ c.in_ok-push_shared-2.ensures.numbers
@@ -56,4 +56,4 @@ returns-clause-rising c = all_rise c.loop-part.invariant _ c.in_ok-push_shared-2
 pub returns-clause-weights : goal.returns-clause-weights
 returns-clause-weights c =
     let all = rw (c.in_default.ensures.none refl) at c.loop-part.invariant.rows in
-    rw c.in_ok-push_shared-2.ensures.rows (sum_all_weights _ _ _ _ all)
+    rw c.in_ok-push_shared-2.ensures.rows (sum_all_weights all)

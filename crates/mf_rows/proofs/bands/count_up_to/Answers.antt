@@ -1,6 +1,5 @@
-use Rattle.std.proofs.Common.{◌≡◌, true, false, to_z, of_z, w32, subst, arith, rules}
+use Rattle.std.proofs.Common.{◌≡◌, true, false, to_z, of_z, to_z-of_z, w32, subst, rules}
 use Rattle.std.specs.List.Sorted.{IsPartitionPoint}
-use Rattle.std.proofs.lemmas.Int.{ints}
 use Rattle.std.proofs.lemmas.Fn.{always_returns_same}
 use Rattle.mf_rows.proofs.FieldBandsLemmas.{is_up_to, IsPartitionedBy-is_up_to, up_to_split, behind_split}
 use Rattle.mf_rows.proofs.bands.count_up_to.Goals as goal
@@ -9,7 +8,7 @@ split : (c : goal.After-partition_point)
     → IsPartitionPoint (λ band. is_up_to c.args.number band ≡ true) (λ band. is_up_to c.args.number band ≡ false) c.args.bands.now c.partition_point.result
 split c =
     let bands = c.args.bands.now in
-    let number_is : to_z w32 (of_z w32 c.args.number) ≡ c.args.number = omega (arith, ints) in
+    let number_is = to_z-of_z c.ranges.number in
     subst (λ n. IsPartitionPoint (λ band. is_up_to n band ≡ true) (λ band. is_up_to n band ≡ false) bands c.partition_point.result) number_is
     (c.partition_point.ensures.partitioned (is_up_to (to_z w32 (of_z w32 c.args.number)))
     (search (rules, always_returns_same)) (IsPartitionedBy-is_up_to _ bands c.requires))

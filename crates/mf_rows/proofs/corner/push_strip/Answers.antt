@@ -1,4 +1,4 @@
-use Rattle.std.proofs.Common.{◌≡◌, ◌≢◌, [], ◌<ℤ◌, to_z, of_z, w32, ap, ◌∙◌, sym, arith}
+use Rattle.std.proofs.Common.{◌≡◌, ◌≢◌, [], ◌<ℤ◌, to_z-of_z, ap, ◌∙◌, sym, arith}
 use Rattle.std.proofs.lemmas.Bool.{false≢true}
 use Rattle.std.proofs.lemmas.Int.{ints}
 use Rattle.std.proofs.lemmas.List.{nil_from_length}
@@ -17,21 +17,17 @@ returns-then-is_empty c = no_strip _ _ _ _ c.requires.rows c.requires.order (λ 
 
 pub returns-then-edges-gt-MANY_EDGES : goal.returns-then-edges-gt-MANY_EDGES
 returns-then-edges-gt-MANY_EDGES c =
-    let top : to_z w32 (of_z w32 c.args.top) ≡ c.args.top = omega (arith, ints) in
-    let bottom : to_z w32 (of_z w32 c.args.bottom) ≡ c.args.bottom = omega (arith, ints) in
     let some : c.args.edges.now ≢ [] = λ none. false≢true (sym c.if-is_empty.false ∙ c.is_empty.ensures ∙ rw none) in
     let below : c.args.bottom <ℤ c.args.top = omega (arith, ints, c.if-bottom-top.false, c.requires.order) in
     let kept : c.row.result.edges.now ≡ c.args.edges.now = ap (λ (r : EdgeRow). r.edges) c.row.ensures ∙ c.in_ok-kept.ensures in
-    let pushed = rw (top, bottom, kept) at c.push_copies.ensures in
+    let pushed = rw (to_z-of_z c.ranges.top, to_z-of_z c.ranges.bottom, kept) at c.push_copies.ensures in
     on_ok_weaker c.push_copies.result
     (λ all. rw all (strip_below _ _ _ _ c.requires.rows c.requires.bottom below c.requires.top some (c.requires.edges below))) pushed
 
 pub returns : goal.returns
 returns c =
-    let top : to_z w32 (of_z w32 c.args.top) ≡ c.args.top = omega (arith, ints) in
-    let bottom : to_z w32 (of_z w32 c.args.bottom) ≡ c.args.bottom = omega (arith, ints) in
     let some : c.args.edges.now ≢ [] = λ none. false≢true (sym c.if-is_empty.false ∙ c.is_empty.ensures ∙ rw none) in
     let below : c.args.bottom <ℤ c.args.top = omega (arith, ints, c.if-bottom-top.false, c.requires.order) in
-    let pushed = rw (top, bottom) at c.push_copies-2.ensures in
+    let pushed = rw (to_z-of_z c.ranges.top, to_z-of_z c.ranges.bottom) at c.push_copies-2.ensures in
     on_ok_weaker c.push_copies-2.result
     (λ all. rw all (strip_below _ _ _ _ c.requires.rows c.requires.bottom below c.requires.top some (c.requires.edges below))) pushed

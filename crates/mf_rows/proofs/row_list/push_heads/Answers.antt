@@ -1,4 +1,4 @@
-use Rattle.std.proofs.Common.{◌≡◌, pos, ◌+ℤ◌, ◌-ℤ◌, ◌≤ℤ◌, to_z, of_z, w32, arith}
+use Rattle.std.proofs.Common.{◌≡◌, pos, ◌+ℤ◌, ◌-ℤ◌, ◌≤ℤ◌, to_z, to_z-of_z, w32, arith}
 use Rattle.std.proofs.lemmas.Int.{ints}
 use Rattle.mf_rows.proofs.StripCopies.{heads_none, heads_more, heads_all, next_place}
 use Rattle.mf_rows.proofs.row_list.push_heads.Goals as goal
@@ -8,15 +8,14 @@ loop-down-init c = record { copies = heads_none _ _; least = omega (arith, ints)
 
 pub returns-in_err-push-clause-heads : goal.returns-in_err-push-clause-heads
 returns-in_err-push-clause-heads c = λ edges row heads placed reached.
-    let reach_is : to_z w32 (of_z w32 c.args.reach) ≡ c.args.reach = omega (arith, ints) in
-    rw c.in_err-push.ensures.items (c.loop-down.invariant.copies.heads edges row heads placed (rw reach_is reached))
+    rw c.in_err-push.ensures.items (c.loop-down.invariant.copies.heads edges row heads placed (rw (to_z-of_z c.ranges.reach) reached))
 
 -- the next head is below those that are there, and has their place
 pub loop-down-preserved : goal.loop-down-preserved
 loop-down-preserved c =
-    let top : to_z w32 (of_z w32 c.args.top) ≡ c.args.top = omega (arith, ints) in
-    let bottom : to_z w32 (of_z w32 c.args.bottom) ≡ c.args.bottom = omega (arith, ints) in
-    let reach : to_z w32 (of_z w32 c.args.reach) ≡ c.args.reach = omega (arith, ints) in
+    let top = to_z-of_z c.ranges.top in
+    let bottom = to_z-of_z c.ranges.bottom in
+    let reach = to_z-of_z c.ranges.reach in
     let down = to_z w32 c.loop-down.down-bits in
     let bound : (down +ℤ pos 1) ≤ℤ (c.args.top -ℤ c.args.bottom) = omega (arith, ints, c.loop-down-test.true, c.requires) in
     let place = next_place c.args.bottom c.args.top down c.requires.bottom c.requires.top c.loop-down.invariant.least bound in
@@ -30,19 +29,15 @@ loop-down-preserved c =
 
 pub returns-in_err-share-clause-heads : goal.returns-in_err-share-clause-heads
 returns-in_err-share-clause-heads c = λ edges row heads placed reached.
-    let reach_is : to_z w32 (of_z w32 c.args.reach) ≡ c.args.reach = omega (arith, ints) in
-    c.loop-down.invariant.copies.heads edges row heads placed (rw reach_is reached)
+    c.loop-down.invariant.copies.heads edges row heads placed (rw (to_z-of_z c.ranges.reach) reached)
 
 pub returns-clause-heads : goal.returns-clause-heads
 returns-clause-heads c = λ edges row heads placed reached.
-    let reach_is : to_z w32 (of_z w32 c.args.reach) ≡ c.args.reach = omega (arith, ints) in
-    c.loop-down.invariant.copies.heads edges row heads placed (rw reach_is reached)
+    c.loop-down.invariant.copies.heads edges row heads placed (rw (to_z-of_z c.ranges.reach) reached)
 
 pub returns-clause-rows : goal.returns-clause-rows
 returns-clause-rows c =
-    let top : to_z w32 (of_z w32 c.args.top) ≡ c.args.top = omega (arith, ints) in
-    let bottom : to_z w32 (of_z w32 c.args.bottom) ≡ c.args.bottom = omega (arith, ints) in
-    let reach : to_z w32 (of_z w32 c.args.reach) ≡ c.args.reach = omega (arith, ints) in
     let end : c.args.top -ℤ c.args.bottom ≡ to_z w32 c.loop-down.down-bits =
     omega (arith, ints, c.loop-down-test.false, c.loop-down.invariant.greatest, c.requires) in
-    heads_all _ _ (to_z w32 c.loop-down.down-bits) _ end (rw (top, bottom, reach) at c.loop-down.invariant.copies)
+    heads_all _ _ (to_z w32 c.loop-down.down-bits) _ end
+    (rw (to_z-of_z c.ranges.top, to_z-of_z c.ranges.bottom, to_z-of_z c.ranges.reach) at c.loop-down.invariant.copies)

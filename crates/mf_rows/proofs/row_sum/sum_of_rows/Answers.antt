@@ -12,15 +12,12 @@ loop-added-init c =
     (sum_none (slice_rows c.args.left) (slice_rows c.args.right) c.requires.left c.requires.right)
 
 pub split_above-requires : goal.split_above-requires
-split_above-requires c = rows_left _ _ _ _ _ c.loop-added.invariant
+split_above-requires c = rows_left c.loop-added.invariant
 
 pub split_at_height-requires : goal.split_at_height-requires
 split_at_height-requires c =
-    let r = edge_row c.in-Some.added in
-    let y_is : to_z w32 (of_z w32 r.y) ≡ r.y = to_z-of_z w32 r.y (search rules) in
-    let above = rw y_is at c.split_above.ensures.above in
-    let below = rw y_is at c.split_above.ensures.others in
-    rw y_is (rest_from _ _ _ _ _ c.loop-added.invariant r _ c.in-Some.ensures.first _ _ c.split_above.ensures.all above below)
+    rest_from c.loop-added.invariant (edge_row c.in-Some.added) _ c.in-Some.ensures.first _ _ c.split_above.ensures.all
+    c.split_above.ensures.above c.split_above.ensures.others
 
 pub push_row_sum-requires-clause-left : goal.push_row_sum-requires-clause-left
 push_row_sum-requires-clause-left c =
@@ -32,47 +29,43 @@ push_row_sum-requires-clause-left c =
 pub push_row_sum-requires-clause-right : goal.push_row_sum-requires-clause-right
 push_row_sum-requires-clause-right c =
     let r = edge_row c.in-Some.added in
-    let y_is : to_z w32 (of_z w32 r.y) ≡ r.y = to_z-of_z w32 r.y (search rules) in
-    let above = rw y_is at c.split_above.ensures.above in
-    let below = rw y_is at c.split_above.ensures.others in
-    let right = added_split _ _ _ _ _ c.loop-added.invariant r _ c.in-Some.ensures.first _ _ c.split_above.ensures.all above below in
+    let above = c.split_above.ensures in
+    let right = added_split c.loop-added.invariant r _ c.in-Some.ensures.first _ _ above.all above.above above.others in
     right.here
 
 pub returns-in_err-push_row_sum-clause-too_large : goal.returns-in_err-push_row_sum-clause-too_large
 returns-in_err-push_row_sum-clause-too_large c =
     let r = edge_row c.in-Some.added in
     let y_is : to_z w32 (of_z w32 r.y) ≡ r.y = to_z-of_z w32 r.y (search rules) in
-    let above = rw y_is at c.split_above.ensures.above in
-    let below = rw y_is at c.split_above.ensures.others in
+    let above = c.split_above.ensures in
     let left = rw y_is at c.split_at_height.ensures in
-    let right = added_split _ _ _ _ _ c.loop-added.invariant r _ c.in-Some.ensures.first _ _ c.split_above.ensures.all above below in
-    let so_far = sum_with_above _ _ _ _ _ c.loop-added.invariant r _ c.in-Some.ensures.first _ _ c.split_above.ensures.all above below in
+    let right = added_split c.loop-added.invariant r _ c.in-Some.ensures.first _ _ above.all above.above above.others in
+    let so_far = sum_with_above c.loop-added.invariant r _ c.in-Some.ensures.first _ _ above.all above.above above.others in
     let p = err_from_is_err_and c.from_residual-in_err-push_row_sum.result c.from_residual-in_err-push_row_sum.ensures.1 in
-    rw (p.1, p.2) (λ fault. unlawful_somewhere _ _ _ _ _ r.y so_far _ _ _ _ left right (c.in_err-push_row_sum.ensures.too_large fault))
+    rw (p.1, p.2) (λ fault. unlawful_somewhere r.y so_far.0 so_far.1 _ _ _ _ left right (c.in_err-push_row_sum.ensures.too_large fault))
 
 pub loop-added-preserved : goal.loop-added-preserved
 loop-added-preserved c =
     let r = edge_row c.in-Some.added in
     let y_is : to_z w32 (of_z w32 r.y) ≡ r.y = to_z-of_z w32 r.y (search rules) in
-    let above = rw y_is at c.split_above.ensures.above in
-    let below = rw y_is at c.split_above.ensures.others in
+    let above = c.split_above.ensures in
     let left = rw y_is at c.split_at_height.ensures in
-    let right = added_split _ _ _ _ _ c.loop-added.invariant r _ c.in-Some.ensures.first _ _ c.split_above.ensures.all above below in
-    let so_far = sum_with_above _ _ _ _ _ c.loop-added.invariant r _ c.in-Some.ensures.first _ _ c.split_above.ensures.all above below in
+    let right = added_split c.loop-added.invariant r _ c.in-Some.ensures.first _ _ above.all above.above above.others in
+    let so_far = sum_with_above c.loop-added.invariant r _ c.in-Some.ensures.first _ _ above.all above.above above.others in
     let pushed = rw c.in_ok-push_rows.ensures at c.in_ok-push_row_sum.ensures.pushed in
-    sum_more _ _ _ _ _ r.y so_far _ _ _ _ left right _ pushed
+    sum_more r.y so_far.0 so_far.1 _ _ _ _ left right _ pushed
 
 pub returns-clause-rows : goal.returns-clause-rows
 returns-clause-rows c =
     let all = rw (c.in_default.ensures.none refl) at c.loop-added.invariant in
-    rw c.in_ok-push_rows-2.ensures (sum_all_rows _ _ _ _ all)
+    rw c.in_ok-push_rows-2.ensures (sum_all_rows all)
 
 pub returns-clause-weights : goal.returns-clause-weights
 returns-clause-weights c =
     let all = rw (c.in_default.ensures.none refl) at c.loop-added.invariant in
-    rw c.in_ok-push_rows-2.ensures (sum_all_weights _ _ _ _ all)
+    rw c.in_ok-push_rows-2.ensures (sum_all_weights all)
 
 pub returns-clause-within : goal.returns-clause-within
 returns-clause-within c =
     let all = rw (c.in_default.ensures.none refl) at c.loop-added.invariant in
-    rw c.in_ok-push_rows-2.ensures (stay_within _ _ _ (sum_all_rows _ _ _ _ all) (sum_all_weights _ _ _ _ all))
+    rw c.in_ok-push_rows-2.ensures (stay_within _ _ _ (sum_all_rows all) (sum_all_weights all))

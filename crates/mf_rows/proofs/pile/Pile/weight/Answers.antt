@@ -1,4 +1,4 @@
-use Rattle.std.proofs.Common.{◌≡◌, to_z, of_z, w32, arith}
+use Rattle.std.proofs.Common.{to_z-of_z, arith}
 use Rattle.std.proofs.lemmas.Int.{ints}
 use Rattle.mf_rows.specs.Groups.{rows_of_groups}
 use Rattle.mf_rows.proofs.BothRowsLemmas.{weight_in_rows-both}
@@ -7,8 +7,8 @@ use Rattle.mf_rows.proofs.pile.Pile.weight.Goals as goal
 
 pub returns-clause-weight : goal.returns-clause-weight
 returns-clause-weight c =
-    let x : to_z w32 (of_z w32 c.args.x) ≡ c.args.x = omega (arith, ints) in
-    let y : to_z w32 (of_z w32 c.args.y) ≡ c.args.y = omega (arith, ints) in
+    let x = to_z-of_z c.ranges.x in
+    let y = to_z-of_z c.ranges.y in
     let older = rw (c.deref.ensures.value, x, y) at c.weight_in_groups.ensures.weight in
     let newer = rw (c.deref-2.ensures.value, x, y) at c.weight_in_groups-2.ensures.weight in
     let both = weight_in_rows-both (rows_of_groups c.self.inside.groups.items) (rows_of_groups c.self.inside.older.items) c.args.x c.args.y in

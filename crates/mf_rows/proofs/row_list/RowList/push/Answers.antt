@@ -1,5 +1,4 @@
-use Rattle.std.proofs.Common.{◌≡◌, to_z, of_z, w32, arith}
-use Rattle.std.proofs.lemmas.Int.{ints}
+use Rattle.std.proofs.Common.{to_z-of_z}
 use Rattle.std.proofs.lemmas.Result.{err_from_is_err_and}
 use Rattle.mf_edges.proofs.ReachesLemmas.{reach_is}
 use Rattle.mf_rows.proofs.RowListLemmas.{heads_kept, heads_push, rows_push, rows_kept}
@@ -21,6 +20,6 @@ invariant_of-self-2 c =
 
 pub returns-clause-pushed : goal.returns-clause-pushed
 returns-clause-pushed c =
-    let y_is : to_z w32 (of_z w32 c.args.y) ≡ c.args.y = omega (arith, ints) in
+    let y_is = to_z-of_z c.ranges.y in
     rw (c.in_ok-push.ensures.items, ← c.self.view_is, y_is) (rows_push _ _ c.place_of.ensures.kept _ c.self.invariant _ c.args.row.now.edges.now
     c.in_ok-place.ensures.place)

@@ -1,5 +1,4 @@
-use Rattle.std.proofs.Common.{◌≡◌, ◌-◌, suc, length, to_z, of_z, w32, arith}
-use Rattle.std.proofs.lemmas.Int.{ints}
+use Rattle.std.proofs.Common.{◌≡◌, ◌-◌, suc, length, to_z-of_z, arith}
 use Rattle.mf_edges.proofs.ReachesLemmas.{reach_is}
 use Rattle.mf_rows.proofs.RowListLemmas.{IsLastHead, is_last, nothing_more, heads_push, rows_push}
 use Rattle.mf_rows.proofs.row_list.RowList.push_again.Goals as goal
@@ -25,6 +24,5 @@ invariant_of-self-2 c =
 pub returns-clause-pushed : goal.returns-clause-pushed
 returns-clause-pushed c =
     let es = c.self.inside.edges.items in
-    let y_is : to_z w32 (of_z w32 c.args.y) ≡ c.args.y = omega (arith, ints) in
-    rw (c.in_ok-push.ensures.items, ← c.self.view_is, y_is)
+    rw (c.in_ok-push.ensures.items, ← c.self.view_is, to_z-of_z c.ranges.y)
     (rows_push es es (nothing_more es) _ c.self.invariant _ _ (c.in_ok-place.ensures es _ (last c).place))

@@ -1,6 +1,5 @@
-use Rattle.std.proofs.Common.{◌≡◌, ◌++◌, ◌-ℤ◌, ◌∙◌, ap, to_z, of_z, w32, arith}
+use Rattle.std.proofs.Common.{◌++◌, ◌-ℤ◌, ◌∙◌, ap, to_z-of_z}
 use Rattle.std.specs.Int.RustNames.{unsigned_abs}
-use Rattle.std.proofs.lemmas.Int.{ints}
 use Rattle.std.proofs.lemmas.Result.{on_ok_weaker}
 use Rattle.mf_rows.specs.RowMoves.{strip}
 use Rattle.mf_edges.proofs.ReachesLemmas.{reach_is}
@@ -15,9 +14,7 @@ invariant_of-self-2 c =
 pub returns : goal.returns
 returns c =
     let strip_is = strip c.args.bottom c.args.row.edges.now (unsigned_abs (c.args.top -ℤ c.args.bottom)) in
-    let top : to_z w32 (of_z w32 c.args.top) ≡ c.args.top = omega (arith, ints) in
-    let bottom : to_z w32 (of_z w32 c.args.bottom) ≡ c.args.bottom = omega (arith, ints) in
     on_ok_weaker c.push_heads.result
     (λ all. all _ _ c.in_ok-place.ensures.place
     ∙ ap (λ rs. rs ++ strip_is) (rows_kept _ _ c.place_of.ensures.kept _ c.self.invariant ∙ c.self.view_is))
-    (rw (top, bottom) at c.push_heads.ensures.rows)
+    (rw (to_z-of_z c.ranges.top, to_z-of_z c.ranges.bottom) at c.push_heads.ensures.rows)

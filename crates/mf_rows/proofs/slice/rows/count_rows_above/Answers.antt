@@ -1,4 +1,4 @@
-use Rattle.std.proofs.Common.{◌≡◌, true, false, to_z, of_z, w32, subst, arith, rules}
+use Rattle.std.proofs.Common.{◌≡◌, true, false, to_z, of_z, to_z-of_z, w32, subst, arith, rules}
 use Rattle.std.specs.List.Sorted.{IsPartitionPoint}
 use Rattle.std.proofs.lemmas.Int.{ints}
 use Rattle.std.proofs.lemmas.Fn.{always_returns_same}
@@ -11,7 +11,7 @@ split : (c : After-partition_point)
     c.partition_point.result
 split c =
     let heads = c.args.rows.heads.now in
-    let y_is : to_z w32 (of_z w32 c.args.y) ≡ c.args.y = omega (arith, ints) in
+    let y_is = to_z-of_z c.ranges.y in
     subst (λ y. IsPartitionPoint (λ head. head_stands_above y head ≡ true) (λ head. head_stands_above y head ≡ false) heads c.partition_point.result) y_is
     (c.partition_point.ensures.partitioned (head_stands_above (to_z w32 (of_z w32 c.args.y)))
     (search (rules, always_returns_same)) (IsPartitionedBy-head_stands_above _ c.args.rows.edges.now heads c.requires))

@@ -1,4 +1,4 @@
-use Rattle.std.proofs.Common.{◌≡◌, ◌≢◌, ◌++◌, [], w32, to_z, of_z, ap, sym, refl, ◌∙◌, arith}
+use Rattle.std.proofs.Common.{◌≡◌, ◌≢◌, ◌++◌, [], w32, to_z, of_z, to_z-of_z, ap, sym, refl, ◌∙◌, arith}
 use Rattle.std.proofs.lemmas.Int.{ints}
 use Rattle.mf_rows.specs.BandNumbers.{number_of_rows, numbers_of}
 use Rattle.mf_rows.specs.Bands.{rows_of_bands}
@@ -10,7 +10,7 @@ use Rattle.mf_rows.proofs.writer.RowWriter.push.Goals as goal
 pub invariant_of-self-then-own-self : goal.invariant_of-self-then-own-self
 invariant_of-self-then-own-self c =
     let row : EdgeRow = record { y = c.args.y; edges = c.args.row.now.edges.now } in
-    let y_is : to_z w32 (of_z w32 c.args.y) ≡ c.args.y = omega (arith, ints) in
+    let y_is = to_z-of_z c.ranges.y in
     let same : c.band_of-own.result ≡ c.self.inside.number = omega (arith, ints, c.if-own-self.true) in
     rw (c.in_ok-push.ensures.pushed, y_is)
     (writing_more c.self.inside.number c.self.inside.bands.items c.self.inside.rows row c.self.invariant (rw (← same, ← y_is) c.band_of-own.ensures))
@@ -20,7 +20,7 @@ pub invariant_of-self-in_err-close_band : goal.invariant_of-self-in_err-close_ba
 invariant_of-self-in_err-close_band c =
     let row : EdgeRow = record { y = c.args.y; edges = c.args.row.now.edges.now } in
     let own = to_z w32 (of_z w32 c.band_of-own.result) in
-    let y_is : to_z w32 (of_z w32 c.args.y) ≡ c.args.y = omega (arith, ints) in
+    let y_is = to_z-of_z c.ranges.y in
     let own_is : own ≡ c.band_of-own.result = omega (arith, ints) in
     let of_own_band : IsOfBand own c.args.y = rw (own_is, ← y_is) c.band_of-own.ensures in
     rw (
@@ -39,7 +39,7 @@ pub invariant_of-self-2 : goal.invariant_of-self-2
 invariant_of-self-2 c =
     let row : EdgeRow = record { y = c.args.y; edges = c.args.row.now.edges.now } in
     let own = to_z w32 (of_z w32 c.band_of-own.result) in
-    let y_is : to_z w32 (of_z w32 c.args.y) ≡ c.args.y = omega (arith, ints) in
+    let y_is = to_z-of_z c.ranges.y in
     let own_is : own ≡ c.band_of-own.result = omega (arith, ints) in
     let of_own_band : IsOfBand own c.args.y = rw (own_is, ← y_is) c.band_of-own.ensures in
     let number_is : to_z w32 (of_z w32 c.self.inside.number) ≡ c.self.inside.number = omega (arith, ints) in

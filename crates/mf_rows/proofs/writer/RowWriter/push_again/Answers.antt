@@ -1,4 +1,4 @@
-use Rattle.std.proofs.Common.{◌≡◌, ◌≢◌, ◌++◌, ◌∷◌, [], w32, to_z, of_z, ap, sym, ◌∙◌, arith, append_assoc}
+use Rattle.std.proofs.Common.{◌≡◌, ◌≢◌, ◌++◌, ◌∷◌, [], to_z-of_z, ap, sym, ◌∙◌, arith, append_assoc}
 use Rattle.std.proofs.lemmas.Bool.{false≢true}
 use Rattle.std.proofs.lemmas.Int.{ints}
 use Rattle.mf_rows.specs.Bands.{rows_of_bands}
@@ -24,7 +24,7 @@ last_is c =
 pub invariant_of-self-then-band_of-self : goal.invariant_of-self-then-band_of-self
 invariant_of-self-then-band_of-self c =
     let row : EdgeRow = record { y = c.args.y; edges = c.args.row.now.edges.now } in
-    let y_is : to_z w32 (of_z w32 c.args.y) ≡ c.args.y = omega (arith, ints) in
+    let y_is = to_z-of_z c.ranges.y in
     let same : c.band_of.result ≡ c.self.inside.number = omega (arith, ints, c.if-band_of-self.true) in
     rw (c.in_ok-push_again.ensures.pushed, y_is, last_is c)
     (writing_more c.self.inside.number c.self.inside.bands.items c.self.inside.rows row c.self.invariant (rw (← same, ← y_is) c.band_of.ensures))
@@ -32,6 +32,5 @@ invariant_of-self-then-band_of-self c =
 pub returns-then-band_of-self : goal.returns-then-band_of-self
 returns-then-band_of-self c =
     let row : EdgeRow = record { y = c.args.y; edges = c.args.row.now.edges.now } in
-    let y_is : to_z w32 (of_z w32 c.args.y) ≡ c.args.y = omega (arith, ints) in
-    rw (c.in_ok-push_again.ensures.pushed, y_is, last_is c)
+    rw (c.in_ok-push_again.ensures.pushed, to_z-of_z c.ranges.y, last_is c)
     (sym (append_assoc (rows_of_bands c.self.inside.bands.items) c.self.inside.rows (row ∷ [])) ∙ ap (λ rs. rs ++ row ∷ []) c.self.view_is)
