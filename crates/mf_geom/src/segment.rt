@@ -21,6 +21,7 @@ struct Step {
 }
 
 /// Whether a segment is rectilinear.
+#[tactic(auto, using(std::proofs::lemmas::Int::ints, std::proofs::lemmas::Bool::Decides::nat_tests), unfolding(crate::specs::Path::IsRectilinear))]
 pub fn is_rectilinear(points: &[Point], segment: usize) -> bool
     requires range { StaysInRange points.now }
     requires within { segment < length points.now }
@@ -55,6 +56,7 @@ pub fn turn(points: &[Point], vertex: usize) -> i32
 }
 
 /// What a segment contributes to the shoelace sum.
+#[tactic(auto, using(std::proofs::lemmas::Int::ints))]
 pub fn shoelace(points: &[Point], segment: usize) -> i32
     requires range { StaysInRange points.now }
     requires within { segment < length points.now }
@@ -67,6 +69,7 @@ pub fn shoelace(points: &[Point], segment: usize) -> i32
 }
 
 /// How far the segment that leaves this vertex leads.
+#[tactic(auto, using(std::proofs::lemmas::Int::ints))]
 fn step_along(points: &[Point], segment: usize) -> Step
     requires range { StaysInRange points.now }
     requires within { segment < length points.now }
@@ -81,6 +84,7 @@ fn step_along(points: &[Point], segment: usize) -> Step
 }
 
 /// The ends of the segment that leaves this vertex.
+#[tactic(auto, unfolding(crate::specs::Path::point_at, crate::specs::Path::segment_at))]
 pub fn ends(points: &[Point], segment: usize) -> (Point, Point)
     requires range { StaysInRange points.now }
     requires within { segment < length points.now }

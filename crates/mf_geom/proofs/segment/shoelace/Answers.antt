@@ -5,14 +5,6 @@ use Rattle.mf_geom.specs.Path.{segment_at}
 use Rattle.mf_geom.proofs.Passed.{product-passed}
 use Rattle.mf_geom.proofs.segment.shoelace.Goals as goal
 
-pub product-requires : goal.product-requires
-product-requires c =
-    record { a_least = omega (arith, ints); a_greatest = omega (arith, ints); b_least = omega (arith, ints); b_greatest = omega (arith, ints) }
-
-pub product-requires-2 : goal.product-requires-2
-product-requires-2 c =
-    record { a_least = omega (arith, ints); a_greatest = omega (arith, ints); b_least = omega (arith, ints); b_greatest = omega (arith, ints) }
-
 pub overflow_sub-result : goal.overflow_sub-result
 overflow_sub-result c = omega (arith, ints)
 
