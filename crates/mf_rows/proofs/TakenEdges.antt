@@ -91,9 +91,6 @@ taken s l r edge other left right others first second put none all_is some =
 
 -- ---- the first edge
 
-abbrev pub from_left : List Edge → Side
-from_left all = record { all = all; IsTaken = IsFirstOfBoth all; before = λ x y. x <ℤ y }
-
 rest_left : (e : Edge) (es : List Edge) → AreEdgesLeft least_coordinate (e ∷ es) → AreEdgesLeft least_coordinate es
 rest_left e es left =
     let edge = left.sorted.0.left in
@@ -115,7 +112,8 @@ module _ {all ls rs : List Edge} (now : AreLeftOfBoth ls rs × (edges_of_both ls
       rw (← now.1, none, right_is) (record { all = refl; others = record { left = left_of_none; right = rest_left f fs (rw right_is at now.0.right) } })
 
   pub first_taken : {e f : Edge} {es fs : List Edge} → ls ≡ e ∷ es → rs ≡ f ∷ fs
-      → AreTaken (from_left all) (record { row = ls; edge = e; others = es }) (record { row = rs; edge = f; others = fs })
+      → AreTaken (record { all = all; IsTaken = IsFirstOfBoth all; before = λ x y. x <ℤ y })
+      (record { row = ls; edge = e; others = es }) (record { row = rs; edge = f; others = fs })
   first_taken {e = e} {f = f} {es = es} {fs = fs} left_is right_is =
       let left = rw left_is at now.0.left in
       let right = rw right_is at now.0.right in
@@ -136,9 +134,6 @@ module _ {all ls rs : List Edge} (now : AreLeftOfBoth ls rs × (edges_of_both ls
       (λ g is. record { all = is; others = record { left = rest; right = others } }))
 
 -- ---- the last edge
-
-abbrev pub from_right : List Edge → Side
-from_right all = record { all = all; IsTaken = IsLastOfBoth all; before = λ x y. y <ℤ x }
 
 last_among : (e : Edge) (es : List Edge) → AreEdgesLeft least_coordinate (es ++ e ∷ []) → IsEdgeAmong least_coordinate es e []
 last_among e es left = edge_among least_coordinate es e [] left.sorted
@@ -171,7 +166,8 @@ module _ {all ls rs : List Edge} (now : AreLeftOfBoth ls rs × (edges_of_both ls
       (record { all = refl; others = record { left = left_of_none; right = (rest_before f fs (rw right_is at now.0.right)).0 } })
 
   pub last_taken : {e f : Edge} {es fs : List Edge} → ls ≡ es ++ e ∷ [] → rs ≡ fs ++ f ∷ []
-      → AreTaken (from_right all) (record { row = ls; edge = e; others = es }) (record { row = rs; edge = f; others = fs })
+      → AreTaken (record { all = all; IsTaken = IsLastOfBoth all; before = λ x y. y <ℤ x })
+      (record { row = ls; edge = e; others = es }) (record { row = rs; edge = f; others = fs })
   last_taken {e = e} {f = f} {es = es} {fs = fs} left_is right_is =
       let whole = rw left_is at now.0.left in
       let right_whole = rw right_is at now.0.right in
