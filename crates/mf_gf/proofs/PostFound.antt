@@ -67,7 +67,7 @@ locators_found words comment cs short fits =
     let after : drop (place + gf.post_size) file ≡ locators ++ last =
     ap (drop (place + gf.post_size)) (append_assoc (characters ++ behind) locators last)
     ∙ ap (λ n. drop n ((characters ++ behind) ++ (locators ++ last))) (sym seam) ∙ drop-append_seam (characters ++ behind) (locators ++ last) in
-    let there : post_place file ≡ Some place = place_found (body words comment cs) place (padding (length (body words comment cs) + 6)) short in
+    let there : post_place file ≡ Some place = place_found (body words comment cs) place (padding (length (body words comment cs) + gf.ending_size)) short in
     let opcode : slice_index file place ≡ gf.post = ap (λ bytes. slice_index bytes place) whole ∙ get_or-append_seam characters gf.post _ 0 in
     ap (after_post file) there
     ∙ cond-true (slice_index file place == gf.post) (locators_within (code_count + 1) (drop (place + gf.post_size) file)) None (eq-eqb _ _ opcode)

@@ -76,6 +76,19 @@ least_padding = 4
 abbrev pub most_padding : ℕ
 most_padding = 7
 
+-- the number of bytes after the opcode in boc, boc1, char_loc and char_loc0
+abbrev pub boc_size : ℕ
+boc_size = 24
+
+abbrev pub boc1_size : ℕ
+boc1_size = 5
+
+abbrev pub char_loc_size : ℕ
+char_loc_size = 17
+
+abbrev pub char_loc0_size : ℕ
+char_loc0_size = 10
+
 -- the number of bytes in the ending before the padding
 abbrev pub ending_size : ℕ
 ending_size = 6

@@ -24,10 +24,17 @@ pub record IsWord (z : ℤ) : Type 0 where
   pub least : negsuc greatest_word ≤ℤ z
   pub greatest : z ≤ℤ pos greatest_word
 
+-- the number of bytes in a field of four bytes
+abbrev pub word_size : ℕ
+word_size = 4
+
 -- the four bytes of a number, in two's complement
 abbrev pub word : ℤ → List ℕ
-word z = big_bytes 4 (cast_unsigned w32 z)
+word z = big_bytes word_size (cast_unsigned w32 z)
 
--- the signed number in the four bytes from place i
+-- the number in the four bytes from place i, without a sign and with it
+abbrev pub unsigned_at : ℕ → List ℕ → ℕ
+unsigned_at i bytes = big_number word_size (drop i bytes)
+
 abbrev pub word_at : ℕ → List ℕ → ℤ
-word_at i bytes = twos_complement 4 (big_number 4 (drop i bytes))
+word_at i bytes = twos_complement word_size (unsigned_at i bytes)

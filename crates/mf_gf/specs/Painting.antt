@@ -1,13 +1,13 @@
 -- The painting machine: which pixels the bytes of a character make black (gftype.web; The METAFONTbook, Appendix G). It has the
 -- commands that paint or move. A character with specials, or with commands that do nothing, is not read.
-use Rattle.std.specs.Prelude.{◌==◌, ◌&&◌, ◌+◌, ◌-◌, Bool, true, false, not, ℕ, zero, suc, nat_le, ℤ, pos, negsuc, ◌+ℤ◌, ◌-ℤ◌}
+use Rattle.std.specs.Prelude.{◌==◌, ◌&&◌, ◌+◌, ◌-◌, ◌*◌, Bool, true, false, not, ℕ, zero, suc, nat_le, ℤ, pos, negsuc, ◌+ℤ◌, ◌-ℤ◌}
 use Rattle.std.specs.Prelude.{List, [], ◌∷◌, ◌++◌, length, drop, slice_index, Option, None, Some, option_map, if◌then◌else◌}
 use Rattle.byteorder.specs.Endian.{big_number}
 use Rattle.mf_rows.specs.Dots.{Dot}
 use Rattle.mf_rows.specs.Runs.{equal_dots}
 use Rattle.mf_gf.specs.declared.boxes.CharacterBox.{CharacterBox}
 use Rattle.mf_gf.specs.Format as gf
-use Rattle.mf_gf.specs.Numbers.{word_at}
+use Rattle.mf_gf.specs.Numbers.{word_at, word_size}
 
 -- a painting command: paint k pixels, skip k rows and go to the one after them, or go to the next row at offset k
 pub data Stroke : Type 0 where
@@ -109,8 +109,13 @@ head_of_boc1 bytes = record {
 abbrev pub head_of_boc : List ℕ → Head
 head_of_boc bytes = record {
   code = word_at 0 bytes;
-  earlier = word_at 4 bytes;
-  box = record { min_m = word_at 8 bytes; max_m = word_at 12 bytes; min_n = word_at 16 bytes; max_n = word_at 20 bytes };
+  earlier = word_at word_size bytes;
+  box = record {
+    min_m = word_at (2 * word_size) bytes;
+    max_m = word_at (3 * word_size) bytes;
+    min_n = word_at (4 * word_size) bytes;
+    max_n = word_at (5 * word_size) bytes;
+  };
 }
 
 -- the head of a character
@@ -129,5 +134,5 @@ pixels_in b bytes = pixels_from b.min_m b.max_n bytes
 unfoldable pub pixels_of_character : List ℕ → Option (List Dot)
 pixels_of_character [] = None
 pixels_of_character (b ∷ bytes) =
-    if b == gf.boc1 then pixels_in (head_of_boc1 bytes).box (drop 5 bytes)
-    else (if b == gf.boc then pixels_in (head_of_boc bytes).box (drop 24 bytes) else None)
+    if b == gf.boc1 then pixels_in (head_of_boc1 bytes).box (drop gf.boc1_size bytes)
+    else (if b == gf.boc then pixels_in (head_of_boc bytes).box (drop gf.boc_size bytes) else None)

@@ -3,12 +3,11 @@
 -- METAFONTbook, Appendix G; gftype.web).
 use Rattle.std.specs.Prelude.{◌≡◌, ◌<◌, ◌≤◌, ◌+◌, ◌*◌, ◌==◌, ◌↔◌, ℕ, zero, suc, ℤ, pos, negsuc, All, AllPairs, Any, List, [], ◌∷◌}
 use Rattle.std.specs.Prelude.{length, take, drop, reverse, filter, slice_index, Option, None, Some, option_map, if◌then◌else◌}
-use Rattle.byteorder.specs.Endian.{big_number}
 use Rattle.mf_gf.specs.declared.locator.Locator.{Locator}
 use Rattle.mf_gf.specs.Boxes.{box_of_pixels}
 use Rattle.mf_gf.specs.Files.{Character, bytes_so_far}
 use Rattle.mf_gf.specs.Format as gf
-use Rattle.mf_gf.specs.Numbers.{IsWord, code_count, greatest_word, word_at}
+use Rattle.mf_gf.specs.Numbers.{IsWord, code_count, greatest_word, unsigned_at, word_at, word_size}
 use Rattle.mf_gf.specs.Painting.{head_of, pixels_of_character}
 use Rattle.mf_gf.specs.Pixels.{IsPixelSet}
 
@@ -19,7 +18,7 @@ use Rattle.mf_gf.specs.Pixels.{IsPixelSet}
 unfoldable pub post_place_back : List ℕ → Option ℕ
 post_place_back [] = None
 post_place_back (b ∷ bytes) =
-    if b == gf.padding_byte then post_place_back bytes else (if b == gf.id_byte then Some (big_number 4 (reverse (take 4 bytes))) else None)
+    if b == gf.padding_byte then post_place_back bytes else (if b == gf.id_byte then Some (unsigned_at 0 (reverse (take word_size bytes))) else None)
 
 abbrev pub post_place : List ℕ → Option ℕ
 post_place file = post_place_back (reverse file)
@@ -35,17 +34,22 @@ unfoldable pub read_item : List ℕ → Option Item
 read_item [] = None
 read_item (b ∷ bytes) =
     if b == gf.char_loc then Some (record {
-      locator = Some (record { code = slice_index bytes 0; dx = word_at 1 bytes; width = word_at 9 bytes; place = big_number 4 (drop 13 bytes) });
-      rest = drop 17 bytes;
+      locator = Some (record {
+        code = slice_index bytes 0;
+        dx = word_at 1 bytes;
+        width = word_at (1 + 2 * word_size) bytes;
+        place = unsigned_at (1 + 3 * word_size) bytes;
+      });
+      rest = drop gf.char_loc_size bytes;
     })
     else (if b == gf.char_loc0 then Some (record {
       locator = Some (record {
         code = slice_index bytes 0;
         dx = pos (gf.unity * slice_index bytes 1);
         width = word_at 2 bytes;
-        place = big_number 4 (drop 6 bytes);
+        place = unsigned_at (2 + word_size) bytes;
       });
-      rest = drop 10 bytes;
+      rest = drop gf.char_loc0_size bytes;
     })
     else (if b == gf.post_post then Some (record { locator = None; rest = bytes }) else None))
 
