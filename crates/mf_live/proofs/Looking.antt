@@ -44,7 +44,7 @@ kept_by-prefix b events true v last now = last
 kept_by-prefix b events false v last now = now
 
 -- a look extends what its viewer has seen, where the version knows the events of what the viewer has learnt
-pub extends-look : (v : Viewer) (x : Version) (w : View) → IsLook (seen_knowledge v.missed) (view v.reader.place) x x w
+pub extends-look : (v : Viewer) (x : Version) (w : View) → IsLook (seen_knowledge v.missed) (view v.reader.place) x w
     → IsPrefix (notice_events v.known) (events_of x) → Extends v (published_of w.now.seen.log)
 extends-look v x w is_looked known =
     let knows = is_looked.knows v.identified in

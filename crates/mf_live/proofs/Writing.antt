@@ -4,9 +4,8 @@ use Rattle.std.proofs.lemmas.Bool.Decides.{nat_tests}
 use Rattle.std.proofs.lemmas.List.{append-nil}
 use mathlib.Core.List.{IsPrefix}
 use prog.Atomic.{either}
-use Rattle.logbook.specs.Pages.{Cell, cell, View, keeps, no_nib, step, Goes, Moves}
+use Rattle.logbook.specs.Pages.{Cell, cell, View, keeps, no_nib, Goes, Moves}
 use Rattle.mf_live.specs.declared.event.Event.{Event}
-use Rattle.mf_live.specs.declared.event.Event.TheVariants.{Refuse}
 use Rattle.mf_live.specs.Books.{most, IsLawfulBook, Writes}
 use Rattle.mf_live.specs.World.{Happen, new_world, world_after}
 use Rattle.mf_live.proofs.ListPrefixes.{prefix-same}
@@ -30,7 +29,7 @@ module _ (seen more : List Event) (old count : ℕ) where
   view = (seen, (no_nib, None))
 
   abbrev pub told : ℕ → View Event ℕ → Type 0
-  told = Writes more (step 0 old (old + count) Refuse) view
+  told found = Writes more (found == old) view
 
   abbrev pub Steps : List Cell → List Event → Type 0
   Steps = Goes IsLawfulBook nothing_shown any_move 0 view exchanged told

@@ -1,6 +1,6 @@
 -- The rule of the book in which a picture's events are kept, and what a step that writes into it promises.
-use Rattle.std.specs.Prelude.{◌≡◌, ◌==◌, true, ℕ, List, [], ◌∷◌, ◌++◌, length, MatchBool}
-use Rattle.logbook.specs.Pages.{Cell, Step, View, Book, Named}
+use Rattle.std.specs.Prelude.{◌≡◌, Bool, true, ℕ, List, [], ◌∷◌, ◌++◌, length, MatchBool}
+use Rattle.logbook.specs.Pages.{Cell, View, Book, Named}
 use Rattle.mf_live.specs.declared.event.Event.{Event}
 use Rattle.mf_live.specs.World.{Happen, new_world}
 
@@ -18,7 +18,7 @@ pub record IsLawfulBook (cells : List Cell) (events : List Event) : Type 0 where
 abbrev pub counter_of : Book → Named
 counter_of b = record { tracked = true; key = 0; book = b }
 
--- where the step found the number that it expected, it has added these events to all that had been seen; else others were there
--- already
-abbrev pub Writes : List Event → Step Event → View Event ℕ → ℕ → View Event ℕ → Type 0
-Writes more s v found w = MatchBool (found == s.old) ((w.0 ≡ v.0 ++ more) × Happen most new_world w.0) (Unit {0})
+-- where the step found the number that it expected, as the test says, it has added these events to all that had been seen; else
+-- others were there already
+abbrev pub Writes : List Event → Bool → View Event ℕ → View Event ℕ → Type 0
+Writes more expected v w = MatchBool expected ((w.0 ≡ v.0 ++ more) × Happen most new_world w.0) (Unit {0})

@@ -67,7 +67,7 @@ now_of v = v.now
 
 -- the shown version y knows everything that the seat knew of the history; the seat then knows what y knows, and keeps what `keep`
 -- says
-pub record IsLook (keep : View → Knowledge) (v : View) (x y : Version) (w : View) : Type 0 where
+pub record IsLook (keep : View → Knowledge) (v : View) (y : Version) (w : View) : Type 0 where
   pub knows : Knows y v
   pub now : w ≡ record { identified = v.identified; last = keep v; now = knowledge_of y; unwritten = v.unwritten }
 

@@ -54,9 +54,10 @@ pub struct Write<N> {
 }
 
 impl<N: Happening> Play<Event, u64> for Write<N> {
+    ghost use Rattle.std.specs.Prelude.{◌==◌};
     ghost use Rattle.mf_live.specs.Books.{Writes};
 
-    ghost then = { Writes N.more };
+    ghost then = { λ s v found w. Writes N.more (found == s.old) v w };
 }
 
 /// What a step asks for: no event of its own.

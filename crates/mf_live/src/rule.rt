@@ -23,7 +23,7 @@ pub struct Looks;
 impl Outcome<Version, View> for Looks {
     ghost use Rattle.mf_live.specs.Rule.{IsLook, now_of};
 
-    ghost then = { IsLook now_of };
+    ghost then = { λ v x y w. IsLook now_of v y w };
 }
 
 /// A look where the copy that was entered last was not shown, because it was older than a notice.
@@ -32,7 +32,7 @@ pub struct LooksAgain;
 impl Outcome<Version, View> for LooksAgain {
     ghost use Rattle.mf_live.specs.Rule.{IsLook, last_of};
 
-    ghost then = { IsLook last_of };
+    ghost then = { λ v x y w. IsLook last_of v y w };
 }
 
 /// The writer shows a version. Opening a picture takes this step too: it is how the writer learns which picture it has.

@@ -20,7 +20,7 @@ fn enter(
     reader: Reader<Version, View, Lists>,
     missed: bool,
 ) -> Result<Reading<Version, View, Lists>, Reader<Version, View, Lists>>
-    ensures { MatchResult result (λ r. IsLook (seen_knowledge missed) (view reader.place) r.part.value r.part.value (view r.place))
+    ensures { MatchResult result (λ r. IsLook (seen_knowledge missed) (view reader.place) r.part.value (view r.place))
         (λ r. view r.place ≡ view reader.place) }
 {
     if missed {
