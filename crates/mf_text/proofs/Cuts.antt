@@ -4,6 +4,7 @@ use Rattle.std.specs.List.{All}
 use Rattle.std.proofs.Math.Seq.{drop-append_seam}
 use Rattle.std.proofs.lemmas.Bool.{cond_both, eqb-true, false≢true}
 use Rattle.std.proofs.lemmas.List.Elements.{All-cons, All-head, All-nil, All-tail}
+use Rattle.mf_text.specs.Limits.{percent_sign}
 use Rattle.mf_text.specs.Token as token
 use Rattle.mf_text.specs.Tokens.{Taken, first_token, token_at, tokens_from, tokens_within, is_blank, Placed, Token}
 use Rattle.mf_text.specs.TokenTexts.{AreTokens, IsEnd, IsTokenText, OtherByte}
@@ -61,7 +62,7 @@ one-token column bs ps t text rest parts is later =
     )) later
 
 -- a byte that is no blank and begins no comment begins a token
-first-token : (column b : ℕ) (bs : List ℕ) (ps : List Placed) → is_blank b ≡ false → eqb b 37 ≡ false → Front (b ∷ bs)
+first-token : (column b : ℕ) (bs : List ℕ) (ps : List Placed) → is_blank b ≡ false → eqb b percent_sign ≡ false → Front (b ∷ bs)
     → AreTokens (column + (first_token (b ∷ bs)).bytes) (drop (first_token (b ∷ bs)).bytes (b ∷ bs)) ps
     → AreTokens column (b ∷ bs) (token_at column (first_token (b ∷ bs)) ∷ ps)
 first-token column b bs ps blank comment (Text t text rest parts is) = one-token column (b ∷ bs) ps t text rest parts is
@@ -72,7 +73,7 @@ first-token column b bs ps blank comment (Other no_letter no_digit none) =
       no_letter = no_letter;
       no_digit = no_digit;
       no_blank = blank;
-      no_comment = λ same. false≢true (sym comment ∙ ap (λ n. eqb n 37) same);
+      no_comment = λ same. false≢true (sym comment ∙ ap (λ n. eqb n percent_sign) same);
       no_mark = none;
     }) refl)
 
@@ -83,7 +84,7 @@ cut-within zero column (b ∷ bs) short = absurd (omega arith)
 cut-within (suc n) column [] short = no_more column [] tt
 cut-within (suc n) column (b ∷ bs) short =
     cond_both (is_blank b) _ _ (AreTokens column (b ∷ bs)) (λ blank. more-blank column b bs _ blank (cut-within n (column + 1) bs (omega arith)))
-    (λ clear. cond_both (eqb b 37) _ _ (AreTokens column (b ∷ bs)) (λ comment. no_more column (b ∷ bs) (eqb-true b 37 comment))
+    (λ clear. cond_both (eqb b percent_sign) _ _ (AreTokens column (b ∷ bs)) (λ comment. no_more column (b ∷ bs) (eqb-true b percent_sign comment))
     (λ token. first-token column b bs _ clear token (front (b ∷ bs)) (cut-within n _ _ (omega (arith, rest_shorter b bs)))))
 
 -- the tokens of a line are its bytes, cut in this way

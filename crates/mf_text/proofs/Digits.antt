@@ -13,6 +13,7 @@ use Rattle.std.proofs.lemmas.List.Folds.{length-prefix_len}
 use Rattle.std.proofs.lemmas.List.Sums.{prefix_len-le-length, prefix_len_passes, prefix_len_stops}
 use Rattle.std.proofs.lemmas.Str.{digit_value_digit}
 use Rattle.std.proofs.lemmas.Str.Parse.{numerals_by_value, tells_digits, digits_value_short, digit_from_value}
+use Rattle.mf_text.specs.Limits.{most_digits}
 use Rattle.mf_text.specs.Token.{value_in}
 use Rattle.mf_text.specs.Token as token
 use Rattle.mf_text.specs.Tokens.{Finds, Taken, first_token, number_token}
@@ -23,7 +24,7 @@ use Rattle.mf_text.proofs.TokenTexts.{digits_first}
 
 -- the first i bytes are digits, at most nine of them, with this value
 pub record IsNumberTo (text : List ℕ) (i value : ℕ) : Type 0 where
-  pub few : i ≤ 9
+  pub few : i ≤ most_digits
   pub in_prefix : i ≤ prefix_len is_ascii_digit text
   pub digits : AllDigits 10 (take i text)
   pub value_is : value ≡ digits_value 10 (take i text)
@@ -51,22 +52,22 @@ digits_end text i in_prefix other =
 -- one more digit, which is not the tenth
 pub record HasNextDigit (text : List ℕ) (i value : ℕ) : Type 0 where
   pub digit : 48 ≤ get_or text i 0
-  pub fits : 10 * value + (get_or text i 0 - 48) < 10 ^ 9
+  pub fits : 10 * value + (get_or text i 0 - 48) < 10 ^ most_digits
   pub more : IsNumberTo text (i + 1) (10 * value + (get_or text i 0 - 48))
 
-pub number-more : (text : List ℕ) (i value : ℕ) → IsNumberTo text i value → i < length text → is_ascii_digit (get_or text i 0) ≡ true → i ≢ 9
+pub number-more : (text : List ℕ) (i value : ℕ) → IsNumberTo text i value → i < length text → is_ascii_digit (get_or text i 0) ≡ true → i ≢ most_digits
     → HasNextDigit text i value
 number-more text i value to inside digit not_last =
     let below : digit_value (get_or text i 0) < 10 = grind (arith, nat_tests) in
     let ranged = digit_from_value (get_or text i 0) below in
     let worth = digit_value_digit (get_or text i 0) ranged in
     let longer = digits_more 10 text i inside to.digits below in
-    let few : length (take (i + 1) text) ≤ 9 = omega (arith, to.few, not_last, length-take-le (i + 1) text (omega arith)) in
+    let few : length (take (i + 1) text) ≤ most_digits = omega (arith, to.few, not_last, length-take-le (i + 1) text (omega arith)) in
     let value_is : 10 * value + (get_or text i 0 - 48) ≡ digits_value 10 (take (i + 1) text) =
     omega (arith, worth, digits_value_more 10 text i inside, to.value_is, ranged.0) in
     record {
       digit = ranged.0;
-      fits = omega (arith, value_is, digits_value_short (numerals_by_value (AllDigits 10) tells_digits) (take (i + 1) text) 9 longer few);
+      fits = omega (arith, value_is, digits_value_short (numerals_by_value (AllDigits 10) tells_digits) (take (i + 1) text) most_digits longer few);
       more = record {
         few = omega (arith, to.few, not_last);
         in_prefix = omega (arith, digit_goes_on text i to.in_prefix inside digit);
@@ -81,7 +82,7 @@ unfolding number_token
 number-ends text i value to ends =
     rw (
       sym ends,
-      le-leb (length (take i text)) 9 (omega (
+      le-leb (length (take i text)) most_digits (omega (
         arith,
         to.few,
         length-take-le i text (omega (arith, to.in_prefix, prefix_len-le-length is_ascii_digit text)),
@@ -107,7 +108,7 @@ number-found text i value to ends =
           )
 
 -- with a tenth digit there is no number
-pub number-long : (text : List ℕ) (i value : ℕ) → IsNumberTo text i value → i ≡ 9 → i < length text
+pub number-long : (text : List ℕ) (i value : ℕ) → IsNumberTo text i value → i ≡ most_digits → i < length text
     → is_ascii_digit (get_or text i 0) ≡ true → value_in (first_token text).token ≡ None
 number-long text i value to last inside digit =
     number_lacking text (λ some few. omega (arith, few, last, digit_goes_on text i to.in_prefix inside digit))

@@ -3,6 +3,7 @@ use Rattle.std.proofs.Common.{◌≡◌, inl, inr, ℕ, ◌+◌, ◌<◌, ◌≤
 use Rattle.std.specs.Option.{option_map}
 use Rattle.std.proofs.lemmas.Bool.{cases_Bool, eqb-true}
 use Rattle.mf_text.specs.declared.tokens.Tokens.{Tokens}
+use Rattle.mf_text.specs.Limits.{percent_sign}
 use Rattle.mf_text.specs.Reads.{TakesToken, TakesValue, ahead, next_value, remaining_tokens}
 use Rattle.mf_text.specs.Token.{Ahead, Token, Unknown, this_in}
 use Rattle.mf_text.specs.Tokens.{IsClear, first_token, mark_among, token_at, tokens_from}
@@ -19,8 +20,8 @@ first : (column : ℕ) (text : List ℕ) → IsClear text → IsAtFront column t
 unfolding first_token mark_among
 first column [] clear = Ended (tokens_at_end column [] (omega arith)) refl
 first column (b ∷ bs) clear =
-    elim (cases_Bool (eqb b 37)) [
-      | inl comment ↦ Ended (tokens_at_comment column (b ∷ bs) (omega arith) (eqb-true b 37 comment)) (rw (eqb-true b 37 comment) refl)
+    elim (cases_Bool (eqb b percent_sign)) [
+      | inl comment ↦ Ended (tokens_at_comment column (b ∷ bs) (omega arith) (eqb-true b percent_sign comment)) (rw (eqb-true b percent_sign comment) refl)
       | inr token ↦ Starts (tokens-step column b bs clear token)
     ]
 

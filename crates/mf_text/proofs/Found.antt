@@ -8,6 +8,7 @@ use Rattle.std.proofs.lemmas.Bool.{false_from_ne_true, false≢true, le-leb}
 use Rattle.std.proofs.lemmas.Bool.Decides.{nat_tests}
 use Rattle.std.proofs.lemmas.List.{take_rest}
 use Rattle.std.proofs.lemmas.List.Elements.{All-cons, All-nil}
+use Rattle.mf_text.specs.Limits.{letter_a, letter_z, most_digits}
 use Rattle.mf_text.specs.Token as token
 use Rattle.mf_text.specs.Token.{letter_in, value_in}
 use Rattle.mf_text.specs.Tokens.{Finds, FindsToken, Taken, first_token, first_is, is_longer, mark_text, word_text, word_token, this_in, Mark, Token, Word}
@@ -67,7 +68,7 @@ letter_lacking bs never = by_token (first_token bs).token (said bs) where
   by_token (token.Letter n) is = absurd (never n is)
   by_token t is = refl
 
-pub small_lacking : (bs : List ℕ) → (1 ≤ length bs → 97 ≤ get_or bs 0 0 → get_or bs 0 0 ≤ 122 → ⊥) → letter_in (first_token bs).token ≡ None
+pub small_lacking : (bs : List ℕ) → (1 ≤ length bs → letter_a ≤ get_or bs 0 0 → get_or bs 0 0 ≤ letter_z → ⊥) → letter_in (first_token bs).token ≡ None
 small_lacking bs never = letter_lacking bs (λ n is. never is.some is.least is.greatest)
 
 pub letters_longer : (bs : List ℕ) → 1 ≤ length bs → first_is is_ascii_alphabetic (take (length bs - 1) (drop 1 bs)) ≡ true
@@ -75,24 +76,25 @@ pub letters_longer : (bs : List ℕ) → 1 ≤ length bs → first_is is_ascii_a
 letters_longer bs some longer =
     letter_lacking bs (λ n is. false≢true (sym is.longest ∙ ap (first_is is_ascii_alphabetic) (sym (take_rest bs 1)) ∙ longer))
 
-pub letter_found : (bs : List ℕ) → 1 ≤ length bs → 97 ≤ get_or bs 0 0 → get_or bs 0 0 ≤ 122
+pub letter_found : (bs : List ℕ) → 1 ≤ length bs → letter_a ≤ get_or bs 0 0 → get_or bs 0 0 ≤ letter_z
     → first_is is_ascii_alphabetic (take (length bs - 1) (drop 1 bs)) ≡ false
-    → Finds letter_in bs (Some (get_or bs 0 0 - 97, 1))
+    → Finds letter_in bs (Some (get_or bs 0 0 - letter_a, 1))
 unfolding word_token
 letter_found [] some least greatest ends = absurd (omega arith)
 letter_found (b ∷ bs) some least greatest ends =
     let letter : is_ascii_alphabetic b ≡ true = grind (arith, nat_tests) in
-    let first = text_first (token.Letter (b - 97)) (b ∷ []) bs (Letters (record {
+    let first = text_first (token.Letter (b - letter_a)) (b ∷ []) bs (Letters (record {
       some = omega arith;
       all = All-cons (λ c. is_ascii_alphabetic c ≡ true) b [] letter (All-nil (λ c. is_ascii_alphabetic c ≡ true));
       longest = ap (first_is is_ascii_alphabetic) (sym (take_rest (b ∷ bs) 1)) ∙ ends;
-    }) (rw (le-leb 97 b least, le-leb b 122 greatest) refl)) in
+    }) (rw (le-leb letter_a b least, le-leb b letter_z greatest) refl)) in
     (ap (λ (f : Taken). letter_in f.token) first, sym (ap (λ (f : Taken). f.bytes) first), some)
 
 -- ---- a number
 
 -- a number is found where at least one digit and at most nine are at the front
-pub number_lacking : (bs : List ℕ) → (0 < prefix_len is_ascii_digit bs → prefix_len is_ascii_digit bs ≤ 9 → ⊥) → value_in (first_token bs).token ≡ None
+pub number_lacking : (bs : List ℕ) → (0 < prefix_len is_ascii_digit bs → prefix_len is_ascii_digit bs ≤ most_digits → ⊥)
+    → value_in (first_token bs).token ≡ None
 number_lacking bs never = by_token (first_token bs).token (said bs) where
   by_token : (t : Token) → IsSaid t bs → value_in t ≡ None
   by_token (token.Number n) is = absurd (never is.0 is.1)

@@ -3,6 +3,7 @@ use Rattle.std.proofs.Common.{◌≡◌, ◌≢◌, ℕ, zero, suc, ◌+◌, ◌
 use Rattle.std.proofs.Common.{get_or, take, drop, refl, sym, ap, subst, ◌∙◌, arith, length-append, length-drop}
 use Rattle.std.proofs.lemmas.Bool.{ne_eqb}
 use Rattle.std.proofs.lemmas.List.{take_rest}
+use Rattle.mf_text.specs.Limits.{percent_sign}
 use Rattle.mf_text.specs.Tokens.{IsClear, is_blank, Taken, token_at, first_token, tokens_within, tokens_from}
 use Rattle.mf_text.proofs.TokenTexts.{Front, Other, Text, begins, front, text_first, unknown_first}
 
@@ -51,7 +52,7 @@ pub tokens-blank : (column b : ℕ) (bs : List ℕ) → is_blank b ≡ true → 
 unfolding tokens_from tokens_within
 tokens-blank column b bs blank = rw blank refl
 
-pub tokens-step : (column b : ℕ) (bs : List ℕ) → is_blank b ≡ false → eqb b 37 ≡ false
+pub tokens-step : (column b : ℕ) (bs : List ℕ) → is_blank b ≡ false → eqb b percent_sign ≡ false
     → tokens_from column (b ∷ bs) ≡ token_at column (first_token (b ∷ bs))
     ∷ tokens_from (column + (first_token (b ∷ bs)).bytes) (drop (first_token (b ∷ bs)).bytes (b ∷ bs))
 unfolding tokens_from tokens_within
@@ -67,7 +68,7 @@ unfolding tokens_from tokens_within
 tokens_at_end column [] short = refl
 tokens_at_end column (b ∷ bs) short = absurd (omega arith)
 
-pub tokens_at_comment : (column : ℕ) (text : List ℕ) → 1 ≤ length text → get_or text 0 0 ≡ 37 → tokens_from column text ≡ []
+pub tokens_at_comment : (column : ℕ) (text : List ℕ) → 1 ≤ length text → get_or text 0 0 ≡ percent_sign → tokens_from column text ≡ []
 unfolding tokens_from tokens_within
 tokens_at_comment column [] long comment = absurd (omega arith)
 tokens_at_comment column (b ∷ bs) long comment = rw comment refl
@@ -77,7 +78,7 @@ pub tokens_at_blank : (column : ℕ) (text : List ℕ) → 1 ≤ length text →
 tokens_at_blank column [] long blank = absurd (omega arith)
 tokens_at_blank column (b ∷ bs) long blank = rw (take_rest (b ∷ bs) 1) (sym (tokens-blank column b bs blank))
 
-pub tokens_at_token : (column : ℕ) (text : List ℕ) → IsClear text → 1 ≤ length text → get_or text 0 0 ≢ 37
+pub tokens_at_token : (column : ℕ) (text : List ℕ) → IsClear text → 1 ≤ length text → get_or text 0 0 ≢ percent_sign
     → tokens_from column text ≡ token_at column (first_token text) ∷ tokens_from (column + (first_token text).bytes) (drop (first_token text).bytes text)
 tokens_at_token column [] clear long token = absurd (omega arith)
-tokens_at_token column (b ∷ bs) clear long token = tokens-step column b bs clear (ne_eqb b 37 token)
+tokens_at_token column (b ∷ bs) clear long token = tokens-step column b bs clear (ne_eqb b percent_sign token)

@@ -5,6 +5,7 @@ use Rattle.std.proofs.lemmas.Bool.{false≢true}
 use Rattle.std.proofs.lemmas.Option.{none-some, same_Some}
 use Rattle.mf_text.specs.Grammar.{Code, Int}
 use Rattle.mf_text.specs.Rests.{code_of}
+use Rattle.mf_text.specs.Limits.{number_bound}
 use Rattle.mf_text.specs.Ints.{int_of, is_code, where_true}
 
 pub where_some : {A : Type 0} (b : Bool) (make : b ≡ true → A) (is : b ≡ true) → where_true b make ≡ Some (make is)
@@ -19,7 +20,7 @@ where_made : {A : Type 0} (b : Bool) (make : b ≡ true → A) (a : A) → where
 where_made true make a is = (refl, sym (same_Some (make refl) a is))
 where_made false make a is = absurd (none-some a is)
 
-pub short_int : (negative : Bool) (m : ℕ) (short : nat_lt m 1000000000 ≡ true)
+pub short_int : (negative : Bool) (m : ℕ) (short : nat_lt m number_bound ≡ true)
     → int_of negative m ≡ Some (record { negative = negative; magnitude = m; short = short })
 unfolding int_of
 short_int negative m short = where_some _ _ short

@@ -15,6 +15,7 @@ use Rattle.std.proofs.lemmas.Option.{none-some, same_Some}
 use Rattle.std.proofs.lemmas.Slice.Eq.{bytes_eq-Decides, starts_is}
 use Rattle.mf_text.specs.declared.token.Mark.TheVariants as mark
 use Rattle.mf_text.specs.declared.token.Word.TheVariants as word
+use Rattle.mf_text.specs.Limits.{letter_a, letter_z, most_digits, percent_sign, space, tab}
 use Rattle.mf_text.specs.Token as token
 use Rattle.mf_text.specs.Tokens.{Taken, first_token, first_is, is_blank, is_letter, is_longer, mark_among, mark_text, marks}
 use Rattle.mf_text.specs.Tokens.{number_token, word_among, word_text, word_token, words, is_token, Mark, Token, Word}
@@ -167,18 +168,18 @@ front bs =
 -- the text has a byte, and its first one is no blank and begins no comment
 pub record BeginsToken (text : List ℕ) : Type 0 where
   pub clear : first_is is_blank text ≡ false
-  pub no_comment : first_is (λ b. eqb b 37) text ≡ false
+  pub no_comment : first_is (λ b. eqb b percent_sign) text ≡ false
   pub some : 0 < length text
 
 other_byte : (p : ℕ → Bool) (b c : ℕ) → p b ≡ true → p c ≡ false → eqb b c ≡ false
 other_byte p b c is none = false_from_ne_true _ (λ same. false≢true (sym none ∙ ap p (sym (eqb-true b c same)) ∙ is))
 
-row_begins : (p : ℕ → Bool) (text rest : List ℕ) → p 32 ≡ false → p 9 ≡ false → p 37 ≡ false → IsRow p text rest → BeginsToken text
-row_begins p [] rest space tab percent row = absurd (omega (arith, row.some))
-row_begins p (b ∷ bs) rest space tab percent row =
+row_begins : (p : ℕ → Bool) (text rest : List ℕ) → p space ≡ false → p tab ≡ false → p percent_sign ≡ false → IsRow p text rest → BeginsToken text
+row_begins p [] rest no_space no_tab no_percent row = absurd (omega (arith, row.some))
+row_begins p (b ∷ bs) rest no_space no_tab no_percent row =
     let is = All-head (λ c. p c ≡ true) b bs row.all in record {
-      clear = rw (other_byte p b 32 is space, other_byte p b 9 is tab) refl;
-      no_comment = other_byte p b 37 is percent;
+      clear = rw (other_byte p b space is no_space, other_byte p b tab is no_tab) refl;
+      no_comment = other_byte p b percent_sign is no_percent;
       some = row.some;
     }
 
@@ -191,7 +192,7 @@ begins t text rest (Letters row is) = row_begins is_ascii_alphabetic text rest r
 begins t text rest (Digits row is) = row_begins is_ascii_digit text rest refl refl refl row
 begins t text rest (AMark m written longest is) = subst BeginsToken (sym written) (mark_begins m)
 begins t text rest (OtherByte other is) =
-    subst BeginsToken (sym other.one) (record { clear = other.no_blank; no_comment = ne_eqb other.byte 37 other.no_comment; some = omega arith })
+    subst BeginsToken (sym other.one) (record { clear = other.no_blank; no_comment = ne_eqb other.byte percent_sign other.no_comment; some = omega arith })
 
 -- ---- what a token says of the bytes that it is at the front of
 
@@ -230,16 +231,16 @@ are_written (entry ∷ entries) w ls all is =
 -- a single letter `a`..`z` is at the front, with this number
 pub record IsSmall (n : ℕ) (bs : List ℕ) : Type 0 where
   pub some : 1 ≤ length bs
-  pub least : 97 ≤ get_or bs 0 0
-  pub greatest : get_or bs 0 0 ≤ 122
-  pub number : n ≡ get_or bs 0 0 - 97
+  pub least : letter_a ≤ get_or bs 0 0
+  pub greatest : get_or bs 0 0 ≤ letter_z
+  pub number : n ≡ get_or bs 0 0 - letter_a
   pub longest : first_is is_ascii_alphabetic (drop 1 bs) ≡ false
 
 -- what is at the front where this token is
 abbrev pub IsSaid : Token → List ℕ → Type 0
 IsSaid (token.Word w) bs = (rest : List ℕ) × ((bs ≡ word_text w ++ rest) × (first_is is_ascii_alphabetic rest ≡ false))
 IsSaid (token.Letter n) bs = IsSmall n bs
-IsSaid (token.Number n) bs = (0 < prefix_len is_ascii_digit bs) × (prefix_len is_ascii_digit bs ≤ 9)
+IsSaid (token.Number n) bs = (0 < prefix_len is_ascii_digit bs) × (prefix_len is_ascii_digit bs ≤ most_digits)
 IsSaid (token.Mark m) bs = (starts_with eqb bs (mark_text m) ≡ true) × (is_longer m bs ≡ false)
 IsSaid token.Unknown bs = Unit {0}
 
@@ -247,10 +248,10 @@ letters_say : (text rest : List ℕ) → first_is is_ascii_alphabetic rest ≡ f
 unfolding word_token
 letters_say text rest ends =
     cond_both (is_letter text) _ _ (λ t. IsSaid t (text ++ rest)) (single text) (λ _. known (word_among words text) refl) where
-      single : (ls : List ℕ) → is_letter ls ≡ true → IsSmall (get_or ls 0 0 - 97) (ls ++ rest)
+      single : (ls : List ℕ) → is_letter ls ≡ true → IsSmall (get_or ls 0 0 - letter_a) (ls ++ rest)
       single (b ∷ []) is =
-          let bounds = and_parts (leb 97 b) (leb b 122) is in
-          record { some = omega arith; least = leb-true 97 b bounds.0; greatest = leb-true b 122 bounds.1; number = refl; longest = ends }
+          let bounds = and_parts (leb letter_a b) (leb b letter_z) is in
+          record { some = omega arith; least = leb-true letter_a b bounds.0; greatest = leb-true b letter_z bounds.1; number = refl; longest = ends }
       single ls is = absurd (false≢true is)
 
       known : (o : Option Word) → word_among words text ≡ o → IsSaid (option_map_or token.Word o token.Unknown) (text ++ rest)
@@ -261,8 +262,8 @@ digits_say : (text rest : List ℕ) → IsRow is_ascii_digit text rest → IsSai
 unfolding number_token
 digits_say text rest row =
     let count = row_count is_ascii_digit text rest row in
-    cond_both (leb (length text) 9) _ _ (λ t. IsSaid t (text ++ rest))
-    (λ few. (omega (arith, count, row.some), omega (arith, count, leb-true (length text) 9 few))) (λ _. tt)
+    cond_both (leb (length text) most_digits) _ _ (λ t. IsSaid t (text ++ rest))
+    (λ few. (omega (arith, count, row.some), omega (arith, count, leb-true (length text) most_digits few))) (λ _. tt)
 
 pub text_says : (t : Token) (text rest : List ℕ) → IsTokenText t text rest → IsSaid t (text ++ rest)
 text_says t text rest (Letters row is) = subst (λ u. IsSaid u (text ++ rest)) (sym is) (letters_say text rest row.longest)

@@ -3,6 +3,7 @@ use Rattle.std.specs.Prelude.{◌≡◌, ◌&&◌, int_le, nat_lt, true, false, 
 use Rattle.mf_geom.specs.declared.point.Point.{Point}
 use Rattle.mf_text.specs.declared.int.Int.{Int}
 use Rattle.mf_text.specs.declared.pair.Pair.{Pair}
+use Rattle.mf_text.specs.Limits.{greatest_code, number_bound}
 
 -- the value of an int
 abbrev pub int_value : Int → ℤ
@@ -14,7 +15,7 @@ pair_value p = record { x = int_value p.across; y = int_value p.up }
 
 -- the int is in 0..255
 abbrev pub is_code : Int → Bool
-is_code n = int_le (pos 0) (int_value n) && int_le (int_value n) (pos 255)
+is_code n = int_le (pos 0) (int_value n) && int_le (int_value n) (pos greatest_code)
 
 -- what can be made where this is true
 abbrev pub where_true : {A : Type 0} → (b : Bool) → (b ≡ true → A) → Option A
@@ -23,4 +24,4 @@ where_true false make = None
 
 -- the int of a number, with `-` before it or not, if the number has at most nine digits
 unfoldable pub int_of : Bool → ℕ → Option Int
-int_of negative n = where_true (nat_lt n 1000000000) (λ short. record { negative = negative; magnitude = n; short = short })
+int_of negative n = where_true (nat_lt n number_bound) (λ short. record { negative = negative; magnitude = n; short = short })

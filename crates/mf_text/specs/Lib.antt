@@ -1,5 +1,6 @@
 pub mod Grammar
 pub mod Ints
+pub mod Limits
 pub mod Lines
 pub mod Meaning
 pub mod Names

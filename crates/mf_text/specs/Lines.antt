@@ -3,18 +3,16 @@ use Rattle.std.specs.Prelude.{◌≡◌, ◌==◌, ◌||◌, ◌&&◌, ◌<◌, 
 use Rattle.std.specs.List.{list_all}
 use Rattle.mf_text.specs.declared.fault.TextFault.TheVariants.{LineTooLong, NotAscii, Syntax, OutOfMemory}
 use Rattle.mf_text.specs.Grammar.{Form, Line, spell_line}
+pub use Rattle.mf_text.specs.Limits.{longest_line}
+use Rattle.mf_text.specs.Limits.{last_printed, space, tab}
 use Rattle.mf_text.specs.Meaning.{Means, Refuses, TakesMemory, meaning, Command, TextFault}
 use Rattle.mf_text.specs.Syntax.{IsSyntaxFault}
 use Rattle.mf_text.specs.Token.{Ahead}
 use Rattle.mf_text.specs.Tokens.{tokens, kinds}
 
--- the greatest number of bytes of a line
-abbrev pub longest_line : ℕ
-longest_line = 65536
-
 -- the byte is text: a tab or printed ASCII
 abbrev pub is_text_byte : ℕ → Bool
-is_text_byte b = b == 9 || (nat_le 32 b && nat_le b 126)
+is_text_byte b = b == tab || (nat_le space b && nat_le b last_printed)
 
 -- the line is not too long, and each of its bytes is text
 pub record IsText (line : List ℕ) : Type 0 where

@@ -2,6 +2,7 @@
 use Rattle.std.specs.Prelude.{◌≡◌, ◌≢◌, ◌<◌, ◌+◌, ℕ, Bool, true, false, List, [], ◌∷◌, ◌++◌, length, nat_eq}
 use Rattle.std.specs.Char.{is_ascii_alphabetic, is_ascii_digit}
 use Rattle.std.specs.List.{All, starts_with}
+use Rattle.mf_text.specs.Limits.{percent_sign}
 use Rattle.mf_text.specs.Token as token
 use Rattle.mf_text.specs.Tokens.{first_is, is_longer, mark_text, number_token, word_token, Mark, is_blank, Placed, Token}
 
@@ -18,7 +19,7 @@ pub record IsOtherByte (text rest : List ℕ) : Type 0 where
   pub no_letter : is_ascii_alphabetic byte ≡ false
   pub no_digit : is_ascii_digit byte ≡ false
   pub no_blank : is_blank byte ≡ false
-  pub no_comment : byte ≢ 37
+  pub no_comment : byte ≢ percent_sign
   pub no_mark : (m : Mark) → starts_with nat_eq (byte ∷ rest) (mark_text m) ≡ false
 
 -- the token has this text, after which the rest comes
@@ -43,7 +44,7 @@ pub record HasFirstToken (column : ℕ) (bytes : List ℕ) (p : Placed) : Type 0
 -- nothing is left, or a comment begins here
 abbrev pub IsEnd : List ℕ → Type 0
 IsEnd [] = Unit {0}
-IsEnd (b ∷ bs) = b ≡ 37
+IsEnd (b ∷ bs) = b ≡ percent_sign
 
 -- the bytes after the last token are blanks, and perhaps a comment
 pub record EndsLine (bytes : List ℕ) : Type 0 where

@@ -13,12 +13,13 @@ use Rattle.mf_text.specs.declared.token.TheConstants.{MARKS, WORDS}
 pub use Rattle.mf_text.specs.declared.token.Word.{Word}
 use Rattle.mf_text.specs.contracts.token.MarkPartialEq.TheImpl as same_mark
 use Rattle.mf_text.specs.contracts.token.WordPartialEq.TheImpl as same_word
+use Rattle.mf_text.specs.Limits.{letter_a, letter_z, most_digits, percent_sign, space, tab}
 pub use Rattle.mf_text.specs.Token.{Token, Placed, is_token, this_in}
 use Rattle.mf_text.specs.Token as token
 
 -- the byte is a blank: a space or a tab
 abbrev pub is_blank : ℕ → Bool
-is_blank b = b == 32 || b == 9
+is_blank b = b == space || b == tab
 
 -- no blank is at the front
 abbrev pub IsClear : List ℕ → Type 0
@@ -62,16 +63,17 @@ pub record Taken : Type 0 where
 
 -- the letters are a single one, `a`..`z`
 abbrev pub is_letter : List ℕ → Bool
-is_letter (b ∷ []) = nat_le 97 b && nat_le b 122
+is_letter (b ∷ []) = nat_le letter_a b && nat_le b letter_z
 is_letter bs = false
 
 -- the token whose text is this longest row of letters: a letter by its number, 0 for `a`, or a word
 unfoldable pub word_token : List ℕ → Token
-word_token letters = if is_letter letters then token.Letter (get_or letters 0 0 - 97) else option_map_or token.Word (word_among words letters) token.Unknown
+word_token letters =
+    if is_letter letters then token.Letter (get_or letters 0 0 - letter_a) else option_map_or token.Word (word_among words letters) token.Unknown
 
 -- the token whose text is this longest row of digits: a number has at most nine of them
 unfoldable pub number_token : List ℕ → Token
-number_token digits = if nat_le (length digits) 9 then token.Number (digits_value 10 digits) else token.Unknown
+number_token digits = if nat_le (length digits) most_digits then token.Number (digits_value 10 digits) else token.Unknown
 
 -- the first of these marks that the bytes start with; where there is none, the first byte is a token of its own
 unfoldable pub mark_among : List (List ℕ × Mark) → List ℕ → Taken
@@ -117,7 +119,7 @@ tokens_within zero column bs = []
 tokens_within (suc n) column [] = []
 tokens_within (suc n) column (b ∷ bs) =
     if is_blank b then tokens_within n (column + 1) bs
-    else (if b == 37 then []
+    else (if b == percent_sign then []
     else (token_at column (first_token (b ∷ bs)) ∷ tokens_within n (column + (first_token (b ∷ bs)).bytes) (drop (first_token (b ∷ bs)).bytes (b ∷ bs))))
 
 -- the tokens of bytes, the first of which has this column

@@ -1,5 +1,6 @@
 //! Ints, as a line writes them.
 ghost use Rattle.std.specs.Prelude.{◌≡◌, true, nat_lt};
+ghost use Rattle.mf_text.specs.Limits.{number_bound};
 
 /// A number of at most nine digits, with `-` before it or not. The invariant keeps the number below 10^9, so that no use of its
 /// value needs a check.
@@ -7,7 +8,7 @@ ghost use Rattle.std.specs.Prelude.{◌≡◌, true, nat_lt};
 pub struct Int {
     pub(crate) negative: bool,
     pub(crate) magnitude: u32,
-    ghost short: { nat_lt magnitude 1000000000 ≡ true },
+    ghost short: { nat_lt magnitude number_bound ≡ true },
 }
 
 impl Int {
