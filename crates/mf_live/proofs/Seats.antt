@@ -65,7 +65,8 @@ merges seat v other w x views kept at apart there = let
     kept_view x (set views seat w) other newcomer (kept_view x views seat w kept knows) (knows_nothing x newcomer refl)
 
 -- a look keeps the rule
-pub looks : (keep : View → Knowledge) (seat : ℕ) (v : View) → (keep v ≡ v.last) ⊎ (keep v ≡ v.now) → Turns EachSeatKnows seat v (λ x. x) (λ v x y w. IsLook keep v y w)
+pub looks : (keep : View → Knowledge) (seat : ℕ) (v : View) → (keep v ≡ v.last) ⊎ (keep v ≡ v.now)
+    → Turns EachSeatKnows seat v (λ x. x) (λ v x y w. IsLook keep v y w)
 looks keep seat v is_kept x views kept at = let knows : Knows x v = kept.each_seat seat v at in
     let keeps : v.identified ≡ true → Shows x (keep v) = λ identified. ⊎_elim (λ (is : keep v ≡ v.last). subst (Shows x) (sym is) (knows identified).0)
     (λ (is : keep v ≡ v.now). subst (Shows x) (sym is) (knows identified).1) is_kept in
