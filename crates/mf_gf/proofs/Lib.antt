@@ -8,6 +8,8 @@ mod CharactersRead
 mod DrawnRows
 mod Endings
 mod Escapements
+mod FontBoxes
+mod FontNumbersRead
 pub mod Lengthening
 mod LocatorTexts
 mod LocatorsRead

@@ -31,7 +31,7 @@ unfolding post_place_back
 four_back a b c d rest = refl
 
 -- before the padding come the place of post and the identification byte
-place_found : (before : List ℕ) (place count : ℕ) → place ≤ greatest_word
+pub place_found : (before : List ℕ) (place count : ℕ) → place ≤ greatest_word
     → post_place (before ++ ((gf.post_post ∷ []) ++ word (pos place) ++ (gf.id_byte ∷ []) ++ replicate count gf.padding_byte)) ≡ Some place
 place_found before place count short =
     let named = (gf.post_post ∷ []) ++ word (pos place) ++ (gf.id_byte ∷ []) in

@@ -1,6 +1,7 @@
 pub mod Ahead
 pub mod Boxes
 pub mod Files
+pub mod FontNumbers
 pub mod Format
 pub mod Keeping
 pub mod Names

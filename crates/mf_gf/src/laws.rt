@@ -1,13 +1,14 @@
 //! Laws of GF files. Each is the contract of a function that does nothing, because the toolchain proves a statement only where
 //! the contract of a function names it.
-ghost use Rattle.std.specs.Prelude.{◌≡◌, ◌↔◌, ◌<◌, ◌<ℤ◌, ◌∷◌, [], ◌++◌, length, ℕ, ℤ, pos, List, Some};
+ghost use Rattle.std.specs.Prelude.{◌≡◌, ◌↔◌, ◌<◌, ◌≤◌, ◌<ℤ◌, ◌∷◌, [], ◌++◌, length, ℕ, ℤ, pos, List, Some};
 ghost use Rattle.mf_gf.specs.Boxes.{box_of_pixels, join, pixel_box};
 ghost use Rattle.mf_gf.specs.Files.{Character, IsPadded, IsShortDx, box_of_all, bytes_so_far, file_of, last_place, shipments, short_dx};
 ghost use Rattle.mf_gf.specs.declared.file.FontWords.{FontWords};
+ghost use Rattle.mf_gf.specs.FontNumbers.{HasPost, IsAfterEoc, IsLeastAround, comment_of, greatest_unsigned};
 ghost use Rattle.mf_gf.specs.Numbers.{IsWord, code_count};
 ghost use Rattle.mf_gf.specs.Painting.{head_of, pixels_of_character};
 ghost use Rattle.mf_gf.specs.Pixels.{IsPixelSet, black};
-ghost use Rattle.mf_gf.specs.Pointers.{AreShippable, IsReadBack};
+ghost use Rattle.mf_gf.specs.Pointers.{AreShippable, IsReadBack, post_place};
 ghost use Rattle.mf_gf.specs.Spelling.{pointer, spell};
 ghost use Rattle.mf_rows.specs.Bounds.{IsLeastBox};
 ghost use Rattle.mf_rows.specs.Dots.{Dot, IsPicture, weight_at};
@@ -60,6 +61,26 @@ pub fn one_character_more()
 /// leads to all characters with the code, from the last to the first, and then to none.
 pub fn characters_are_read_back()
     ensures { (words : FontWords) (comment : List ℕ) (cs : List Character) → AreShippable comment cs → IsReadBack (file_of words comment cs) cs }
+{}
+
+/// A reader of a finished file finds its comment in the preamble, and the numbers of the font in post, to which the end of the file
+/// leads. There post has its own place, which is directly after the last eoc, and the least box around the boxes of all characters.
+pub fn numbers_are_read_back()
+    ensures preamble { (words : FontWords) (comment : List ℕ) (cs : List Character) → comment_of (file_of words comment cs) ≡ Some comment }
+    ensures place { (words : FontWords) (comment : List ℕ) (cs : List Character) → AreShippable comment cs
+        → HasPost (file_of words comment cs) (λ post. post_place (file_of words comment cs) ≡ Some post.place) }
+    ensures last_eoc { (words : FontWords) (comment : List ℕ) (cs : List Character) (c : Character) → AreShippable comment (cs ++ c ∷ [])
+        → HasPost (file_of words comment (cs ++ c ∷ [])) (λ post. IsAfterEoc (file_of words comment (cs ++ c ∷ [])) post.place) }
+    ensures design_size { (words : FontWords) (comment : List ℕ) (cs : List Character) → AreShippable comment cs → IsWord words.ds
+        → HasPost (file_of words comment cs) (λ post. post.words.ds ≡ words.ds) }
+    ensures check_sum { (words : FontWords) (comment : List ℕ) (cs : List Character) → AreShippable comment cs → words.cs ≤ greatest_unsigned
+        → HasPost (file_of words comment cs) (λ post. post.words.cs ≡ words.cs) }
+    ensures horizontal_resolution { (words : FontWords) (comment : List ℕ) (cs : List Character) → AreShippable comment cs → IsWord words.hppp
+        → HasPost (file_of words comment cs) (λ post. post.words.hppp ≡ words.hppp) }
+    ensures vertical_resolution { (words : FontWords) (comment : List ℕ) (cs : List Character) → AreShippable comment cs → IsWord words.vppp
+        → HasPost (file_of words comment cs) (λ post. post.words.vppp ≡ words.vppp) }
+    ensures bounds { (words : FontWords) (comment : List ℕ) (c : Character) (cs : List Character) → AreShippable comment (c ∷ cs)
+        → HasPost (file_of words comment (c ∷ cs)) (λ post. IsLeastAround (c ∷ cs) post.box) }
 {}
 
 /// The length of a finished file is a multiple of 4, and the file ends with four to seven bytes 223.

@@ -1,0 +1,140 @@
+-- The comment of a file and the numbers of its post, read back.
+use Rattle.std.proofs.Common.{◌≡◌, ◌+◌, ◌-◌, ◌≤◌, ◌==◌, ℕ, ℤ, List, [], ◌∷◌, ◌++◌, length, drop, slice_index, Option, None, Some}
+use Rattle.std.proofs.Common.{refl, ap, sym, ◌∙◌, append_assoc, append-nil, length-append, eq-eqb, arith}
+use Rattle.std.proofs.Math.Seq.{drop-append_seam, get_or-append_seam, take-append_seam}
+use Rattle.std.proofs.lemmas.Bool.{cond-true}
+use Rattle.byteorder.specs.Numbers.{big_number-reads_back}
+use Rattle.mf_rows.specs.Dots.{Dot}
+use Rattle.mf_rows.specs.Runs.{runs_of}
+use Rattle.mf_gf.specs.declared.boxes.CharacterBox.{CharacterBox}
+use Rattle.mf_gf.specs.declared.file.FontWords.{FontWords}
+use Rattle.mf_gf.specs.Boxes.{box_of_pixels}
+use Rattle.mf_gf.specs.Files.{Character, FileSoFar, body, box_of_all, bytes_so_far, ending, file_of}
+use Rattle.mf_gf.specs.Files.{last_place, locators_from, padding, post, preamble, shipments, spell_after, with_character, with_characters}
+use Rattle.mf_gf.specs.FontNumbers.{IsAfterEoc, Post, comment_of, greatest_unsigned, post_at, post_of, read_post}
+use Rattle.mf_gf.specs.Format as gf
+use Rattle.mf_gf.specs.Numbers.{IsWord, code_count, greatest_word}
+use Rattle.mf_gf.specs.Pointers.{post_place}
+use Rattle.mf_gf.specs.Spelling.{begin, pointer, rows, spell}
+use Rattle.mf_gf.proofs.BoxOfDots.{word-reads_back}
+use Rattle.mf_gf.proofs.PostFound.{place_found}
+use Rattle.mf_gf.proofs.Shipped.{bytes_so_far-more, file-begins}
+use Rattle.mf_gf.proofs.FontBoxes.{FitsWords}
+
+-- ---- the comment
+
+characters-come_after : (f : FileSoFar) (cs : List Character) → (rest : List ℕ) × ((with_characters f cs).bytes ≡ f.bytes ++ rest)
+unfolding with_characters
+characters-come_after f [] = ([], sym (append-nil f.bytes))
+characters-come_after f (c ∷ cs) =
+    let others = characters-come_after (with_character f c) cs in
+    (spell_after f c ++ others.0, others.1 ∙ append_assoc f.bytes (spell_after f c) others.0)
+
+comment-reads : (comment rest : List ℕ) → comment_of (preamble comment ++ rest) ≡ Some comment
+unfolding comment_of
+comment-reads comment rest = ap (λ it. Some it) (take-append_seam comment rest)
+
+pub comment-found : (words : FontWords) (comment : List ℕ) (cs : List Character) → comment_of (file_of words comment cs) ≡ Some comment
+comment-found words comment cs =
+    let begins = file-begins words comment cs in
+    let after = characters-come_after (record { bytes = preamble comment; shipped = [] }) cs in
+    ap comment_of (begins.1 ∙ ap (λ bytes. bytes ++ begins.0) after.1 ∙ append_assoc (preamble comment) after.0 begins.0)
+    ∙ comment-reads comment (after.0 ++ begins.0)
+
+-- ---- post
+
+abbrev post_from : List ℕ → Option ℕ → Option Post
+post_from file found = elim found [
+  | None ↦ None
+  | Some place ↦ post_at place file
+]
+
+module _ (words : FontWords) (comment : List ℕ) (cs : List Character) where
+  abbrev pub place : ℕ
+  place = length (bytes_so_far comment cs)
+
+  -- the bytes of post
+  abbrev pub numbers : List ℕ
+  numbers = post words (box_of_all cs) (length (bytes_so_far comment cs))
+
+  -- the bytes after it
+  abbrev pub others : List ℕ
+  others = locators_from 0 code_count (shipments comment cs) ++ ending (length (bytes_so_far comment cs)) (length (body words comment cs))
+
+  whole : file_of words comment cs ≡ bytes_so_far comment cs ++ (numbers ++ others)
+  unfolding file_of
+  whole =
+      let characters = bytes_so_far comment cs in
+      let locators = locators_from 0 code_count (shipments comment cs) in
+      let last = ending place (length (body words comment cs)) in
+      append_assoc (characters ++ numbers) locators last ∙ append_assoc characters numbers (locators ++ last)
+
+  pub place-found : place ≤ greatest_word → post_place (file_of words comment cs) ≡ Some place
+  unfolding file_of
+  place-found short = place_found (body words comment cs) place (padding (length (body words comment cs) + gf.ending_size)) short
+
+  pub post-found : place ≤ greatest_word → post_of (file_of words comment cs) ≡ Some (read_post (numbers ++ others))
+  unfolding post_of
+  post-found short =
+      let characters = bytes_so_far comment cs in
+      let file = file_of words comment cs in
+      let opcode : slice_index file place ≡ 248 = ap (λ bytes. slice_index bytes place) whole ∙ get_or-append_seam characters 248 _ 0 in
+      ap (post_from file) (place-found short)
+      ∙ cond-true (slice_index file place == 248) (Some (read_post (drop place file))) None (eq-eqb _ _ opcode)
+      ∙ ap (λ bytes. Some (read_post (drop place bytes))) whole
+      ∙ ap (λ bytes. Some (read_post bytes)) (drop-append_seam characters (numbers ++ others))
+
+-- ---- its numbers
+
+module _ (words : FontWords) (b : CharacterBox) (at : ℕ) (rest : List ℕ) where
+  abbrev bytes : List ℕ
+  bytes = post words b at ++ rest
+
+  pub place-read : at ≤ greatest_word → (read_post bytes).place ≡ at
+  place-read short = big_number-reads_back 4 at (drop 5 bytes) (omega (arith, short))
+
+  pub ds-read : IsWord words.ds → (read_post bytes).words.ds ≡ words.ds
+  ds-read fits = word-reads_back words.ds (drop 9 bytes) fits
+
+  pub cs-read : words.cs ≤ greatest_unsigned → (read_post bytes).words.cs ≡ words.cs
+  cs-read fits = big_number-reads_back 4 words.cs (drop 13 bytes) (omega (arith, fits))
+
+  pub hppp-read : IsWord words.hppp → (read_post bytes).words.hppp ≡ words.hppp
+  hppp-read fits = word-reads_back words.hppp (drop 17 bytes) fits
+
+  pub vppp-read : IsWord words.vppp → (read_post bytes).words.vppp ≡ words.vppp
+  vppp-read fits = word-reads_back words.vppp (drop 21 bytes) fits
+
+  pub box-read : FitsWords b → (read_post bytes).box ≡ b
+  box-read fits =
+      let left = word-reads_back b.min_m (drop 25 bytes) fits.left in
+      let right = word-reads_back b.max_m (drop 29 bytes) fits.right in
+      let bottom = word-reads_back b.min_n (drop 33 bytes) fits.bottom in
+      let top = word-reads_back b.max_n rest fits.top in
+      λ i. record { min_m = left i; max_m = right i; min_n = bottom i; max_n = top i }
+
+-- ---- the last eoc
+
+-- a character ends with eoc
+spell-ends : (code : ℕ) (p : ℤ) (ds : List Dot) → (before : List ℕ) × (spell code p ds ≡ before ++ 69 ∷ [])
+unfolding spell
+spell-ends code p ds =
+    let b = box_of_pixels ds in (begin code p b ++ rows b.min_m b.max_n b.min_m (runs_of ds), refl)
+
+byte_before : (before more bytes : List ℕ) (last : ℕ) → bytes ≡ before ++ last ∷ [] → slice_index (bytes ++ more) (length bytes - 1) ≡ last
+byte_before before more bytes last is =
+    let place : length bytes - 1 ≡ length before = omega (arith, ap length is, length-append before (last ∷ [])) in
+    (λ i. slice_index (is i ++ more) (place i))
+    ∙ ap (λ it. slice_index it (length before)) (append_assoc before (last ∷ []) more)
+    ∙ get_or-append_seam before last more 0
+
+pub eoc-found : (words : FontWords) (comment : List ℕ) (cs : List Character) (c : Character)
+    → IsAfterEoc (file_of words comment (cs ++ c ∷ [])) (length (bytes_so_far comment (cs ++ c ∷ [])))
+eoc-found words comment cs c =
+    let characters = bytes_so_far comment cs in
+    let all = bytes_so_far comment (cs ++ c ∷ []) in
+    let begins = file-begins words comment (cs ++ c ∷ []) in
+    let ends = spell-ends c.code (pointer (last_place c.code (shipments comment cs))) c.black in
+    let is : all ≡ (characters ++ ends.0) ++ 69 ∷ [] =
+    bytes_so_far-more comment cs c ∙ ap (λ bytes. characters ++ bytes) ends.1 ∙ sym (append_assoc characters ends.0 (69 ∷ [])) in
+    ap (λ file. slice_index file (length all - 1)) begins.1 ∙ byte_before (characters ++ ends.0) begins.0 all 69 is

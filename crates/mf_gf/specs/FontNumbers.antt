@@ -1,0 +1,79 @@
+-- What a reader finds in a finished file besides its characters: the comment in the preamble, and what post says (The METAFONTbook,
+-- Appendix G; gftype.web). The opcodes are numerals, so that the law does not rest on those of `Format`, which files are made with.
+use Rattle.std.specs.Prelude.{◌≡◌, ◌+◌, ◌-◌, ◌*◌, ◌==◌, ◌&&◌, ℕ, ℤ, ◌≤ℤ◌, All, Any, List, take, drop, slice_index, Option, None, Some, if◌then◌else◌}
+use Rattle.byteorder.specs.Endian.{big_number, twos_complement}
+use Rattle.mf_gf.specs.declared.boxes.CharacterBox.{CharacterBox}
+use Rattle.mf_gf.specs.declared.file.FontWords.{FontWords}
+use Rattle.mf_gf.specs.Boxes.{box_of_pixels}
+use Rattle.mf_gf.specs.Files.{Character}
+use Rattle.mf_gf.specs.Pointers.{post_place}
+
+-- ---- the reader
+
+-- the comment: before it come pre, the identification byte, and the length of the comment in one byte
+unfoldable pub comment_of : List ℕ → Option (List ℕ)
+comment_of file = if slice_index file 0 == 247 && slice_index file 1 == 131 then Some (take (slice_index file 2) (drop 3 file)) else None
+
+-- what post says: its place, the numbers of the font, and a box
+pub record Post : Type 0 where
+  pub place : ℕ
+  pub words : FontWords
+  pub box : CharacterBox
+
+-- number k, counted from 0, of those after an opcode that have four bytes each: without a sign, and with it
+abbrev pub unsigned_number : ℕ → List ℕ → ℕ
+unsigned_number k bytes = big_number 4 (drop (1 + 4 * k) bytes)
+
+abbrev pub signed_number : ℕ → List ℕ → ℤ
+signed_number k bytes = twos_complement 4 (unsigned_number k bytes)
+
+-- the nine numbers of post: its place, ds, cs, hppp, vppp, least m, greatest m, least n and greatest n
+abbrev pub read_post : List ℕ → Post
+read_post bytes = record {
+  place = unsigned_number 0 bytes;
+  words = record { ds = signed_number 1 bytes; cs = unsigned_number 2 bytes; hppp = signed_number 3 bytes; vppp = signed_number 4 bytes };
+  box = record { min_m = signed_number 5 bytes; max_m = signed_number 6 bytes; min_n = signed_number 7 bytes; max_n = signed_number 8 bytes };
+}
+
+abbrev pub post_at : ℕ → List ℕ → Option Post
+post_at place file = if slice_index file place == 248 then Some (read_post (drop place file)) else None
+
+-- post, at the place that the end of the file names
+unfoldable pub post_of : List ℕ → Option Post
+post_of file = elim (post_place file) [
+  | None ↦ None
+  | Some place ↦ post_at place file
+]
+
+-- ---- what the reader finds
+
+-- there is post, and it says this
+abbrev pub HasPost : List ℕ → (Post → Type 0) → Type 0
+HasPost file Says = (post : Post) × (post_of file ≡ Some post) × Says post
+
+-- the byte before this place is eoc, which ends a character
+abbrev pub IsAfterEoc : List ℕ → ℕ → Type 0
+IsAfterEoc file place = slice_index file (place - 1) ≡ 69
+
+-- the greatest number of four bytes without a sign
+abbrev pub greatest_unsigned : ℕ
+greatest_unsigned = 4294967295
+
+-- the box of a character
+abbrev pub box_of : Character → CharacterBox
+box_of c = box_of_pixels c.black
+
+-- a box lies in another
+pub record IsWithin (outer inner : CharacterBox) : Type 0 where
+  pub left : outer.min_m ≤ℤ inner.min_m
+  pub right : inner.max_m ≤ℤ outer.max_m
+  pub bottom : outer.min_n ≤ℤ inner.min_n
+  pub top : inner.max_n ≤ℤ outer.max_n
+
+-- the least box around the boxes of characters: each of them lies in it, and one is at each of its sides
+pub record IsLeastAround (characters : List Character) (b : CharacterBox) : Type 0 where
+  pub within : All (λ (c : Character). IsWithin b (box_of c)) characters
+  pub left : Any (λ (c : Character). (box_of c).min_m ≡ b.min_m) characters
+  pub right : Any (λ (c : Character). (box_of c).max_m ≡ b.max_m) characters
+  pub bottom : Any (λ (c : Character). (box_of c).min_n ≡ b.min_n) characters
+  pub top : Any (λ (c : Character). (box_of c).max_n ≡ b.max_n) characters
