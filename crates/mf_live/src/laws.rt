@@ -1,15 +1,15 @@
 //! Laws of the live picture. Each is the contract of a function that does nothing, or only calls others, because the toolchain
 //! proves a statement only where a function's contract names it.
 ghost use mathlib.Core.List.{IsPrefix};
-ghost use Rattle.std.specs.Prelude.{◌≡◌, ◌⊎◌, ◌≤◌, true, List, ◌++◌, IfErr, IfOk, MatchResult, OnOk};
+ghost use Rattle.std.specs.Prelude.{◌≡◌, ◌⊎◌, ◌≤◌, true, false, List, ◌++◌, IfErr, IfOk, MatchResult, OnOk};
 ghost use Rattle.mf_live.specs.declared.event.Event.{Event};
 ghost use Rattle.mf_live.specs.Books.{most};
-ghost use Rattle.mf_live.specs.Entries.{Entry, rev, is_closed, pic};
+ghost use Rattle.mf_live.specs.Entries.{Entry, rev, is_closed, pic, IsUnrefused};
 ghost use Rattle.mf_live.specs.Prefixes.{IsWholePrefix, HasWholePublishes};
 ghost use Rattle.mf_live.specs.Sheets.{HasLearnt, HasLookedAt, IsLastNotTaken, sheet_picture, sheet_revision};
 ghost use Rattle.mf_live.specs.Viewers as viewers;
 ghost use Rattle.mf_live.specs.Writers as writers;
-ghost use Rattle.mf_live.specs.World.{new_world, Happen, EverySchedule, published_of};
+ghost use Rattle.mf_live.specs.World.{new_world, Happen, EverySchedule, IsPending, published_of};
 
 use crate::closing::Closing;
 use crate::look::{Look, NoLook};
@@ -43,6 +43,17 @@ pub fn looks_show_whole_publishes(max_ops: u32)
     ensures whole { (shown : List Entry) (events : List Event) → IsWholePrefix shown (published_of events) → HasWholePublishes shown (published_of events) }
     ensures earlier { (before after : List Event) → Happen max_ops new_world (before ++ after)
         → HasWholePublishes (published_of before) (published_of (before ++ after)) }
+{}
+
+/// Whatever a writer has done, what is accepted and published is as `every_schedule` says: no accepted operation is refused, and
+/// there are at most `max_ops`; what is published is a whole prefix of what is accepted, and the rest has the label of the next
+/// publish. And the end mark is not set, since setting it makes something else of the writer.
+pub fn writer_is_lawful(writer: &Writer)
+    ensures unrefused { IsUnrefused (writers.accepted_list writer.now) }
+    ensures few { rev (writers.accepted_list writer.now) ≤ writers.max_ops writer.now }
+    ensures whole { IsWholePrefix (writers.published_list writer.now) (writers.accepted_list writer.now) }
+    ensures pending { IsPending (writers.published_list writer.now) (writers.accepted_list writer.now) }
+    ensures running { is_closed (writers.accepted_list writer.now) ≡ false }
 {}
 
 /// What the writer's copies show is what is published, whatever the writer has done. That viewers look at these copies, no clause
