@@ -21,7 +21,7 @@ use Rattle.mf_live.specs.Viewers.{Extends, IsPublished, SeesTheSame, learnt_list
 use Rattle.mf_live.specs.Viewers.{notice_events, shown_list, told_list}
 use Rattle.mf_live.specs.World.{Happen, new_world, published_of}
 use Rattle.mf_live.proofs.EntryLists.{nothing_follows}
-use Rattle.mf_live.proofs.WholePrefixes.{whole-longer, longer-assoc, longer-whole, longer-of_whole}
+use Rattle.mf_live.proofs.WholePrefixes.{whole-longer}
 use Rattle.mf_live.proofs.Worlds.{lawful-after, published-grows}
 
 -- what a prefix of a notice's events has published is a whole prefix of what the notice says
@@ -63,13 +63,6 @@ extends-same before after L same extends =
       learnt = subst (λ M. IsWholePrefix M L) same.learnt extends.learnt;
       seen = subst (λ M. IsWholePrefix M L) seen extends.seen;
     }
-
--- the longest of three lists, where one of the last two is a whole prefix of the other
-pub longer-last : (a b c : List Entry) → IsWholePrefix b c → longer a c ≡ longer (longer a b) c
-longer-last a b c whole = sym (ap (longer a) (longer-whole b c whole)) ∙ longer-assoc a b c
-
-pub longer-second : (a b c : List Entry) → IsWholePrefix c b → longer a b ≡ longer (longer a b) c
-longer-second a b c whole = sym (ap (longer a) (longer-of_whole b c whole)) ∙ longer-assoc a b c
 
 -- of two prefixes of one history, one is a prefix of the other
 pub one_prefix : (a b : Prefix) → (a.events ≤ b.events → IsPrefix a.knowledge.seen.log b.knowledge.seen.log)

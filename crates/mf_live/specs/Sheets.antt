@@ -39,6 +39,7 @@ IsNotTaken before after OutOfMemory = HasLooked before after
 -- a viewer has learnt of a list, and has not looked; whatever it looks at from then on includes that list and what it had seen
 pub record HasLearnt (before : Viewer) (whole : List Entry) (after : Viewer) : Type 0 where
   pub looked : looked_at_list after ≡ looked_at_list before
+  pub learnt : learnt_list after ≡ longer (learnt_list before) whole
   pub seen : seen_list after ≡ longer (seen_list before) whole
   pub keeps : (L : List Entry) → Extends after L → Extends before L × IsWholePrefix whole L
 

@@ -76,6 +76,7 @@ impl Viewer {
         requires { notice_identity notice ≡ identity self.old }
         ensures identity { identity self.new ≡ identity self.old }
         ensures looked { looked_at_list self.new ≡ looked_at_list self.old }
+        ensures learnt { learnt_list self.new ≡ longer (learnt_list self.old) (told_list notice) }
         ensures seen { seen_list self.new ≡ longer (seen_list self.old) (told_list notice) }
         ensures keeps { (L : List Entry) → Extends self.new L → Extends self.old L × IsWholePrefix (told_list notice) L }
     {

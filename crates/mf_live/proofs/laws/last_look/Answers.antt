@@ -5,7 +5,7 @@ use Rattle.mf_live.specs.Entries.{Entry, is_closed, ends_last}
 use Rattle.mf_live.specs.declared.look.NoLook.{NoLook}
 use Rattle.mf_live.specs.Prefixes.{IsWholePrefix, longer}
 use Rattle.mf_live.specs.Sheets.{HasLearnt}
-use Rattle.mf_live.specs.Viewers.{Extends, IsPublished, SeesTheSame, look_events, looked_at_list, seen_list, shown_list}
+use Rattle.mf_live.specs.Viewers.{Extends, IsPublished, SeesTheSame, learnt_list, look_events, looked_at_list, seen_list, shown_list}
 use Rattle.mf_live.proofs.Looking.{extends-same, shown-last}
 use Rattle.mf_live.proofs.laws.last_look.Goals as goal
 
@@ -34,12 +34,13 @@ extends_closed Q first second told (Err refused) earlier same extends = tt
 -- a viewer whose look is refused has only learnt
 learnt_alone : (P Q : Look → Type 0) (first second : Viewer) (told : List Entry) (answer : Result Look (Viewer × NoLook))
     → ((L : List Entry) → Extends second L → Extends first L × IsWholePrefix told L)
-    → looked_at_list second ≡ looked_at_list first → seen_list second ≡ longer (seen_list first) told
+    → looked_at_list second ≡ looked_at_list first → learnt_list second ≡ longer (learnt_list first) told → seen_list second ≡ longer (seen_list first) told
     → MatchResult answer P (λ refused. SeesTheSame second refused.0)
     → MatchResult answer Q (λ refused. seen_list refused.0 ≡ seen_list second) → IfErr answer (λ refused. HasLearnt first told refused.0)
-learnt_alone P Q first second told (Ok look) keeps same known sees all = tt
-learnt_alone P Q first second told (Err refused) keeps same known sees all = record {
+learnt_alone P Q first second told (Ok look) keeps same learnt known sees all = tt
+learnt_alone P Q first second told (Err refused) keeps same learnt known sees all = record {
   looked = sees.looked ∙ same;
+  learnt = sees.learnt ∙ learnt;
   seen = all ∙ known;
   keeps = λ L extends. keeps L (extends-same second refused.0 L sees extends);
 }
@@ -59,4 +60,5 @@ returns-clause-extends c =
 pub returns-clause-learnt : goal.returns-clause-learnt
 returns-clause-learnt c =
     let looks = c.look.ensures in
-    learnt_alone _ _ _ c.learn.new.self _ c.look.result c.learn.ensures.keeps c.learn.ensures.looked c.learn.ensures.seen looks.extends looks.ends
+    let learns = c.learn.ensures in
+    learnt_alone _ _ _ c.learn.new.self _ c.look.result learns.keeps learns.looked learns.learnt learns.seen looks.extends looks.ends

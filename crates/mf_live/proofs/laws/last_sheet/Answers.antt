@@ -39,15 +39,17 @@ module _ {E : Type 0} (Q : E → Type 0) (before after : Viewer) (told : List En
   sheet_extends first earlier (Err fault) taken = tt
 
   not_taken : (first : Viewer) → ((L : List Entry) → Extends before L → Extends first L)
-      → looked_at_list before ≡ looked_at_list first → seen_list before ≡ longer (seen_list first) told → (answer : Result Sheet SheetFault)
+      → looked_at_list before ≡ looked_at_list first → learnt_list before ≡ longer (learnt_list first) told
+      → seen_list before ≡ longer (seen_list first) told → (answer : Result Sheet SheetFault)
       → MatchResult answer (λ sheet. IsTaken before after sheet) (IsNotTaken before after) → IfErr answer (IsLastNotTaken first told after)
-  not_taken first earlier same learnt_list (Ok sheet) taken = tt
-  not_taken first earlier same known (Err NoLook) is = record {
+  not_taken first earlier same learnt known (Ok sheet) taken = tt
+  not_taken first earlier same learnt known (Err NoLook) is = record {
     looked = is.looked ∙ same;
+    learnt = is.learnt ∙ learnt;
     seen = ap (λ L. longer L (learnt_list after)) is.looked ∙ ap (longer (looked_at_list before)) is.learnt ∙ known;
     keeps = λ L extends. let same = extends-same before after L is extends in (earlier L same, includes L same);
   }
-  not_taken first earlier same learnt_list (Err NoMemory) look = (extends_last first earlier look, looked_at look)
+  not_taken first earlier same learnt known (Err NoMemory) look = (extends_last first earlier look, looked_at look)
 
   sheet_looked : (answer : Result Sheet E) → MatchResult answer (λ sheet. IsTaken before after sheet) Q → OnOk answer (HasLookedAt told after)
   sheet_looked (Ok sheet) taken = looked_at taken.look
@@ -70,7 +72,7 @@ pub returns-clause-not_taken : goal.returns-clause-not_taken
 returns-clause-not_taken c =
     not_taken (IsNotTaken c.sheet.new.self c.sheet.new.self) _ c.sheet.new.self _
     (λ L extends. (c.learn.ensures.keeps L extends).1) c.requires.closed _
-    (λ L extends. (c.learn.ensures.keeps L extends).0) c.learn.ensures.looked c.learn.ensures.seen c.sheet.result c.sheet.ensures.taken
+    (λ L extends. (c.learn.ensures.keeps L extends).0) c.learn.ensures.looked c.learn.ensures.learnt c.learn.ensures.seen c.sheet.result c.sheet.ensures.taken
 
 pub returns-clause-looked : goal.returns-clause-looked
 returns-clause-looked c =

@@ -1,10 +1,18 @@
-use Rattle.std.proofs.Common.{arith}
-use Rattle.mf_live.proofs.Looking.{told_list-prefix, longer-last, longer-second}
-use Rattle.mf_live.proofs.WholePrefixes.{whole-trans, whole-longer}
+use Rattle.std.proofs.Common.{◌∙◌, ap, arith, sym}
+use Rattle.mf_live.specs.Prefixes.{longer}
+use Rattle.mf_live.specs.Viewers.{learnt_list, looked_at_list, told_list}
+use Rattle.mf_live.proofs.Looking.{told_list-prefix}
+use Rattle.mf_live.proofs.WholePrefixes.{longer-assoc, longer-of_whole, longer-whole, whole-trans, whole-longer}
 use Rattle.mf_live.proofs.viewer.Viewer.learn.Goals as goal
 
+pub returns-then-self-notice-clause-learnt : goal.returns-then-self-notice-clause-learnt
+returns-then-self-notice-clause-learnt c = sym (longer-whole _ _ (told_list-prefix c.args.notice _ (c.meets.ensures.this (omega arith))))
+
 pub returns-then-self-notice-clause-seen : goal.returns-then-self-notice-clause-seen
-returns-then-self-notice-clause-seen c = longer-last _ _ _ (told_list-prefix c.args.notice _ (c.meets.ensures.this (omega arith)))
+returns-then-self-notice-clause-seen c =
+    let old = c.args.self.now in
+    ap (longer (looked_at_list old)) (returns-then-self-notice-clause-learnt c)
+    ∙ longer-assoc (looked_at_list old) (learnt_list old) (told_list c.args.notice)
 
 pub returns-then-self-notice-clause-keeps : goal.returns-then-self-notice-clause-keeps
 returns-then-self-notice-clause-keeps c = λ L extends.
@@ -12,8 +20,14 @@ returns-then-self-notice-clause-keeps c = λ L extends.
     let learns = whole-trans _ _ L grows extends.learnt in
     (record { looked = extends.looked; learnt = learns; seen = whole-longer _ _ L extends.looked learns }, extends.learnt)
 
+pub returns-else-self-notice-clause-learnt : goal.returns-else-self-notice-clause-learnt
+returns-else-self-notice-clause-learnt c = sym (longer-of_whole _ _ (told_list-prefix c.args.self.now.known _ (c.meets.ensures.that (omega arith))))
+
 pub returns-else-self-notice-clause-seen : goal.returns-else-self-notice-clause-seen
-returns-else-self-notice-clause-seen c = longer-second _ _ _ (told_list-prefix c.args.self.now.known _ (c.meets.ensures.that (omega arith)))
+returns-else-self-notice-clause-seen c =
+    let old = c.args.self.now in
+    ap (longer (looked_at_list old)) (returns-else-self-notice-clause-learnt c)
+    ∙ longer-assoc (looked_at_list old) (learnt_list old) (told_list c.args.notice)
 
 pub returns-else-self-notice-clause-keeps : goal.returns-else-self-notice-clause-keeps
 returns-else-self-notice-clause-keeps c = λ L extends.
