@@ -1,9 +1,19 @@
 //! Laws of the texts of pictures. Each is the contract of a function that does nothing, because the toolchain proves a statement
 //! only where the contract of a function names it.
-ghost use Rattle.std.specs.Prelude.{◌≡◌, ◌<◌, ◌+◌, ◌*◌, ℕ, pos, ◌+ℤ◌, ◌-ℤ◌, List, get_or, length};
+ghost use Rattle.std.specs.Prelude.{◌≡◌, ◌<◌, ◌+◌, ◌*◌, ℕ, pos, ◌+ℤ◌, ◌-ℤ◌, List, [], ◌∷◌, None, Some, get_or, length};
+ghost use Rattle.mf_rows.specs.Bounds.{IsLeastBox};
 ghost use Rattle.mf_rows.specs.declared.bounds.Box4.{Box4};
 ghost use Rattle.mf_rows.specs.Dots.{Dot, weight_at};
+ghost use Rattle.mf_show.specs.Boxes.{box_of, box_of_dots};
 ghost use Rattle.mf_show.specs.Grid.{IsGridText, box_text, grid_character, extent, line_feed};
+
+/// The box of a picture that is computed from its dots, for images and frames, is its least box, and there is no other least
+/// box. The blank picture has none.
+pub fn box_of_dots_is_least()
+    ensures least { (d : Dot) (ds : List Dot) → IsLeastBox (d ∷ ds) (box_of_dots d ds) }
+    ensures one { (ds : List Dot) (b : Box4) → IsLeastBox ds b → box_of ds ≡ Some b }
+    ensures blank { box_of [] ≡ None }
+{}
 
 /// Each picture has exactly one grid text.
 pub fn one_grid_text()
