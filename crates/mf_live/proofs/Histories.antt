@@ -5,7 +5,7 @@ use Rattle.mf_live.specs.declared.event.Event.{Event}
 use Rattle.mf_live.specs.declared.holder.Holder.{Holder}
 use Rattle.mf_live.specs.declared.version.Version.{Version}
 use Rattle.mf_live.specs.declared.view.View.{View}
-use Rattle.mf_live.specs.Books.{most}
+use Rattle.mf_live.specs.Books.{most_accepted}
 use Rattle.mf_live.specs.Entries.{Entry}
 use Rattle.mf_live.specs.Holders.{events, accepted_list, published_list, version}
 use Rattle.mf_live.specs.Rule.{events_of, history, version_list, with_event}
@@ -13,18 +13,18 @@ use Rattle.mf_live.specs.World.{World, IsLawful, Happen, May, new_world, after_e
 use Rattle.mf_live.proofs.EntryLists.{length-rev}
 use Rattle.mf_live.proofs.Worlds.{world_after-push, Happen-push, lawful-after}
 
-pub lawful : (h : Holder) → IsLawful most (world_after new_world (events h))
-lawful h = lawful-after most (events h) h.lawful
+pub lawful : (h : Holder) → IsLawful most_accepted (world_after new_world (events h))
+lawful h = lawful-after most_accepted (events h) h.lawful
 
--- at most `most` operations and the end mark were accepted
-pub few_entries : (h : Holder) → length (accepted_list h) ≤ most + 1
+-- at most `most_accepted` operations and the end mark were accepted
+pub few_entries : (h : Holder) → length (accepted_list h) ≤ most_accepted + 1
 few_entries h = omega (arith, length-rev (accepted_list h) (lawful h).ended, (lawful h).few)
 
 -- the shown version knows of at most two events for each entry
-pub few_events : (h : Holder) → length (events_of (version h)) ≤ 2 * (most + 1)
+pub few_events : (h : Holder) → length (events_of (version h)) ≤ 2 * (most_accepted + 1)
 few_events h = omega (arith, h.short, h.since, few_entries h)
 
-pub few_unwritten : (h : Holder) → h.unwritten ≤ most + 1
+pub few_unwritten : (h : Holder) → h.unwritten ≤ most_accepted + 1
 few_unwritten h = omega (arith, h.since, few_entries h)
 
 -- the writer has one more event to write, by which the entry e is accepted
@@ -32,7 +32,7 @@ pub record HasOneMore (h : Holder) (x : Version) (w : View) (e : Entry) : Type 0
   pub accepted : accepted_of (history x w) ≡ accepted_list h ++ e ∷ []
   pub published : published_of (history x w) ≡ published_list h
   pub shown_is : version_list x ≡ published_of (history x w)
-  pub lawful : Happen most new_world (history x w)
+  pub lawful : Happen most_accepted new_world (history x w)
   pub alive : (world_after new_world (history x w)).dropped ≡ false
   pub counted : h.unwritten + 1 ≡ length w.unwritten
   pub since : h.unwritten + 1 + length (version_list x) ≡ length (accepted_of (history x w))
@@ -41,7 +41,7 @@ abbrev with_entry : World → Entry → World
 with_entry w e = record w { accepted = w.accepted ++ e ∷ [] }
 
 pub one_more : (h : Holder) (x : Version) (w : View) (happens : Event) (e : Entry) → x ≡ version h → w ≡ with_event (view h.swap.desk.place) happens
-    → May most (world_after new_world (events h)) happens
+    → May most_accepted (world_after new_world (events h)) happens
     → after_event (world_after new_world (events h)) happens ≡ with_entry (world_after new_world (events h)) e → HasOneMore h x w e
 one_more h x w happens e same more may accepts =
     let unwritten = (view h.swap.desk.place).unwritten in
@@ -55,7 +55,7 @@ one_more h x w happens e same more may accepts =
       accepted = accepted_is;
       published = published_is;
       shown_is = ap version_list same ∙ h.shown_is ∙ sym published_is;
-      lawful = rw log (Happen-push most new_world (events h) happens h.lawful may);
+      lawful = rw log (Happen-push most_accepted new_world (events h) happens h.lawful may);
       alive = ap (λ (u : World). u.dropped) world ∙ h.alive;
       counted = omega (arith, h.counted, ap (λ (v : View). length v.unwritten) more, length-append unwritten (happens ∷ []));
       since = omega (arith, h.since, ap (λ (y : Version). length (version_list y)) same, ap length accepted_is, length-append (accepted_list h) (e ∷ []));

@@ -3,7 +3,7 @@
 ghost use mathlib.Core.List.{IsPrefix};
 ghost use Rattle.std.specs.Prelude.{◌≡◌, ◌⊎◌, ◌≤◌, true, false, List, ◌++◌, IfErr, IfOk, MatchResult, OnOk};
 ghost use Rattle.mf_live.specs.declared.event.Event.{Event};
-ghost use Rattle.mf_live.specs.Books.{most};
+ghost use Rattle.mf_live.specs.Books.{most_accepted};
 ghost use Rattle.mf_live.specs.Entries.{Entry, rev, is_closed, pic, IsUnrefused};
 ghost use Rattle.mf_live.specs.Prefixes.{IsWholePrefix, HasWholePublishes};
 ghost use Rattle.mf_live.specs.Sheets.{HasLearnt, HasLookedAt, IsLastNotTaken, sheet_picture, sheet_revision};
@@ -70,7 +70,7 @@ pub fn published_is_visible_halfway(closing: &Closing)
 /// A look has, of each publish, nothing or all of it, whatever has happened to its picture since. It shows what the events that
 /// it knows have published.
 pub fn look_has_whole_publishes(look: &Look)
-    ensures { (since : List Event) → Happen most new_world (viewers.look_events look.now ++ since)
+    ensures { (since : List Event) → Happen most_accepted new_world (viewers.look_events look.now ++ since)
         → HasWholePublishes (viewers.shown_list look.now) (published_of (viewers.look_events look.now ++ since)) }
 {}
 

@@ -6,7 +6,7 @@ use Rattle.mf_live.specs.declared.event.Event.TheVariants.{Accept}
 use Rattle.mf_live.specs.declared.holder.Holder.{Holder}
 use Rattle.mf_live.specs.declared.version.Version.{Version}
 use Rattle.mf_live.specs.declared.view.View.{View}
-use Rattle.mf_live.specs.Books.{most}
+use Rattle.mf_live.specs.Books.{most_accepted}
 use Rattle.mf_live.specs.Entries.{Entry, entry, pic, rev, next, is_closed, Operation}
 use Rattle.mf_live.specs.Holders.{accepted_list, published_list, version}
 use Rattle.mf_live.specs.Rule.{with_event}
@@ -18,7 +18,7 @@ abbrev taken : Holder → Op → Entry
 taken h op = entry (next (published_list h)) (Operation op)
 
 accepts : (h : Holder) (x : Version) (w : View) (op : Op) → x ≡ version h → w ≡ with_event (view h.swap.desk.place) (Accept op)
-    → is_closed (accepted_list h) ≡ false → rev (accepted_list h) < most → op_fault (pic (accepted_list h)) op ≡ None → HasOneMore h x w (taken h op)
+    → is_closed (accepted_list h) ≡ false → rev (accepted_list h) < most_accepted → op_fault (pic (accepted_list h)) op ≡ None → HasOneMore h x w (taken h op)
 accepts h x w op same more not_closed few allowed = one_more h x w (Accept op) (taken h op) same more (h.alive, not_closed, few, allowed) refl
 
 pub overflow_add-self : goal.overflow_add-self

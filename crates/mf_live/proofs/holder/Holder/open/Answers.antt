@@ -3,7 +3,7 @@ use Rattle.left_right.specs.Sides.{view}
 use Rattle.mf_live.specs.declared.event.Event.{Event}
 use Rattle.mf_live.specs.declared.history.Knowledge.{Knowledge}
 use Rattle.mf_live.specs.declared.view.View.{View}
-use Rattle.mf_live.specs.Books.{most, counter_of}
+use Rattle.mf_live.specs.Books.{most_accepted, counter_of}
 use Rattle.mf_live.specs.Rule.{events_of, history, knowledge_of}
 use Rattle.mf_live.specs.World.{Happen, new_world, world_after, accepted_of, published_of}
 use Rattle.mf_live.proofs.Blank.{pic-blank, rev-blank}
@@ -20,7 +20,7 @@ invariant_of-result g c =
     record {
       head_is = c.open_history-head.ensures.head ∙ sym (ap (λ (t : Knowledge). counter_of t.seen.book) same);
       shown_is = ap published_of (shows ∙ sym happened);
-      lawful = subst (Happen most new_world) (sym happened) tt;
+      lawful = subst (Happen most_accepted new_world) (sym happened) tt;
       alive = ap (λ (es : List Event). (world_after new_world es).dropped) happened;
       counted = sym (ap length written);
       pictured = c.blank-2.ensures ∙ sym (pic-blank _ (ap accepted_of happened));
