@@ -1,4 +1,5 @@
 pub mod AddedEdges
+pub mod ColumnTotals
 pub mod EdgeChanges
 pub mod EdgeMaps
 pub mod EdgesAt

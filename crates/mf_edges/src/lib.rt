@@ -5,6 +5,7 @@ mod edge;
 mod edge_change;
 mod edge_sum;
 mod field;
+pub mod laws;
 mod row_change;
 mod stretch;
 mod weight_map;

@@ -1,0 +1,48 @@
+-- The total weight of a row, column by column.
+use Rattle.std.proofs.Common.{◌≡◌, ℕ, zero, suc, ℤ, pos, ◌+ℤ◌, ◌-ℤ◌, ◌*ℤ◌, ◌≤ℤ◌, true, false, cond, List, [], ◌∷◌, refl, ◌∙◌, arith}
+use Rattle.std.specs.Int.RustNames.{int_le}
+use Rattle.std.proofs.lemmas.Bool.{cond-true, cond-false}
+use Rattle.std.proofs.lemmas.Int.{ints, by_lt_z}
+use Rattle.mf_geom.specs.Coordinates.{least_coordinate, field_size}
+use Rattle.mf_geom.specs.Sum.{sum_below}
+use Rattle.mf_geom.proofs.Products.{mul-add}
+use Rattle.mf_geom.proofs.Sums.{sum_below-add, sum_below-zero}
+use Rattle.mf_edges.specs.declared.edge.Edge.{Edge}
+use Rattle.mf_edges.specs.Edges.{AreEdgesFrom, weight_in}
+use Rattle.mf_edges.specs.Totals.{edges_total}
+
+-- an edge at or behind the last of these columns adds nothing to them
+columns_before : (x w : ℤ) (n : ℕ) → (least_coordinate +ℤ pos n) ≤ℤ x → sum_below n (λ i. cond (int_le x (least_coordinate +ℤ pos i)) w (pos 0)) ≡ pos 0
+unfolding sum_below
+columns_before x w zero behind = refl
+columns_before x w (suc n) behind =
+    let left : int_le x (least_coordinate +ℤ pos n) ≡ false = grind (arith, ints, behind) in
+    let own = cond-false (int_le x (least_coordinate +ℤ pos n)) w (pos 0) left in
+    omega (arith, ints, own, columns_before x w n (omega (arith, ints, behind)))
+
+-- and elsewhere its weight to each column from its own on
+columns_from : (x w : ℤ) (n : ℕ) → least_coordinate ≤ℤ x → x ≤ℤ (least_coordinate +ℤ pos n)
+    → sum_below n (λ i. cond (int_le x (least_coordinate +ℤ pos i)) w (pos 0)) ≡ w *ℤ ((least_coordinate +ℤ pos n) -ℤ x)
+unfolding sum_below
+columns_from x w zero low high =
+    let none : (least_coordinate +ℤ pos 0) -ℤ x ≡ pos 0 = omega (arith, ints, low, high) in
+    rw none (omega (arith, ints))
+columns_from x w (suc n) low high =
+    by_lt_z (least_coordinate +ℤ pos n) x
+    (λ beyond.
+    let none : (least_coordinate +ℤ pos (suc n)) -ℤ x ≡ pos 0 = omega (arith, ints, beyond, high) in
+    columns_before x w (suc n) (omega (arith, ints, beyond)) ∙ (rw none (omega (arith, ints))))
+    (λ here.
+    let reached : int_le x (least_coordinate +ℤ pos n) ≡ true = grind (arith, ints, here) in
+    let own = cond-true (int_le x (least_coordinate +ℤ pos n)) w (pos 0) reached in
+    let others = columns_from x w n low (omega (arith, ints, here)) in
+    let more : (least_coordinate +ℤ pos (suc n)) -ℤ x ≡ ((least_coordinate +ℤ pos n) -ℤ x) +ℤ pos 1 = omega (arith, ints) in
+    rw more (omega (arith, ints, own, others, mul-add w ((least_coordinate +ℤ pos n) -ℤ x) (pos 1))))
+
+-- the weights of all columns together
+pub sum_of_columns : (low : ℤ) (es : List Edge) → AreEdgesFrom low es → sum_below field_size (λ i. weight_in es (least_coordinate +ℤ pos i)) ≡ edges_total es
+unfolding weight_in edges_total
+sum_of_columns low [] from = sum_below-zero field_size
+sum_of_columns low (e ∷ es) from =
+    sum_below-add field_size (λ i. cond (int_le e.x (least_coordinate +ℤ pos i)) e.weight (pos 0)) (λ i. weight_in es (least_coordinate +ℤ pos i))
+    ∙ (λ t. columns_from e.x e.weight field_size from.0.left from.0.right t +ℤ sum_of_columns (e.x +ℤ pos 1) es from.2 t)
