@@ -1,4 +1,4 @@
-use Rattle.std.proofs.Common.{◌≡◌, ◌<◌, ◌++◌, reverse, length, ap, arith, to_z, of_z, w32}
+use Rattle.std.proofs.Common.{◌≡◌, ◌<◌, ◌++◌, reverse, length, ap, arith, to_z, of_z, to_z-of_z, w32}
 use Rattle.std.proofs.lemmas.Int.{ints}
 use Rattle.mf_geom.specs.Path.{segment_at}
 use Rattle.mf_ops.specs.Sides.{HasSide}
@@ -18,15 +18,13 @@ segment c =
 
 pub push_side-requires : goal.push_side-requires
 push_side-requires c =
-    let weight_is : to_z w32 (of_z w32 c.args.weight) ≡ c.args.weight = omega (arith, ints) in
     let is = segment (goal.at.push_side-requires c).After-segment_ends in
-    record { segment = is.rectilinear; from = is.from; to = is.to; weight = rw weight_is c.requires }
+    record { segment = is.rectilinear; from = is.from; to = is.to; weight = rw (to_z-of_z c.ranges.weight) c.requires }
 
 pub push_side-requires-else-from-to : goal.push_side-requires-else-from-to
 push_side-requires-else-from-to c =
-    let weight_is : to_z w32 (of_z w32 c.args.weight) ≡ c.args.weight = omega (arith, ints) in
     let is = segment (goal.at.push_side-requires-else-from-to c).After-segment_ends in
-    record { segment = is.rectilinear; from = is.from; to = is.to; weight = rw weight_is c.requires }
+    record { segment = is.rectilinear; from = is.from; to = is.to; weight = rw (to_z-of_z c.ranges.weight) c.requires }
 
 pub loop-place-preserved : goal.loop-place-preserved
 loop-place-preserved c =

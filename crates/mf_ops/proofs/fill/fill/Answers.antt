@@ -1,5 +1,4 @@
-use Rattle.std.proofs.Common.{◌≡◌, to_z, of_z, w32, arith, refl}
-use Rattle.std.proofs.lemmas.Int.{ints}
+use Rattle.std.proofs.Common.{to_z-of_z, refl}
 use Rattle.std.proofs.lemmas.Result.{err_from_is_err_and}
 use Rattle.mf_geom.specs.declared.check.Check.TheVariants.{Off}
 use Rattle.mf_ops.specs.declared.op.Op.TheVariants.{Contour}
@@ -11,7 +10,7 @@ pub returns-in_err-add_corners-clause-refused : goal.returns-in_err-add_corners-
 returns-in_err-add_corners-clause-refused c =
     let ds = c.args.picture.now in
     let op = Contour c.args.cycle.now c.args.weight Off in
-    let weight_is : to_z w32 (of_z w32 c.args.weight) ≡ c.args.weight = omega (arith, ints) in
+    let weight_is = to_z-of_z c.ranges.weight in
     let same = with_corners_at-contour ds c.args.cycle.now c.args.weight _ (rw weight_is at c.in_ok-corners.ensures.added) in
     let passed_on = err_from_is_err_and c.from_residual-in_err-add_corners.result c.from_residual-in_err-add_corners.ensures.1 in
     rw (passed_on.1, passed_on.2)
@@ -21,8 +20,7 @@ pub returns : goal.returns
 returns c =
     let ds = c.args.picture.now in
     let op = Contour c.args.cycle.now c.args.weight Off in
-    let weight_is : to_z w32 (of_z w32 c.args.weight) ≡ c.args.weight = omega (arith, ints) in
-    let same = with_corners_at-contour ds c.args.cycle.now c.args.weight _ (rw weight_is at c.in_ok-corners.ensures.added) in
+    let same = with_corners_at-contour ds c.args.cycle.now c.args.weight _ (rw (to_z-of_z c.ranges.weight) at c.in_ok-corners.ensures.added) in
     let has = HasWeights-same _ _ _ same c.in_ok-add_corners.ensures.weights in
     let picture = c.in_ok-add_corners.ensures.lawful in
     let made = made-from_weights ds op _ (stays_anyway ds op refl refl) picture has in

@@ -1,4 +1,4 @@
-use Rattle.std.proofs.Common.{◌≡◌, ◌≢◌, pos, neg_ℤ, ◌-ℤ◌, ◌∷◌, [], ◌++◌, ◌∙◌, sym, ap, append_assoc, arith, to_z, of_z, w32}
+use Rattle.std.proofs.Common.{◌≡◌, ◌≢◌, pos, neg_ℤ, ◌-ℤ◌, ◌∷◌, [], ◌++◌, ◌∙◌, sym, ap, append_assoc, arith, to_z, of_z, to_z-of_z, w32}
 use Rattle.std.proofs.lemmas.Int.{ints}
 use Rattle.mf_geom.specs.Path.{Segment}
 use Rattle.mf_rows.specs.declared.corner.Corner.{Corner}
@@ -15,7 +15,7 @@ returns-in_ok-push-2 c =
     let from_y : to_z w32 (of_z w32 from.y) ≡ from.y = omega (arith, ints) in
     let to_x : to_z w32 (of_z w32 to.x) ≡ to.x = omega (arith, ints) in
     let to_y : to_z w32 (of_z w32 to.y) ≡ to.y = omega (arith, ints) in
-    let weight_is : to_z w32 (of_z w32 c.args.weight) ≡ c.args.weight = omega (arith, ints) in
+    let weight_is = to_z-of_z c.ranges.weight in
     let negated : to_z w32 (of_z w32 (pos 0 -ℤ c.args.weight)) ≡ neg_ℤ c.args.weight = omega (arith, ints) in
     let vertical : to.x ≡ from.x = sym to_x ∙ ap (to_z w32) (sym c.if-from-to.true) ∙ from_x in
     let first : Corner = record { x = from.x; y = from.y; weight = c.args.weight } in

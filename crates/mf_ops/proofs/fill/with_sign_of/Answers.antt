@@ -1,4 +1,4 @@
-use Rattle.std.proofs.Common.{◌≡◌, refl, zero, suc, ℤ, pos, negsuc, ◌*ℤ◌, ◌≤ℤ◌, ◌∙◌, ap, arith, to_z, of_z, w32}
+use Rattle.std.proofs.Common.{◌≡◌, refl, zero, suc, ℤ, pos, negsuc, ◌*ℤ◌, ◌≤ℤ◌, ◌∙◌, ap, arith, to_z, of_z, to_z-of_z, w32}
 use Rattle.std.proofs.lemmas.Int.{ints}
 use Rattle.std.specs.Int.{int_signum}
 use Rattle.mf_rows.specs.Corners.{IsCornerWeight}
@@ -16,8 +16,7 @@ pub returns : goal.returns
 returns c =
     let w = c.args.weight in
     let sign : ℤ = int_signum c.args.turning in
-    let turns_is : to_z w32 (of_z w32 c.args.turning) ≡ c.args.turning = omega (arith, ints) in
-    let sign_is : c.signum.result ≡ sign = c.signum.ensures.value ∙ ap int_signum turns_is in
+    let sign_is : c.signum.result ≡ sign = c.signum.ensures.value ∙ ap int_signum (to_z-of_z c.ranges.turning) in
     let lawful =
     signed_weight w sign (record { least = c.get.ensures.lawful.least; greatest = c.get.ensures.lawful.greatest })
     (rw sign_is at c.signum.ensures.lower_bound) (rw sign_is at c.signum.ensures.upper_bound) in
