@@ -1,4 +1,4 @@
-use Rattle.std.proofs.Common.{◌≡◌, Ok, Err, get_or, to_z, of_z, w32, pos, subst, arith, rules}
+use Rattle.std.proofs.Common.{◌≡◌, Ok, Err, get_or, to_z, of_z, to_z-of_z, w32, pos, subst, arith, rules}
 use Rattle.std.specs.List.Sorted.{IsBinarySearchResult}
 use Rattle.std.specs.Ordering.{int_cmp}
 use Rattle.std.proofs.lemmas.Int.{ints}
@@ -12,8 +12,7 @@ use Rattle.mf_edges.proofs.edge.add_edge.Goals as goal
 -- the closure answers an edge's column, and the slice holds the edges
 pub returns-in-Ok-clause-weights : goal.returns-in-Ok-clause-weights
 returns-in-Ok-clause-weights c =
-    let x : to_z w32 (of_z w32 c.args.x) ≡ c.args.x = omega (arith, ints) in
-    let w : to_z w32 (of_z w32 c.args.weight) ≡ c.args.weight = omega (arith, ints) in
+    let x = to_z-of_z c.ranges.x in
     let edges = c.args.edges.now.items in
     let any : Edge = record { x = pos 0; weight = pos 0 } in
     let by_column = c.in-Ok.ensures.position (λ edge. edge.x) (answers_always _ _ _ (λ f a r g called. search rules)) in
@@ -21,12 +20,12 @@ returns-in-Ok-clause-weights c =
     let here = found_column edges c.args.x c.in-Ok.at any (rw c.deref.ensures.value at found) in
     let added : HaveWeights (with_edge_in edges (get_or edges c.in-Ok.at any).x (to_z w32 (of_z w32 c.args.weight))) c.change_edge.new.edges.items =
     c.change_edge.ensures.weights any in
-    rw (here, w) at added
+    rw (here, to_z-of_z c.ranges.weight) at added
 
 pub returns-in_ok-insert-in-Err-clause-sorted : goal.returns-in_ok-insert-in-Err-clause-sorted
 returns-in_ok-insert-in-Err-clause-sorted c =
-    let x : to_z w32 (of_z w32 c.args.x) ≡ c.args.x = omega (arith, ints) in
-    let w : to_z w32 (of_z w32 c.args.weight) ≡ c.args.weight = omega (arith, ints) in
+    let x = to_z-of_z c.ranges.x in
+    let w = to_z-of_z c.ranges.weight in
     let by_column = c.in-Err.ensures.position (λ edge. edge.x) (answers_always _ _ _ (λ f a r g called. search rules)) in
     let parted = subst (λ p. IsBinarySearchResult (λ (edge : Edge). int_cmp edge.x p) c.deref.result.now (Err c.in-Err.at)) x by_column in
     rw (c.in_ok-insert-in-Err.ensures.items, x, w) (inserted_sorted c.args.edges.now.items c.args.x c.args.weight c.in-Err.at c.requires.edges
@@ -35,9 +34,8 @@ returns-in_ok-insert-in-Err-clause-sorted c =
 
 pub returns-in_ok-insert-in-Err-clause-weights : goal.returns-in_ok-insert-in-Err-clause-weights
 returns-in_ok-insert-in-Err-clause-weights c =
-    let x : to_z w32 (of_z w32 c.args.x) ≡ c.args.x = omega (arith, ints) in
-    let w : to_z w32 (of_z w32 c.args.weight) ≡ c.args.weight = omega (arith, ints) in
-    rw (c.in_ok-insert-in-Err.ensures.items, x, w) (inserted_weights c.args.edges.now.items c.in-Err.at c.args.x c.args.weight)
+    rw (c.in_ok-insert-in-Err.ensures.items, to_z-of_z c.ranges.x, to_z-of_z c.ranges.weight)
+    (inserted_weights c.args.edges.now.items c.in-Err.at c.args.x c.args.weight)
 
 pub returns-else-weight-ne0-clause-weights : goal.returns-else-weight-ne0-clause-weights
 returns-else-weight-ne0-clause-weights c =
@@ -46,7 +44,7 @@ returns-else-weight-ne0-clause-weights c =
 
 pub returns-in_err-insert-in-Err-clause-absent : goal.returns-in_err-insert-in-Err-clause-absent
 returns-in_err-insert-in-Err-clause-absent c =
-    let x : to_z w32 (of_z w32 c.args.x) ≡ c.args.x = omega (arith, ints) in
+    let x = to_z-of_z c.ranges.x in
     let by_column = c.in-Err.ensures.position (λ edge. edge.x) (answers_always _ _ _ (λ f a r g called. search rules)) in
     let parted = subst (λ p. IsBinarySearchResult (λ (edge : Edge). int_cmp edge.x p) c.deref.result.now (Err c.in-Err.at)) x by_column in
     let fault = err_from_is_err_and c.from_residual.result c.from_residual.ensures.1 in

@@ -1,4 +1,4 @@
-use Rattle.std.proofs.Common.{◌≡◌, pos, refl, sym, ap, subst, ◌∙◌, get_or, ◌+ℤ◌, ◌-ℤ◌, to_z, of_z, w32, arith}
+use Rattle.std.proofs.Common.{pos, refl, sym, ap, subst, ◌∙◌, get_or, ◌+ℤ◌, ◌-ℤ◌, to_z, to_z-of_z, w32, arith}
 use Rattle.std.proofs.lemmas.Int.{ints}
 use Rattle.mf_edges.specs.declared.edge.Edge.{Edge}
 use Rattle.mf_edges.specs.LawfulWeights.{IsLawfulWeight}
@@ -12,7 +12,7 @@ loop-edge-init c = refl
 
 pub returns-then-x-edge : goal.returns-then-x-edge
 returns-then-x-edge c =
-    let x_is : to_z w32 (of_z w32 c.args.x) ≡ c.args.x = omega (arith, ints) in
+    let x_is = to_z-of_z c.ranges.x in
     rw x_is at c.loop-edge.invariant
     ∙ weight_in-take _ c.args.edges.now _ (record { x = pos 0; weight = pos 0 }) c.args.x c.requires.sorted c.loop-edge-test.true (grind (arith, ints))
 
@@ -21,7 +21,7 @@ next : (c : goal.After-weight-1) → let e : Edge = get_or c.args.edges.now c.lo
     IsLawfulWeight (to_z w32 c.loop-edge.weight-bits) × IsLawfulWeight (to_z w32 c.loop-edge.weight-bits +ℤ e.weight)
 next c =
     let e : Edge = get_or c.args.edges.now c.loop-edge.edge-index (record { x = pos 0; weight = pos 0 }) in
-    let x_is : to_z w32 (of_z w32 c.args.x) ≡ c.args.x = omega (arith, ints) in
+    let x_is = to_z-of_z c.ranges.x in
     let so_far = rw x_is at c.loop-edge.invariant in
     let before =
     weight_in-take_behind _ c.args.edges.now _ (record { x = pos 0; weight = pos 0 }) c.args.x c.requires.sorted c.loop-edge-test.true (grind (arith, ints)) in
@@ -38,6 +38,6 @@ loop-edge-preserved c =
     let e : Edge = get_or c.args.edges.now c.loop-edge.edge-index (record { x = pos 0; weight = pos 0 }) in
     let lawful = next c in
     let more = weight_in-take_more c.args.edges.now _ (record { x = pos 0; weight = pos 0 }) c.args.x c.loop-edge-test.true (grind (arith, ints)) in
-    let x_is : to_z w32 (of_z w32 c.args.x) ≡ c.args.x = omega (arith, ints) in
+    let x_is = to_z-of_z c.ranges.x in
     let so_far = rw x_is at c.loop-edge.invariant in
     rw x_is (omega (arith, ints))

@@ -1,4 +1,4 @@
-use Rattle.std.proofs.Common.{◌≡◌, true, false, to_z, of_z, w32, subst, arith, rules}
+use Rattle.std.proofs.Common.{◌≡◌, true, false, to_z, of_z, to_z-of_z, w32, subst, arith, rules}
 use Rattle.std.specs.List.Sorted.{IsPartitionPoint}
 use Rattle.std.proofs.lemmas.Int.{ints}
 use Rattle.std.proofs.lemmas.Fn.{always_returns_same}
@@ -9,7 +9,7 @@ split : (c : goal.After-partition_point)
     → IsPartitionPoint (λ edge. is_left_of c.args.x edge ≡ true) (λ edge. is_left_of c.args.x edge ≡ false) c.args.edges.now c.partition_point.result
 split c =
     let edges = c.args.edges.now in
-    let x_is : to_z w32 (of_z w32 c.args.x) ≡ c.args.x = omega (arith, ints) in
+    let x_is = to_z-of_z c.ranges.x in
     subst (λ x. IsPartitionPoint (λ edge. is_left_of x edge ≡ true) (λ edge. is_left_of x edge ≡ false) edges c.partition_point.result) x_is
     (c.partition_point.ensures.partitioned (is_left_of (to_z w32 (of_z w32 c.args.x)))
     (search (rules, always_returns_same)) (IsPartitionedBy-is_left_of _ _ edges c.requires))
