@@ -56,11 +56,11 @@ pub record WindowText : Type 0 where
 
 -- n tiles of line k, from a place in it on
 abbrev tiles_from : WindowText → ℤ → ℕ → ℕ → List ℕ
-tiles_from t k place n = tiles t.style t.shades k (t.window.column +ℤ pos place) n
+tiles_from t k place n = tiles (tile_at t.style t.shades k) (t.window.column +ℤ pos place) n
 
 -- all tiles of line k
 abbrev tiles_of : WindowText → ℤ → List ℕ
-tiles_of t k = tiles t.style t.shades k t.window.column t.window.columns
+tiles_of t k = tiles (tile_at t.style t.shades k) t.window.column t.window.columns
 
 -- the first n tiles of line k are written after the old text
 pub record AreTilesSoFar (t : WindowText) (k : ℤ) (n : ℕ) (text : List ℕ) : Type 0 where
@@ -101,7 +101,7 @@ tiles_all t k n text over so_far =
 -- the two cells that the code shows in a tile are those of the tile
 pub tile_here : (style : Style) (w : Window) (shades : List Shade) (above place : ℕ) (column line : ℤ)
     → column ≡ w.column +ℤ pos place → line ≡ w.line +ℤ pos above
-    → tile style (get_or shades (2 * above * w.columns + w.columns + place) Blank) (get_or shades (2 * above * w.columns + place) Blank) column line
+    → tile style (get_or shades (2 * above * w.columns + w.columns + place) Blank, get_or shades (2 * above * w.columns + place) Blank) column line
     ≡ tile_at style (shade_in w shades) (w.line +ℤ pos above) (w.column +ℤ pos place)
 unfolding shade_in
 tile_here style w shades above place column line here there =
@@ -144,15 +144,13 @@ lines_all t n text none so_far = sym (append-nil text) ∙ rw none at so_far.lin
 
 -- ---- equal cells make equal lines
 
-same_tiles : (style : Style) (f g : ℤ → ℤ → Shade) (k i : ℤ) (n : ℕ)
-    → ((c : ℤ) → i ≤ℤ c → c <ℤ (i +ℤ pos n) → (f c ((pos 2 *ℤ k) +ℤ pos 1) ≡ g c ((pos 2 *ℤ k) +ℤ pos 1)) × (f c (pos 2 *ℤ k) ≡ g c (pos 2 *ℤ k)))
-    → tiles style f k i n ≡ tiles style g k i n
+same_tiles : (f g : ℤ → List ℕ) (i : ℤ) (n : ℕ) → ((c : ℤ) → i ≤ℤ c → c <ℤ (i +ℤ pos n) → f c ≡ g c) → tiles f i n ≡ tiles g i n
 unfolding tiles
-same_tiles style f g k i zero same = refl
-same_tiles style f g k i (suc n) same =
+same_tiles f g i zero same = refl
+same_tiles f g i (suc n) same =
     let here = same i (omega (arith, ints)) (omega (arith, ints)) in
-    let others = same_tiles style f g k (i +ℤ pos 1) n (λ c from to. same c (omega (arith, ints)) (omega (arith, ints))) in
-    rw (here.0, here.1, others) refl
+    let others = same_tiles f g (i +ℤ pos 1) n (λ c from to. same c (omega (arith, ints)) (omega (arith, ints))) in
+    rw (here, others) refl
 
 same_lines : (style : Style) (f g : ℤ → ℤ → Shade) (w : Window) (n : ℕ) → ((i j : ℤ) → IsCellOf w i j → f i j ≡ g i j) → n ≤ w.lines
     → lowest_lines style f w n ≡ lowest_lines style g w n
@@ -160,10 +158,10 @@ unfolding lowest_lines
 same_lines style f g w zero same few = refl
 same_lines style f g w (suc n) same few =
     let k = w.line +ℤ pos n in
-    let tiles_here = same_tiles style f g k w.column w.columns (λ c from to. (
-      same c ((pos 2 *ℤ k) +ℤ pos 1) (record { left = from; right = to; bottom = omega (arith, ints); top = omega (arith, ints) }),
-      same c (pos 2 *ℤ k) (record { left = from; right = to; bottom = omega (arith, ints); top = omega (arith, ints) }),
-    )) in
+    let tiles_here = same_tiles (tile_at style f k) (tile_at style g k) w.column w.columns (λ c from to.
+    let upper = same c ((pos 2 *ℤ k) +ℤ pos 1) (record { left = from; right = to; bottom = omega (arith, ints); top = omega (arith, ints) }) in
+    let lower = same c (pos 2 *ℤ k) (record { left = from; right = to; bottom = omega (arith, ints); top = omega (arith, ints) }) in
+    ap (λ cells. tile style cells c k) (λ t. (upper t, lower t))) in
     let others = same_lines style f g w n same (omega arith) in
     rw (tiles_here, others) refl
 

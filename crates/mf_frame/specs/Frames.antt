@@ -1,9 +1,10 @@
 -- Frames: what a picture looks like on a canvas.
-use Rattle.std.specs.Prelude.{ℕ, zero, suc, ◌-◌, ℤ, pos, ◌+ℤ◌, ◌*ℤ◌, List, [], ◌++◌, codes, Option, None, Some}
+use Rattle.std.specs.Prelude.{ℕ, zero, suc, ◌-◌, ℤ, pos, ◌+ℤ◌, ◌*ℤ◌, List, [], ◌++◌, codes}
 use Rattle.std.specs.Fmt.{decimal, signed_decimal}
+use Rattle.std.specs.Option.{option_map_or}
 use Rattle.mf_rows.specs.declared.bounds.Box4.{Box4}
 use Rattle.mf_rows.specs.Dots.{Dot, total_of}
-use Rattle.mf_show.specs.Boxes.{box_of}
+use Rattle.mf_rows.specs.Boxes.{box_of}
 use Rattle.mf_frame.specs.declared.shade.Shade.{Shade}
 use Rattle.mf_frame.specs.declared.tile.Style.{Style}
 use Rattle.mf_frame.specs.declared.tile.Style.TheVariants.{Colored, Plain}
@@ -11,20 +12,20 @@ use Rattle.mf_frame.specs.declared.window.Window.{Window}
 use Rattle.mf_frame.specs.Canvases.{Size, picture_lines}
 use Rattle.mf_frame.specs.Cells.{cell_shade}
 use Rattle.mf_frame.specs.Tiles.{tile, tile_end, line_start}
-use Rattle.mf_frame.specs.Windows.{scale_of, window_at}
+use Rattle.mf_frame.specs.Windows.{window_of}
 
 -- the tile of column i in line k, where f has the shades of cells: those of rows 2 * k + 1 and 2 * k
 abbrev pub tile_at : Style → (ℤ → ℤ → Shade) → ℤ → ℤ → List ℕ
-tile_at style f k i = tile style (f i ((pos 2 *ℤ k) +ℤ pos 1)) (f i (pos 2 *ℤ k)) i k
+tile_at style f k i = tile style (f i ((pos 2 *ℤ k) +ℤ pos 1), f i (pos 2 *ℤ k)) i k
 
--- n tiles of line k from column i on
-unfoldable pub tiles : Style → (ℤ → ℤ → Shade) → ℤ → ℤ → ℕ → List ℕ
-tiles style f k i zero = []
-tiles style f k i (suc n) = tile_at style f k i ++ tiles style f k (i +ℤ pos 1) n
+-- n tiles of a line from column i on
+unfoldable pub tiles : (ℤ → List ℕ) → ℤ → ℕ → List ℕ
+tiles tile_in i zero = []
+tiles tile_in i (suc n) = tile_in i ++ tiles tile_in (i +ℤ pos 1) n
 
 -- line k of a window
 abbrev pub window_line : Style → (ℤ → ℤ → Shade) → Window → ℤ → List ℕ
-window_line style f w k = line_start style ++ tiles style f k w.column w.columns ++ tile_end style
+window_line style f w k = line_start style ++ tiles (tile_at style f k) w.column w.columns ++ tile_end style
 
 -- the n lowest lines of a window, from the highest of them downwards
 unfoldable pub lowest_lines : Style → (ℤ → ℤ → Shade) → Window → ℕ → List ℕ
@@ -64,21 +65,18 @@ measures style b s =
     line_start style ++ codes "columns " ++ range b.min_x b.max_x ++ codes "  rows " ++ range b.min_y b.max_y
     ++ codes "  scale " ++ signed_decimal s ++ codes "\n"
 
--- the frame of a picture with this least box and window
-unfoldable pub box_frame : Style → Size → ℕ → List Dot → Box4 → Window → List ℕ
-box_frame style canvas revision ds b w =
-    empty_lines_above style canvas w.lines ++ window_lines style (cell_shade w.scale ds) w ++ heading style revision (total_of ds) ++ measures style b w.scale
+-- the lines of a picture with this window, after the empty lines above them
+abbrev pub picture_text : Style → Size → List Dot → Window → List ℕ
+picture_text style canvas ds w = empty_lines_above style canvas w.lines ++ window_lines style (cell_shade w.scale ds) w
 
 -- the frame of the blank picture
 unfoldable pub blank_frame : Style → Size → ℕ → List Dot → List ℕ
 blank_frame style canvas revision ds =
     empty_lines_above style canvas 0 ++ heading style revision (total_of ds) ++ line_start style ++ codes "blank  scale 1\n"
 
--- the frame of a picture with this least box
-abbrev pub frame_of : Style → Size → ℕ → List Dot → Option Box4 → List ℕ
-frame_of style canvas revision ds None = blank_frame style canvas revision ds
-frame_of style canvas revision ds (Some b) = box_frame style canvas revision ds b (window_at b (scale_of canvas b))
-
--- the frame of a picture
+-- the frame of a picture, by its least box
 unfoldable pub frame_text : Style → Size → ℕ → List Dot → List ℕ
-frame_text style canvas revision ds = frame_of style canvas revision ds (box_of ds)
+frame_text style canvas revision ds =
+    option_map_or
+    (λ b. picture_text style canvas ds (window_of canvas b) ++ heading style revision (total_of ds) ++ measures style b (window_of canvas b).scale)
+    (box_of ds) (blank_frame style canvas revision ds)

@@ -64,6 +64,10 @@ color_of One = codes "238"
 color_of Two = codes "25"
 color_of More = codes "16"
 
+-- the number of the color of an axis
+abbrev pub axis_color : List ℕ
+axis_color = codes "250"
+
 -- what sets the color of a character and that of its background
 abbrev pub colors : List ℕ → List ℕ → List ℕ
 colors front back = escape ++ codes "[38;5;" ++ front ++ codes ";48;5;" ++ back ++ codes "m"
@@ -71,13 +75,13 @@ colors front back = escape ++ codes "[38;5;" ++ front ++ codes ";48;5;" ++ back 
 -- a tile in colors: its upper half in the front, its lower half behind, or the axis where both are blank
 abbrev pub colored_tile : Shade → Shade → ℤ → ℤ → List ℕ
 colored_tile upper lower column line =
-    if (is_blank_shade upper && is_blank_shade lower) && is_at_axis column line then colors (codes "250") (codes "255") ++ axis_mark column line
+    if (is_blank_shade upper && is_blank_shade lower) && is_at_axis column line then colors axis_color (color_of Blank) ++ axis_mark column line
     else (colors (color_of upper) (color_of lower) ++ upper_half)
 
--- a tile of a style
-abbrev pub tile : Style → Shade → Shade → ℤ → ℤ → List ℕ
-tile Plain upper lower column line = plain_tile upper lower column line
-tile Colored upper lower column line = colored_tile upper lower column line
+-- a tile of a style, whose upper and lower cell have these shades
+abbrev pub tile : Style → Shade × Shade → ℤ → ℤ → List ℕ
+tile Plain cells column line = plain_tile cells.0 cells.1 column line
+tile Colored cells column line = colored_tile cells.0 cells.1 column line
 
 -- the start of a line: in colors, what erases the line that stood there. (At the end of a line that is as wide as the terminal,
 -- it would erase the last character.)

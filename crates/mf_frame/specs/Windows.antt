@@ -40,6 +40,10 @@ lesser_scales = unsigned_abs (greatest_coordinate -ℤ pos 1)
 unfoldable pub scale_of : Size → Box4 → ℤ
 scale_of canvas b = first_fitting canvas b (pos 1) lesser_scales
 
+-- the window of a box at its scale
+abbrev pub window_of : Size → Box4 → Window
+window_of canvas b = window_at b (scale_of canvas b)
+
 -- a scale is at least 1, and at most the greatest coordinate
 pub record IsScale (s : ℤ) : Type 0 where
   pub least : pos 1 ≤ℤ s

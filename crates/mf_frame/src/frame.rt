@@ -1,13 +1,13 @@
 //! Frames.
 ghost use Rattle.std.specs.Prelude.{◌≡◌, ◌≤◌, ◌<◌, ◌*◌, ◌++◌, pos, ◌+ℤ◌, length, IfOk};
 ghost use Rattle.mf_rows.specs.Bounds.{IsLeastBox};
-ghost use Rattle.mf_show.specs.Boxes.{IsBoxOfField};
+ghost use Rattle.mf_rows.specs.Boxes.{IsBoxOfField};
 ghost use Rattle.mf_frame.specs.Canvases.{picture_lines};
 ghost use Rattle.mf_frame.specs.Cells.{shade_in};
-ghost use Rattle.mf_frame.specs.Frames.{blank_frame, box_frame, empty_lines, frame_text, heading, measures, empty_lines_above, range};
+ghost use Rattle.mf_frame.specs.Frames.{blank_frame, empty_lines, frame_text, heading, measures, empty_lines_above, range};
 ghost use Rattle.mf_frame.specs.Frames.{window_line, window_lines};
 ghost use Rattle.mf_frame.specs.declared.tile.Style.TheVariants.{Colored};
-ghost use Rattle.mf_frame.specs.Windows.{IsWindow, scale_of, window_at};
+ghost use Rattle.mf_frame.specs.Windows.{IsWindow};
 
 use crate::canvas::Canvas;
 use crate::cells::cells_of;
@@ -50,7 +50,7 @@ fn draw_box(
     bounds: &Box4,
 ) -> Result<Vec<u8>, OutOfMemory>
     requires { IsLeastBox picture.now bounds.now }
-    ensures { IfOk result (λ text. text.items ≡ box_frame style canvas revision picture.now bounds.now (window_at bounds.now (scale_of canvas bounds.now))) }
+    ensures { IfOk result (λ text. text.items ≡ frame_text style canvas revision picture.now) }
 {
     let total = picture.total();
     let window = Window::fitting(bounds, canvas);

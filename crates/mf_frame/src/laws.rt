@@ -3,7 +3,7 @@
 ghost use Rattle.std.specs.Prelude.{◌↔◌, ◌<ℤ◌, ◌≤ℤ◌, ℤ, pos, IsTrue, IsFalse, List};
 ghost use Rattle.mf_rows.specs.Dots.{Dot, IsPicture};
 ghost use Rattle.mf_rows.specs.declared.bounds.Box4.{Box4};
-ghost use Rattle.mf_show.specs.Boxes.{IsBoxOfField};
+ghost use Rattle.mf_rows.specs.Boxes.{IsBoxOfField};
 ghost use Rattle.mf_frame.specs.Canvases.{IsSize, Size};
 ghost use Rattle.mf_frame.specs.Cells.{HasPositivePixel, cell_shade, is_dark};
 ghost use Rattle.mf_frame.specs.Windows.{fits_on, scale_of, window_at};

@@ -23,7 +23,7 @@ pub(crate) fn push_tile(
     column: i32,
     line: i32,
 ) -> Result<(), OutOfMemory>
-    ensures { IfOk result (λ _. text.new.items ≡ text.old.items ++ tile style upper lower column line) }
+    ensures { IfOk result (λ _. text.new.items ≡ text.old.items ++ tile style (upper, lower) column line) }
 {
     match style {
         Style::Plain => push(text, plain_tile(upper, lower, column, line)),

@@ -1,9 +1,9 @@
 //! The window of cells that a frame shows.
 ghost use Rattle.std.specs.Prelude.{◌≡◌, ◌&&◌, ◌≤◌, nat_le};
-ghost use Rattle.mf_show.specs.Boxes.{IsBoxOfField};
+ghost use Rattle.mf_rows.specs.Boxes.{IsBoxOfField};
 ghost use Rattle.mf_frame.specs.Canvases.{picture_lines};
 ghost use Rattle.mf_frame.specs.Cells.{cell_of};
-ghost use Rattle.mf_frame.specs.Windows.{IsScale, IsWindow, line_of, scale_of, window_at};
+ghost use Rattle.mf_frame.specs.Windows.{IsScale, IsWindow, line_of, window_at, window_of};
 
 use crate::canvas::Canvas;
 use mf_geom::MAX_COORDINATE;
@@ -34,7 +34,7 @@ impl Window {
     /// The window of a box at the least scale at which it fits on a canvas.
     pub(crate) fn fitting(bounds: &Box4, canvas: Canvas) -> Window
         requires { IsBoxOfField bounds.now }
-        ensures value { result ≡ window_at bounds.now (scale_of canvas bounds.now) }
+        ensures value { result ≡ window_of canvas bounds.now }
         ensures lawful { IsWindow result }
         ensures lines { result.lines ≤ picture_lines canvas }
     {

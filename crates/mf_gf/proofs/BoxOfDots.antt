@@ -1,77 +1,47 @@
 -- The box of pixels of the field, and the bytes that begin its character, read back.
-use Rattle.std.proofs.Common.{◌≡◌, ℕ, suc, ◌-◌, ◌^◌, nat_lt, true, ◌&&◌, ℤ, pos, negsuc, ◌+ℤ◌, ◌-ℤ◌, ◌≤ℤ◌, unsigned_abs}
+use Rattle.std.proofs.Common.{◌≡◌, ℕ, suc, ◌-◌, ◌^◌, nat_lt, true, ◌&&◌, ℤ, pos, negsuc, ◌-ℤ◌, ◌≤ℤ◌, unsigned_abs}
 use Rattle.std.proofs.Common.{List, [], ◌∷◌, ◌++◌, ◌<◌, Some, refl, sym, ap, ap₂, ◌∙◌, arith, lt-ltb, le-ltb}
 use Rattle.std.specs.List.{All}
 use Rattle.std.specs.Ordering.{int_eq}
 use Rattle.std.proofs.lemmas.Bool.{cond_both, cond-true, cond-false, and_parts, false≢true}
 use Rattle.std.proofs.lemmas.Bool.Decides.{Decides-int_eq}
-use Rattle.std.proofs.lemmas.Int.{ints, clamps}
-use Rattle.std.proofs.lemmas.List.Elements.{All-head, All-cons, All-nil, All-weaker}
+use Rattle.std.proofs.lemmas.Int.{ints}
+use Rattle.std.proofs.lemmas.List.Elements.{All-head, All-nil, All-weaker}
 use Rattle.mf_geom.specs.Coordinates.{least_coordinate, last_in_field, IsCoordinate}
 use Rattle.byteorder.specs.Endian.{big_number, twos_complement}
 use Rattle.byteorder.specs.Numbers.{big_number-reads_back}
-use Rattle.mf_rows.specs.Dots.{Dot, IsDot, AreDotsFrom, place}
+use Rattle.mf_rows.specs.Bounds.{IsDotIn}
+use Rattle.mf_rows.specs.Boxes.{box_of_dots}
+use Rattle.mf_rows.specs.Dots.{Dot, IsPicture, AreDotsFrom, place}
+use Rattle.mf_rows.proofs.BoxesOfDots.{least_box_of_dots, least_box_of_field}
 use Rattle.mf_gf.specs.declared.boxes.CharacterBox.{CharacterBox}
-use Rattle.mf_gf.specs.Boxes.{box_of_pixels, box_of_pixel, join}
+use Rattle.mf_gf.specs.Boxes.{box_of_pixels}
 use Rattle.mf_gf.specs.Numbers.{IsWord, code_count, word}
 use Rattle.mf_gf.specs.Painting.{pixels_from, pixels_in, pixels_of_character, head_of}
 use Rattle.mf_gf.proofs.BoxesInRange.{IsBoxInRange}
 use Rattle.mf_gf.specs.Spelling.{is_byte, is_short, short_begin, long_begin, begin}
 
--- the left end and the top of a box are coordinates that the field allows
-pub record IsSmall (b : CharacterBox) : Type 0 where
-  pub left : least_coordinate ≤ℤ b.min_m
-  pub right : b.min_m ≤ℤ last_in_field
-  pub bottom : least_coordinate ≤ℤ b.max_n
-  pub top : b.max_n ≤ℤ last_in_field
-
--- a pixel lies in the first column of a box or to the right of it, and in its top row or below
-pub record StandsIn (b : CharacterBox) (d : Dot) : Type 0 where
-  pub column : b.min_m ≤ℤ d.x
-  pub row : d.y ≤ℤ b.max_n
-
--- a box encloses pixels, as far as its left end and its top are concerned
+-- a pen that starts at the left end and the top of a box can paint pixels
 pub record IsBoxOf (b : CharacterBox) (ds : List Dot) : Type 0 where
-  pub small : IsSmall b
-  pub dots : All (StandsIn b) ds
+  pub left : least_coordinate ≤ℤ b.min_m
+  pub top : b.max_n ≤ℤ last_in_field
+  pub columns : All (λ (d : Dot). b.min_m ≤ℤ d.x) ds
+  pub dots : AreDotsFrom (place b.min_m b.max_n) ds
 
-box_round_pixel : (d : Dot) → IsDot d → IsBoxOf (box_of_pixel d) (d ∷ [])
-box_round_pixel d dot = record {
-  small = record { left = dot.in_field.left; right = dot.in_field.right; bottom = dot.in_field.bottom; top = dot.in_field.top };
-  dots = All-cons (StandsIn (box_of_pixel d)) d [] (record { column = omega (arith, ints); row = omega (arith, ints) }) (All-nil (StandsIn (box_of_pixel d)));
-}
-
-box_round_more : (b : CharacterBox) (d : Dot) (ds : List Dot) → IsDot d → IsBoxOf b ds → IsBoxOf (join (box_of_pixel d) b) (d ∷ ds)
-box_round_more b d ds dot others =
-    let all = join (box_of_pixel d) b in
-    let field = dot.in_field in
-    let small = others.small in
+pub box_round_dots : (ds : List Dot) → IsPicture ds → IsBoxOf (box_of_pixels ds) ds
+unfolding box_of_pixels place
+box_round_dots [] picture = record { left = omega (arith, ints); top = omega (arith, ints); columns = All-nil (λ (d : Dot). pos 0 ≤ℤ d.x); dots = tt }
+box_round_dots (d ∷ ds) picture =
+    let b = box_of_dots d ds in
+    let least = least_box_of_dots d ds in
+    let field = least_box_of_field (d ∷ ds) b picture least in
+    let first = All-head (IsDotIn b) d ds least.within in
     record {
-      small = record {
-        left = omega (arith, ints, clamps, field, small);
-        right = omega (arith, ints, clamps, field, small);
-        bottom = omega (arith, ints, clamps, field, small);
-        top = omega (arith, ints, clamps, field, small);
-      };
-      dots = All-cons (StandsIn all) d ds (record { column = omega (arith, ints, clamps); row = omega (arith, ints, clamps) })
-          (All-weaker (StandsIn b) (StandsIn all)
-          (λ e stands. record { column = omega (arith, ints, clamps, stands); row = omega (arith, ints, clamps, stands) }) ds others.dots);
+      left = field.left;
+      top = field.top;
+      columns = All-weaker (IsDotIn b) (λ e. b.min_x ≤ℤ e.x) (λ e inside. inside.left) (d ∷ ds) least.within;
+      dots = (picture.dots.0, omega (arith, ints, first), picture.dots.2);
     }
-
-pub box_round_dots : (low : ℤ) (ds : List Dot) → AreDotsFrom low ds → IsBoxOf (box_of_pixels ds) ds
-unfolding box_of_pixels
-box_round_dots low [] dots = record {
-  small = record { left = omega (arith, ints); right = omega (arith, ints); bottom = omega (arith, ints); top = omega (arith, ints) };
-  dots = All-nil (StandsIn (box_of_pixels []));
-}
-box_round_dots low (d ∷ []) dots = box_round_pixel d dots.0
-box_round_dots low (d ∷ e ∷ ds) dots = box_round_more (box_of_pixels (e ∷ ds)) d (e ∷ ds) dots.0 (box_round_dots (place d.x d.y +ℤ pos 1) (e ∷ ds) dots.2)
-
--- so a pen that starts at the left end and the top of the box can paint the pixels
-pub dots_from_box : (low : ℤ) (b : CharacterBox) (ds : List Dot) → AreDotsFrom low ds → IsBoxOf b ds → AreDotsFrom (place b.min_m b.max_n) ds
-unfolding place
-dots_from_box low b [] dots round = tt
-dots_from_box low b (d ∷ ds) dots round = let first = All-head (StandsIn b) d ds round.dots in (dots.0, omega (arith, ints, first), dots.2)
 
 -- a signed number of four bytes is read back
 pub word-reads_back : (z : ℤ) (rest : List ℕ) → IsWord z → twos_complement 4 (big_number 4 (word z ++ rest)) ≡ z

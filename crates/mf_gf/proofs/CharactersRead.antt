@@ -7,7 +7,7 @@ use Rattle.std.proofs.lemmas.Int.{ints}
 use Rattle.std.proofs.lemmas.List.{drop-append-le}
 use Rattle.std.proofs.lemmas.List.Elements.{All-head, All-tail}
 use mathlib.Core.List.{reverse-cons}
-use Rattle.mf_rows.specs.Dots.{Dot, start_of_field}
+use Rattle.mf_rows.specs.Dots.{Dot}
 use Rattle.mf_rows.specs.Runs.{runs_of}
 use Rattle.mf_gf.specs.Boxes.{box_of_pixels}
 use Rattle.mf_gf.specs.Files.{Character, FileSoFar, Shipment, bytes_so_far, last_shipment, last_place, shipments, spell_after, with_character, with_characters}
@@ -17,7 +17,7 @@ use Rattle.mf_gf.specs.Painting.{head_of, pixels_of_character}
 use Rattle.mf_gf.specs.Pixels.{IsPixelSet}
 use Rattle.mf_gf.specs.Pointers.{IsCharacterAt, IsShippable, LeadsBack}
 use Rattle.mf_gf.specs.Spelling.{begin, pointer, rows, spell}
-use Rattle.mf_gf.proofs.BoxesInRange.{box_from}
+use Rattle.mf_gf.proofs.BoxesInRange.{box_in_range}
 use Rattle.mf_gf.proofs.BoxOfDots.{head-begin}
 use Rattle.mf_gf.proofs.LocatorsRead.{split}
 use Rattle.mf_gf.proofs.PaintedBack.{paint-spell}
@@ -33,7 +33,7 @@ head-spell code p ds rest fits p_fits set =
     let all = rows b.min_m b.max_n b.min_m (runs_of ds) in
     ap (λ bytes. head_of (bytes ++ rest)) (append_assoc (begin code p b) all (gf.eoc ∷ []))
     ∙ ap head_of (append_assoc (begin code p b) (all ++ gf.eoc ∷ []) rest)
-    ∙ head-begin code p b (all ++ gf.eoc ∷ [] ++ rest) fits p_fits (box_from start_of_field ds set.picture.dots)
+    ∙ head-begin code p b (all ++ gf.eoc ∷ [] ++ rest) fits p_fits (box_in_range ds set.picture)
 
 -- a character is in the bytes at its place, and has this p
 pub record StandsAt (bytes : List ℕ) (s : Shipment) (p : ℤ) : Type 0 where

@@ -2,6 +2,7 @@
 use Rattle.std.specs.Prelude.{pos, ◌+ℤ◌, ◌-ℤ◌, List, [], ◌∷◌, Option, None, Some}
 use Rattle.std.specs.Int.{int_max, int_min}
 use Rattle.mf_rows.specs.declared.bounds.Box4.{Box4}
+use Rattle.mf_rows.specs.Boxes.{box_of_dots}
 use Rattle.mf_rows.specs.Dots.{Dot}
 use Rattle.mf_gf.specs.declared.boxes.CharacterBox.{CharacterBox}
 
@@ -9,9 +10,9 @@ use Rattle.mf_gf.specs.declared.boxes.CharacterBox.{CharacterBox}
 abbrev pub no_box : CharacterBox
 no_box = record { min_m = pos 0; max_m = pos 0; min_n = pos 0; max_n = pos 0 }
 
--- the box of a pixel: m may be at its left and its right end
-abbrev pub box_of_pixel : Dot → CharacterBox
-box_of_pixel d = record { min_m = d.x; max_m = d.x +ℤ pos 1; min_n = d.y; max_n = d.y }
+-- the box of a character whose pixels have this least box: m may be at the left and the right end of each pixel
+abbrev pub character_box : Box4 → CharacterBox
+character_box b = record { min_m = b.min_x; max_m = b.max_x +ℤ pos 1; min_n = b.min_y; max_n = b.max_y }
 
 -- the least box around two boxes
 abbrev pub join : CharacterBox → CharacterBox → CharacterBox
@@ -27,11 +28,10 @@ abbrev pub widen : Option CharacterBox → CharacterBox → CharacterBox
 widen None b = b
 widen (Some before) b = join before b
 
--- the box of a set of pixels: the least one around them
+-- the box of a set of pixels: that of the least box around them
 unfoldable pub box_of_pixels : List Dot → CharacterBox
 box_of_pixels [] = no_box
-box_of_pixels (d ∷ []) = box_of_pixel d
-box_of_pixels (d ∷ e ∷ ds) = join (box_of_pixel d) (box_of_pixels (e ∷ ds))
+box_of_pixels (d ∷ ds) = character_box (box_of_dots d ds)
 
 -- the box of the pixels in a box: the last column is the one before the right end
 abbrev pub pixel_box : CharacterBox → Box4

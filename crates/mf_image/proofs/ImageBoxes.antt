@@ -1,16 +1,16 @@
 -- The boxes of images.
-use Rattle.std.proofs.Common.{◌≡◌, ◌+◌, ◌+ℤ◌, to_z, of_z, w32, ℕ, ℤ, ◌<◌, ◌≤◌, ◌⊎◌, inl, inr, pos, ◌≤ℤ◌, List, [], ◌∷◌, refl, sym, ⊎_elim, arith}
+use Rattle.std.proofs.Common.{◌≡◌, ◌+◌, ◌+ℤ◌, to_z, of_z, w32, ℕ, ℤ, ◌≤◌, pos, ◌≤ℤ◌, List, [], ◌∷◌, refl, sym, ⊎_elim, arith}
 use Rattle.std.proofs.lemmas.Int.{ints}
 use Rattle.mf_geom.specs.Coordinates.{field_size, least_coordinate, last_in_field}
 use Rattle.mf_rows.specs.declared.bounds.Box4.{Box4}
 use Rattle.mf_rows.specs.Bounds.{IsLeastBox}
 use Rattle.mf_rows.specs.Dots.{Dot, IsPicture}
 use Rattle.mf_rows.proofs.BoxesJoined.{box_of_some}
-use Rattle.mf_show.specs.Boxes.{IsBoxOfField, box_of_dots}
+use Rattle.mf_rows.specs.Boxes.{IsBoxOfField, box_of_dots}
 use Rattle.mf_show.specs.Grid.{extent}
-use Rattle.mf_show.proofs.LeastBoxes.{least_box_of_dots, least_box_of_field, same_least_box}
+use Rattle.mf_rows.proofs.BoxesOfDots.{least_box_of_dots, least_box_of_field, same_least_box}
 use Rattle.mf_image.specs.declared.svg_image.ViewBox.{ViewBox}
-use Rattle.mf_image.specs.Boxes.{IsImageBox, IsTooLargeForImage, greatest_side, image_box, origin}
+use Rattle.mf_image.specs.Boxes.{IsImageBox, IsTooLargeForImage, image_box, origin}
 use Rattle.mf_image.specs.Svg.{IsSmall, IsSmallBox, view_box_of}
 
 least_is_image_box : (ds : List Dot) (b : Box4) → IsLeastBox ds b → b ≡ image_box ds
@@ -38,17 +38,8 @@ box_of_blank ds blank =
       };
     }
 
-pub is_small : (ds : List Dot) (b : Box4) → b ≡ image_box ds → extent b.min_x b.max_x ≤ greatest_side → extent b.min_y b.max_y ≤ greatest_side
-    → IsTooLargeForImage ds → ⊥
-is_small ds b is narrow low large = ⊎_elim (λ wide. omega (arith, narrow, wide)) (λ high. omega (arith, low, high)) (rw (sym is) at large)
-
 pub blank_is_small : (ds : List Dot) → ds ≡ [] → IsTooLargeForImage ds → ⊥
-blank_is_small ds blank = is_small ds origin (box_of_blank ds blank).is (omega (arith, ints)) (omega (arith, ints))
-
-pub is_large : (ds : List Dot) (b : Box4) (columns rows : ℕ) → b ≡ image_box ds → columns ≡ extent b.min_x b.max_x → rows ≡ extent b.min_y b.max_y
-    → (greatest_side < columns) ⊎ ((columns ≤ greatest_side) × (greatest_side < rows)) → IsTooLargeForImage ds
-is_large ds b columns rows is wide high (inl more) = inl (rw (← is, ← wide) more)
-is_large ds b columns rows is wide high (inr more) = inr (rw (← is, ← high) more.1)
+blank_is_small ds blank large = ⊎_elim (λ wide. omega (arith, wide)) (λ high. omega (arith, high)) (rw (sym (box_of_blank ds blank).is) at large)
 
 -- ---- the numbers of a view box
 

@@ -4,7 +4,7 @@ use Rattle.std.specs.Int.{int_max, int_min}
 use Rattle.std.specs.List.{All, flat_map, fold}
 use Rattle.std.proofs.lemmas.Int.{ints, int_max_is, int_min_is}
 use Rattle.std.proofs.lemmas.List.{append-nil}
-use Rattle.std.proofs.lemmas.List.Elements.{All-head, All-rest, All-same}
+use Rattle.std.proofs.lemmas.List.Elements.{All-rest}
 use Rattle.mf_rows.specs.declared.run.Run.{Run}
 use Rattle.mf_rows.specs.Dots.{Dot, IsPicture}
 use Rattle.mf_rows.specs.Order.{IsRun}
@@ -12,6 +12,7 @@ use Rattle.mf_rows.specs.Runs.{runs_of}
 use Rattle.mf_rows.proofs.PassedRuns.{runs_are_lawful}
 use Rattle.mf_show.specs.Grid.{extent}
 use Rattle.mf_show.proofs.ShownRows.{extent-next, extent-none}
+use Rattle.mf_show.proofs.WrittenRuns.{first_is_lawful}
 use Rattle.std.specs.Fmt.{signed_decimal}
 use Rattle.mf_edges.specs.LawfulWeights.{least_weight, greatest_weight}
 use Rattle.mf_image.specs.Svg.{color, greatest_weight_of, least_weight_of, path_of_weight, paths, paths_from, rectangle_of, weights_of}
@@ -39,9 +40,6 @@ none_spanned ds rs picture all = record {
   high = omega (arith, ints);
 }
 
-pub first_is_lawful : (rs : List Run) (r : Run) (others : List Run) → rs ≡ r ∷ others → All IsRun rs → IsRun r
-first_is_lawful rs r others first runs = All-head IsRun r others (All-same IsRun (r ∷ others) rs (sym first) runs)
-
 pub one_more_spanned : (ds : List Dot) (rs : List Run) (r : Run) (others : List Run) (least greatest low high : ℤ) → rs ≡ r ∷ others
     → low ≡ int_min least r.weight → high ≡ int_max greatest r.weight → AreSpanned ds rs least greatest → AreSpanned ds others low high
 one_more_spanned ds rs r others least greatest low high first lesser greater so_far =
@@ -60,29 +58,6 @@ pub all_spanned : (ds : List Dot) (rs : List Run) (least greatest : ℤ) → rs 
     → (least ≡ least_weight_of (runs_of ds)) × (greatest ≡ greatest_weight_of (runs_of ds))
 all_spanned ds rs least greatest none so_far =
     (ap (λ all. fold int_min least (weights_of all)) (sym none) ∙ so_far.below, ap (λ all. fold int_max greatest (weights_of all)) (sym none) ∙ so_far.above)
-
--- ---- the rectangles of a weight
-
--- with the rectangles of the last runs, rs, the text so far is whole
-pub record AreDrawn (w : ℤ) (whole : List ℕ) (rs : List Run) (text : List ℕ) : Type 0 where
-  pub runs : All IsRun rs
-  pub lines : text ++ flat_map (rectangle_of w) rs ≡ whole
-
-pub none_drawn : (w : ℤ) (ds : List Dot) (old : List ℕ) (rs : List Run) → IsPicture ds → rs ≡ runs_of ds
-    → AreDrawn w (old ++ flat_map (rectangle_of w) (runs_of ds)) rs old
-none_drawn w ds old rs picture all = record { runs = runs_are_lawful ds rs picture all; lines = rw all refl }
-
-pub one_more_drawn : (w : ℤ) (whole : List ℕ) (rs : List Run) (r : Run) (others : List Run) (text new : List ℕ) → rs ≡ r ∷ others
-    → new ≡ text ++ rectangle_of w r → AreDrawn w whole rs text → AreDrawn w whole others new
-one_more_drawn w whole rs r others text new first line so_far = record {
-  runs = All-rest IsRun r others rs first so_far.runs;
-  lines =
-      rw line (append_assoc text (rectangle_of w r) (flat_map (rectangle_of w) others))
-      ∙ ap (λ all. text ++ flat_map (rectangle_of w) all) (sym first) ∙ so_far.lines;
-}
-
-pub all_drawn : (w : ℤ) (whole : List ℕ) (rs : List Run) (text : List ℕ) → rs ≡ [] → AreDrawn w whole rs text → text ≡ whole
-all_drawn w whole rs text none so_far = sym (append-nil text) ∙ ap (λ all. text ++ flat_map (rectangle_of w) all) (sym none) ∙ so_far.lines
 
 -- ---- the paths
 

@@ -1,9 +1,9 @@
 -- The box of an image: the least box of its picture.
-use Rattle.std.specs.Prelude.{◌≡◌, ◌<◌, ◌⊎◌, ℕ, pos, List, [], ◌∷◌}
+use Rattle.std.specs.Prelude.{◌≡◌, ℕ, pos, List, [], ◌∷◌}
 use Rattle.mf_rows.specs.declared.bounds.Box4.{Box4}
 use Rattle.mf_rows.specs.Dots.{Dot}
-use Rattle.mf_show.specs.Boxes.{IsBoxOfField, box_of_dots}
-use Rattle.mf_show.specs.Grid.{extent}
+use Rattle.mf_rows.specs.Boxes.{IsBoxOfField, box_of_dots}
+use Rattle.mf_show.specs.Grid.{IsLargerThan}
 
 -- the box of the pixel at the origin
 abbrev pub origin : Box4
@@ -18,13 +18,9 @@ image_box (d ∷ ds) = box_of_dots d ds
 abbrev pub greatest_side : ℕ
 greatest_side = 4096
 
--- a box has more columns or rows than an image may have
-abbrev pub IsLargeBox : Box4 → Type 0
-IsLargeBox b = (greatest_side < extent b.min_x b.max_x) ⊎ (greatest_side < extent b.min_y b.max_y)
-
 -- the box of the image of a picture has more columns or rows than an image may have
 abbrev pub IsTooLargeForImage : List Dot → Type 0
-IsTooLargeForImage ds = IsLargeBox (image_box ds)
+IsTooLargeForImage ds = IsLargerThan greatest_side (image_box ds)
 
 -- the box is that of a picture's image
 pub record IsImageBox (ds : List Dot) (b : Box4) : Type 0 where

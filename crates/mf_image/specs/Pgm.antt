@@ -5,7 +5,7 @@ use Rattle.std.specs.Int.RustNames.{unsigned_abs}
 use Rattle.std.specs.Ordering.{int_eq}
 use Rattle.mf_rows.specs.declared.bounds.Box4.{Box4}
 use Rattle.mf_rows.specs.Dots.{Dot}
-use Rattle.mf_show.specs.Grid.{extent, shown_box}
+use Rattle.mf_show.specs.Grid.{extent, shown_at, shown_box}
 use Rattle.mf_image.specs.Boxes.{image_box}
 
 -- gray levels: that of weight 0, the step between those of 1, 2 and 3, and the one from which those of negative weights are counted
@@ -42,7 +42,7 @@ pgm_head b =
 
 -- the bytes of the pixels of a box
 abbrev pub box_bytes : List Dot → Box4 → List ℕ
-box_bytes ds b = shown_box level [] ds b
+box_bytes ds b = shown_box (shown_at level ds) [] b
 
 -- the PGM image of a picture
 unfoldable pub pgm_bytes : List Dot → List ℕ

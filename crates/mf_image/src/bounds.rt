@@ -3,7 +3,7 @@ ghost use Rattle.std.specs.Prelude.{◌↔◌, IfSome, IsNone};
 ghost use Rattle.mf_image.specs.Boxes.{IsImageBox, IsTooLargeForImage};
 
 use mf_rows::{Box4, Picture};
-use mf_show::extent;
+use mf_show::is_larger_than;
 
 /// The greatest number of columns, and of rows, of an image.
 pub const MAX_SIDE: u32 = 4096;
@@ -25,9 +25,7 @@ pub(crate) fn image_box(picture: &Picture) -> Option<Box4>
     let Some(bounds) = picture.bounds() else {
         return Some(ORIGIN);
     };
-    let columns = extent(bounds.min_x, bounds.max_x);
-    let rows = extent(bounds.min_y, bounds.max_y);
-    if columns > MAX_SIDE || rows > MAX_SIDE {
+    if is_larger_than(&bounds, MAX_SIDE) {
         return None;
     }
     Some(bounds)

@@ -1,8 +1,8 @@
 //! PGM images.
 ghost use Rattle.std.specs.Prelude.{◌≡◌, ◌↔◌, ◌≤ℤ◌, ◌++◌, Err, IfOk};
 ghost use Rattle.mf_geom.specs.Coordinates.{least_coordinate, last_in_field};
-ghost use Rattle.mf_show.specs.Boxes.{IsBoxOfField};
-ghost use Rattle.mf_show.specs.Grid.{extent, shown_row};
+ghost use Rattle.mf_rows.specs.Boxes.{IsBoxOfField};
+ghost use Rattle.mf_show.specs.Grid.{extent, shown_at, shown_row};
 ghost use Rattle.mf_image.specs.Boxes.{IsImageBox, IsTooLargeForImage};
 ghost use Rattle.mf_image.specs.Pgm.{level, pgm_bytes, pgm_head};
 
@@ -66,7 +66,7 @@ fn push_row(
     requires least { least_coordinate ≤ℤ first }
     requires greatest { last ≤ℤ last_in_field }
     requires columns { first ≤ℤ last }
-    ensures { IfOk result (λ _. bytes.new.items ≡ bytes.old.items ++ shown_row level picture.now y first (extent first last)) }
+    ensures { IfOk result (λ _. bytes.new.items ≡ bytes.old.items ++ shown_row (shown_at level picture.now y) first (extent first last)) }
 {
     for x in first..last + 1 {
         bytes.push(level(picture.weight(x, y)))?;

@@ -3,7 +3,7 @@ ghost use Rattle.std.specs.Prelude.{◌≡◌, ◌↔◌, ◌++◌, ◌<◌, ◌
 ghost use Rattle.mf_edges.specs.LawfulWeights.{least_weight, greatest_weight};
 ghost use Rattle.mf_rows.specs.Order.{IsRun};
 ghost use Rattle.mf_rows.specs.Runs.{runs_of};
-ghost use Rattle.mf_show.specs.Boxes.{IsBoxOfField};
+ghost use Rattle.mf_rows.specs.Boxes.{IsBoxOfField};
 ghost use Rattle.mf_image.specs.Boxes.{IsImageBox, IsTooLargeForImage};
 ghost use Rattle.mf_image.specs.Svg.{IsSmallBox, axes, color, cover, greatest_weight_of, least_weight_of, opening, path_of_weight};
 ghost use Rattle.mf_image.specs.Svg.{paths, rectangle, rectangle_of, svg_text, view_box_of};

@@ -9,7 +9,7 @@ use Rattle.std.proofs.lemmas.List.Elements.{All-append, All-weaker, Contains-app
 use Rattle.mf_rows.specs.declared.bounds.Box4.{Box4}
 use Rattle.mf_rows.specs.Bounds.{IsDotIn, IsLeastBox}
 use Rattle.mf_rows.specs.Dots.{Dot}
-use Rattle.mf_rows.specs.Widening.{box_round_both}
+use Rattle.mf_rows.specs.Boxes.{box_round_both}
 
 -- ---- the box of two lists of dots
 

@@ -9,6 +9,7 @@ mod BothRowsLemmas
 pub mod BoundsInField
 mod BothEdgesLemmas
 pub mod BoxesJoined
+pub mod BoxesOfDots
 mod BuildingLemmas
 mod CopiesLemmas
 mod CornersLemmas

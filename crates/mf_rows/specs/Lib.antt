@@ -7,6 +7,7 @@ pub mod BothEdges
 pub mod BothRest
 pub mod BothRows
 pub mod Bounds
+pub mod Boxes
 pub mod Building
 pub mod Copies
 pub mod Corners
@@ -37,4 +38,3 @@ pub mod Turns
 pub mod Walk
 pub mod WeightMaps
 pub mod Weights
-pub mod Widening

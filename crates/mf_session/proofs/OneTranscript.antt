@@ -4,7 +4,6 @@ use Rattle.std.specs.Str.Lines.{lines}
 use Rattle.mf_gf.specs.Files.{Character}
 use Rattle.mf_gf.specs.Keeping.{character}
 use Rattle.mf_rows.specs.Dots.{Dot}
-use Rattle.mf_show.proofs.GridTexts.{one_grid_text}
 use Rattle.mf_text.specs.declared.command.Command.{Command}
 use Rattle.mf_text.specs.declared.command.Command.TheVariants.{Proof, Ship}
 use Rattle.mf_text.proofs.OneAnswer.{gives_one, refused_once, given_or_refused}
@@ -20,7 +19,7 @@ proof_once : (ds : List Dot) (text other : List ℕ) → ProofAnswers ds text �
 proof_once ds text other (inl p) (inl q) = p.printed ∙ sym q.printed
 proof_once ds text other (inl p) (inr q) = absurd (q.fits p.too_large)
 proof_once ds text other (inr p) (inl q) = absurd (p.fits q.too_large)
-proof_once ds text other (inr p) (inr q) = one_grid_text ds text other p.printed q.printed
+proof_once ds text other (inr p) (inr q) = p.printed ∙ sym q.printed
 
 ships_once : (limits : Limits) (s : State) (c : Character) (a b : Answer) → Ships limits s c a → Ships limits s c b → a ≡ b
 ships_once limits s c a b (inl p) (inl q) = p.is ∙ sym q.is

@@ -6,10 +6,8 @@ use Rattle.std.proofs.lemmas.Bool.{cases_lt}
 use Rattle.mf_gf.specs.Files.{Character, bytes_so_far}
 use Rattle.mf_gf.specs.Keeping.{character}
 use Rattle.mf_rows.specs.Dots.{Dot}
-use Rattle.mf_rows.proofs.BoxesJoined.{box_of_some}
-use Rattle.mf_show.specs.Grid.{IsTooLarge, box_text, extent, greatest_grid_side}
-use Rattle.mf_show.proofs.GridTexts.{grid_of_box, not_too_large, some_grid_text}
-use Rattle.mf_show.proofs.LeastBoxes.{some_least_box}
+use Rattle.mf_show.specs.Grid.{grid_text}
+use Rattle.mf_show.proofs.GridTexts.{large_or_not}
 use Rattle.mf_text.specs.declared.command.Command.{Command}
 use Rattle.mf_text.specs.declared.command.Command.TheVariants.{Proof, Ship}
 use Rattle.mf_text.proofs.SomeAnswer as text
@@ -21,25 +19,12 @@ use Rattle.mf_session.specs.Shipments.{Ships}
 use Rattle.mf_session.specs.States.{Answer, Limits, State, answer_with, joined, start}
 use Rattle.mf_session.specs.Transcript.{IsTranscript, Perform}
 
-refused_proof : (ds : List Dot) → IsTooLarge ds → (text : List ℕ) × ProofAnswers ds text
-refused_proof ds large = (refusal_line ProofTooLarge, inl (record { too_large = large; printed = refl }))
-
 -- a picture has a grid text, or that text is too large
 proof_some : (ds : List Dot) → (text : List ℕ) × ProofAnswers ds text
-proof_some [] =
-    let (text, grid) = some_grid_text [] in (text, inr (record { fits = λ large. box_of_some large.bounds large.least; printed = grid }))
-proof_some (d ∷ ds) =
-    let (b, least) = some_least_box d ds in
-    elim (cases_lt greatest_grid_side (extent b.min_x b.max_x)) [
-      | inl wide ↦ refused_proof (d ∷ ds) (record { bounds = b; least = least; large = inl wide })
-      | inr narrow ↦ elim (cases_lt greatest_grid_side (extent b.min_y b.max_y)) [
-        | inl high ↦ refused_proof (d ∷ ds) (record { bounds = b; least = least; large = inr high })
-        | inr low ↦ (
-          box_text (d ∷ ds) b,
-          inr (record { fits = not_too_large (d ∷ ds) b least narrow low; printed = grid_of_box (d ∷ ds) b (box_text (d ∷ ds) b) least refl }),
-        )
-      ]
-    ]
+proof_some ds = elim (large_or_not ds) [
+  | inl large ↦ (refusal_line ProofTooLarge, inl (record { too_large = large; printed = refl }))
+  | inr fits ↦ (grid_text ds, inr (record { fits = fits; printed = refl }))
+]
 
 ships_some : (limits : Limits) (s : State) (c : Character) → (a : Answer) × Ships limits s c a
 ships_some limits s c =

@@ -4,7 +4,7 @@ use Rattle.std.specs.Fmt.{signed_decimal}
 use Rattle.mf_gf.specs.Keeping.{character}
 use Rattle.mf_rows.specs.Dots.{Dot, total_of}
 use Rattle.mf_ops.specs.declared.op.Op.TheVariants as ops
-use Rattle.mf_show.specs.Grid.{IsGridText, IsTooLarge}
+use Rattle.mf_show.specs.Grid.{IsTooLargeForGrid, grid_text}
 use Rattle.mf_show.specs.RunText.{run_text}
 use Rattle.mf_text.specs.Lines.{Gives, IsRefused}
 use Rattle.mf_text.specs.declared.command.Command.{Command}
@@ -34,13 +34,13 @@ total_line ds = codes "totalweight " ++ signed_decimal (total_of ds) ++ codes "\
 
 -- the grid text is too large, so the refusal is printed
 pub record IsRefusedProof (ds : List Dot) (text : List ℕ) : Type 0 where
-  pub too_large : IsTooLarge ds
+  pub too_large : IsTooLargeForGrid ds
   pub printed : text ≡ refusal_line ProofTooLarge
 
 -- the grid text is not too large, so it is printed
 pub record IsProof (ds : List Dot) (text : List ℕ) : Type 0 where
-  pub fits : IsTooLarge ds → ⊥
-  pub printed : IsGridText ds text
+  pub fits : IsTooLargeForGrid ds → ⊥
+  pub printed : text ≡ grid_text ds
 
 -- what `proof` prints of a picture
 abbrev pub ProofAnswers : List Dot → List ℕ → Type 0

@@ -1,5 +1,4 @@
 pub mod GridTexts
-pub mod LeastBoxes
 pub mod PassedPixels
 pub mod ShownPixels
 pub mod ShownRows

@@ -1,10 +1,12 @@
 -- Walks over the weights of a picture.
-use Rattle.std.proofs.Common.{◌≡◌, ℕ, zero, suc, ◌≤◌, ◌<◌, ℤ, pos, ◌+ℤ◌, ◌≤ℤ◌, ◌<ℤ◌, Option, None, Some}
+use Rattle.std.proofs.Common.{◌≡◌, ℕ, zero, suc, ◌≤◌, ◌<◌, ℤ, pos, ◌+ℤ◌, ◌-ℤ◌, ◌≤ℤ◌, ◌<ℤ◌, Option, None, Some}
 use Rattle.std.proofs.Common.{MatchOption, List, [], ◌∷◌, ◌++◌, length, refl, sym, ap, ◌∙◌, subst, arith}
 use Rattle.std.specs.List.{All, flat_map}
 use Rattle.std.proofs.lemmas.Int.{ints}
 use Rattle.std.proofs.lemmas.List.Elements.{All-nil, All-head, All-tail}
+use Rattle.mf_rows.specs.declared.bounds.Box4.{Box4}
 use Rattle.mf_rows.specs.declared.run.Run.{Run}
+use Rattle.mf_rows.specs.Boxes.{IsBoxOfField}
 use Rattle.mf_rows.specs.Dots.{Dot, IsPicture, AreDotsFrom, place, start_of_field, weight_at}
 use Rattle.mf_rows.specs.Order.{IsRun}
 use Rattle.mf_rows.specs.Runs.{equal_dots, dots_of, runs_of}
@@ -13,7 +15,8 @@ use Rattle.mf_rows.proofs.PlacesLemmas.{place-next}
 use Rattle.mf_rows.proofs.RunDots.{IsOnRun, weight_at-on_run, weight_at-off_run, weight_at-append_after, weight_at-append_none, before_equal_dots-end}
 use Rattle.mf_rows.proofs.RunsLemmas.{dots_of-runs_of}
 use Rattle.mf_rows.proofs.PassedRuns.{runs_are_lawful}
-use Rattle.mf_show.specs.RunsAhead.{with_taken, AreInOrder, AreSameFrom, IsNotBefore}
+use Rattle.mf_show.specs.Grid.{shown_at, shown_row}
+use Rattle.mf_show.specs.RunsAhead.{with_taken, AreAhead, AreInOrder, AreSameFrom, IsNotBefore}
 
 -- ---- the weight that a run gives to a pixel
 
@@ -62,29 +65,27 @@ weight_reached r rs x y ordered reached =
     let none = weight_at-before (place (r.x +ℤ pos r.len) r.y) (flat_map dots_of rs) x y (behind_first r rs ordered) reached.reach in
     sym (weight_at-append_none (dots_of r) (flat_map dots_of rs) x y none)
 
-pub same_all : (p : ℤ) (ds : List Dot) → AreSameFrom p ds ds
-same_all p ds = record { same = λ x y from. refl }
+-- ---- what a walk has ahead
 
-same_more : (p : ℤ) (ds es fs : List Dot) → AreSameFrom p ds es → AreSameFrom p es fs → AreSameFrom p ds fs
-same_more p ds es fs first second = record { same = λ x y from. second.same x y from ∙ first.same x y from }
+-- all runs of a picture, where none is passed
+pub all_ahead : (low : ℤ) (ds : List Dot) (rs : List Run) → IsPicture ds → rs ≡ runs_of ds → AreAhead low ds rs
+all_ahead low ds rs picture all = record {
+  order = record { runs = runs_are_lawful ds rs picture all; low = start_of_field; dots = rw (all, dots_of-runs_of ds) picture.dots };
+  same = rw (all, dots_of-runs_of ds) (record { same = λ x y from. refl });
+}
 
--- all runs of a picture are in order
-pub all_in_order : (ds : List Dot) (rs : List Run) → IsPicture ds → rs ≡ runs_of ds → AreInOrder rs
-all_in_order ds rs picture all = record {
-  runs = runs_are_lawful ds rs picture all;
-  low = start_of_field;
-  dots = rw (all, dots_of-runs_of ds) picture.dots;
+pub none_passed : (low : ℤ) (all : List Run) → AreInOrder all → AreAhead low (flat_map dots_of all) all
+none_passed low all ordered = record { order = ordered; same = record { same = λ x y from. refl } }
+
+-- fewer runs are ahead, and later pixels have the same weights
+pub ahead_later : (low between high : ℤ) (ds : List Dot) (rs others : List Run) → low ≤ℤ high → between ≤ℤ high → AreInOrder others
+    → AreSameFrom between (flat_map dots_of rs) (flat_map dots_of others) → AreAhead low ds rs → AreAhead high ds others
+ahead_later low between high ds rs others le more ordered later so_far = record {
+  order = ordered;
+  same = record { same = λ x y from. later.same x y (omega (arith, ints)) ∙ so_far.same.same x y (omega (arith, ints)) };
 }
 
 -- ---- runs that are passed
-
--- these runs are left of those that were ahead, and the weights of the pixels from (x, y) on are the same
-pub record ArePassedTo (x y : ℤ) (all rs : List Run) : Type 0 where
-  pub order : AreInOrder rs
-  pub same : AreSameFrom (place x y) (flat_map dots_of all) (flat_map dots_of rs)
-
-pub none_passed : (x y : ℤ) (all : List Run) → AreInOrder all → ArePassedTo x y all all
-none_passed x y all ordered = record { order = ordered; same = same_all (place x y) (flat_map dots_of all) }
 
 -- the run that is already taken is the first one ahead
 taken_first : (o : Option Run) (r : Run) (rs : List Run) → o ≡ Some r → with_taken o rs ≡ r ∷ rs
@@ -93,27 +94,53 @@ taken_first o r rs some = rw some refl
 pub taken_is_lawful : (o : Option Run) (r : Run) (rs : List Run) → o ≡ Some r → AreInOrder (with_taken o rs) → IsRun r
 taken_is_lawful o r rs some ordered = All-head IsRun r rs (subst (All IsRun) (taken_first o r rs some) ordered.runs)
 
-one_more : (x y : ℤ) (all : List Run) (r : Run) (rs : List Run) → place (r.x +ℤ pos r.len) r.y ≤ℤ place x y → ArePassedTo x y all (r ∷ rs)
-    → ArePassedTo x y all rs
-one_more x y all r rs end so_far = record {
-  order = order_behind r rs so_far.order;
-  same = same_more (place x y) (flat_map dots_of all) (flat_map dots_of (r ∷ rs)) (flat_map dots_of rs) so_far.same (same_behind r rs (place x y) end);
-}
+one_more : (low : ℤ) (ds : List Dot) (r : Run) (rs : List Run) → place (r.x +ℤ pos r.len) r.y ≤ℤ low → AreAhead low ds (r ∷ rs) → AreAhead low ds rs
+one_more low ds r rs end so_far =
+    ahead_later low low low ds (r ∷ rs) rs (omega (arith, ints)) (omega (arith, ints)) (order_behind r rs so_far.order) (same_behind r rs low end) so_far
 
 -- the run that an iterator returns is the first of those that it had left
 next_taken : (o : Option Run) (rs others : List Run) → MatchOption o ((rs ≡ []) × (others ≡ [])) (λ r. rs ≡ r ∷ others) → rs ≡ with_taken o others
 next_taken None rs others none = none.0
 next_taken (Some r) rs others first = first
 
-pub one_more_passed : (x y : ℤ) (all : List Run) (o p : Option Run) (r : Run) (rs others : List Run) → o ≡ Some r
-    → place (r.x +ℤ pos r.len) r.y ≤ℤ place x y → MatchOption p ((rs ≡ []) × (others ≡ [])) (λ s. rs ≡ s ∷ others)
-    → ArePassedTo x y all (with_taken o rs) → ArePassedTo x y all (with_taken p others)
-one_more_passed x y all o p r rs others some end next so_far =
-    subst (ArePassedTo x y all) (next_taken p rs others next) (one_more x y all r rs end (subst (ArePassedTo x y all) (taken_first o r rs some) so_far))
+pub one_more_passed : (low : ℤ) (ds : List Dot) (o p : Option Run) (r : Run) (rs others : List Run) → o ≡ Some r
+    → place (r.x +ℤ pos r.len) r.y ≤ℤ low → MatchOption p ((rs ≡ []) × (others ≡ [])) (λ s. rs ≡ s ∷ others)
+    → AreAhead low ds (with_taken o rs) → AreAhead low ds (with_taken p others)
+one_more_passed low ds o p r rs others some end next so_far =
+    subst (AreAhead low ds) (next_taken p rs others next) (one_more low ds r rs end (subst (AreAhead low ds) (taken_first o r rs some) so_far))
 
 pub fewer_ahead : (o p : Option Run) (r : Run) (rs others : List Run) → o ≡ Some r
     → MatchOption p ((rs ≡ []) × (others ≡ [])) (λ s. rs ≡ s ∷ others) → length (with_taken p others) < length (with_taken o rs)
 fewer_ahead o p r rs others some next = rw (← next_taken p rs others next, taken_first o r rs some) (omega arith)
+
+-- ---- pixels in reading order
+
+-- the pixel from which runs are ahead has the weight that these give to it
+pub weight_ahead : (x y : ℤ) (ds : List Dot) (rs : List Run) → AreAhead (place x y) ds rs → weight_at (flat_map dots_of rs) x y ≡ weight_at ds x y
+weight_ahead x y ds rs so_far = so_far.same.same x y (omega (arith, ints))
+
+-- so has each of n pixels of its row
+pub row_ahead : (show : ℤ → ℕ) (ds es : List Dot) (y x : ℤ) (n : ℕ) → AreSameFrom (place x y) ds es
+    → shown_row (shown_at show es y) x n ≡ shown_row (shown_at show ds y) x n
+unfolding shown_row place
+row_ahead show ds es y x zero same = refl
+row_ahead show ds es y x (suc n) same =
+    let weight : weight_at es x y ≡ weight_at ds x y = same.same x y (omega (arith, ints)) in
+    let others = row_ahead show ds es y (x +ℤ pos 1) n (record { same = λ u v from. same.same u v (omega (arith, ints)) }) in
+    rw (weight, others) refl
+
+pub ahead_right : (x y : ℤ) (ds : List Dot) (rs others : List Run) → AreInOrder others
+    → AreSameFrom (place x y) (flat_map dots_of rs) (flat_map dots_of others) → AreAhead (place x y) ds rs → AreAhead (place (x +ℤ pos 1) y) ds others
+unfolding place
+ahead_right x y ds rs others = ahead_later (place x y) (place x y) (place (x +ℤ pos 1) y) ds rs others (omega (arith, ints)) (omega (arith, ints))
+
+pub ahead_below : (b : Box4) (y : ℤ) (ds : List Dot) (rs others : List Run) → IsBoxOfField b → AreInOrder others
+    → AreSameFrom (place (b.max_x +ℤ pos 1) y) (flat_map dots_of rs) (flat_map dots_of others) → AreAhead (place b.min_x y) ds rs
+    → AreAhead (place b.min_x (y -ℤ pos 1)) ds others
+unfolding place
+ahead_below b y ds rs others box =
+    ahead_later (place b.min_x y) (place (b.max_x +ℤ pos 1) y) (place b.min_x (y -ℤ pos 1)) ds rs others
+    (omega (arith, ints)) (omega (arith, ints, box.left, box.right))
 
 -- ---- the weight of the pixel (x, y), where the first run ahead reaches it
 

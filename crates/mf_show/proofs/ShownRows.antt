@@ -3,9 +3,8 @@ use Rattle.std.proofs.Common.{◌≡◌, ℕ, suc, ℤ, pos, ◌+ℤ◌, ◌-ℤ
 use Rattle.std.proofs.lemmas.Int.{ints}
 use Rattle.std.proofs.lemmas.List.{append-nil}
 use Rattle.mf_rows.specs.declared.bounds.Box4.{Box4}
-use Rattle.mf_rows.specs.Dots.{Dot, weight_at}
-use Rattle.mf_show.specs.Boxes.{IsBoxOfField}
-use Rattle.mf_show.specs.Grid.{extent, shown_box, shown_row, shown_rows}
+use Rattle.mf_rows.specs.Boxes.{IsBoxOfField}
+use Rattle.mf_show.specs.Grid.{extent, shown_box, shown_line, shown_row, shown_rows}
 
 pub extent-next : (x last : ℤ) → x ≤ℤ last → extent x last ≡ suc (extent (x +ℤ pos 1) last)
 extent-next x last le = omega (arith, ints)
@@ -18,18 +17,16 @@ extent-lower first y le = omega (arith, ints)
 
 -- ---- a row
 
--- a row that is shown after an old text: how, of which dots, and from which column to which
+-- a row that is shown after an old text: the number of each column, and from which column to which
 pub record ShownRow : Type 0 where
   pub show : ℤ → ℕ
-  pub ds : List Dot
-  pub y : ℤ
   pub first : ℤ
   pub last : ℤ
   pub old : List ℕ
 
 -- what shows the row from a column on
 abbrev row_from : ShownRow → ℤ → List ℕ
-row_from r x = shown_row r.show r.ds r.y x (extent x r.last)
+row_from r x = shown_row r.show x (extent x r.last)
 
 -- the text so far is the old text and that of the row up to the column before x; the columns from x on are missing
 pub record IsRowSoFar (r : ShownRow) (x : ℤ) (text : List ℕ) : Type 0 where
@@ -40,67 +37,62 @@ pub record IsRowSoFar (r : ShownRow) (x : ℤ) (text : List ℕ) : Type 0 where
 pub row_none : (r : ShownRow) → r.first ≤ℤ r.last → IsRowSoFar r r.first r.old
 row_none r columns = record { left = omega (arith, ints); right = omega (arith, ints); row = refl }
 
-row_from-next : (r : ShownRow) (x : ℤ) → x ≤ℤ r.last → row_from r x ≡ r.show (weight_at r.ds x r.y) ∷ row_from r (x +ℤ pos 1)
+row_from-next : (r : ShownRow) (x : ℤ) → x ≤ℤ r.last → row_from r x ≡ r.show x ∷ row_from r (x +ℤ pos 1)
 unfolding shown_row
-row_from-next r x column = ap (shown_row r.show r.ds r.y x) (extent-next x r.last column)
+row_from-next r x column = ap (shown_row r.show x) (extent-next x r.last column)
 
-pub row_more : (r : ShownRow) (x : ℤ) (text new : List ℕ) (k : ℕ) → x ≤ℤ r.last → new ≡ text ++ k ∷ [] → k ≡ r.show (weight_at r.ds x r.y)
+pub row_more : (r : ShownRow) (x : ℤ) (text new : List ℕ) (k : ℕ) → x ≤ℤ r.last → new ≡ text ++ k ∷ [] → k ≡ r.show x
     → IsRowSoFar r x text → IsRowSoFar r (x +ℤ pos 1) new
 row_more r x text new k column pushed shown so_far = record {
   left = omega (arith, ints, so_far.left);
   right = omega (arith, ints);
-  row =
-      rw (pushed, shown) (append_assoc text (r.show (weight_at r.ds x r.y) ∷ []) (row_from r (x +ℤ pos 1)))
+  row = rw (pushed, shown) (append_assoc text (r.show x ∷ []) (row_from r (x +ℤ pos 1)))
       ∙ ap (λ more. text ++ more) (sym (row_from-next r x column)) ∙ so_far.row;
 }
 
 pub row_all : (r : ShownRow) (x : ℤ) (text : List ℕ) → x ≡ r.last +ℤ pos 1 → IsRowSoFar r x text → text ≡ r.old ++ row_from r r.first
 unfolding shown_row
 row_all r x text over so_far =
-    sym (append-nil text) ∙ ap (λ n. text ++ shown_row r.show r.ds r.y x n) (sym (extent-none x r.last over)) ∙ so_far.row
+    sym (append-nil text) ∙ ap (λ n. text ++ shown_row r.show x n) (sym (extent-none x r.last over)) ∙ so_far.row
 
 -- ---- a box
 
--- a box that is shown after a head: how, of which dots, and what ends each row
+-- a box that is shown after a head: how, and what ends each row
 pub record ShownBox : Type 0 where
-  pub show : ℤ → ℕ
+  pub show : ℤ → ℤ → ℕ
   pub end : List ℕ
-  pub ds : List Dot
   pub bounds : Box4
   pub head : List ℕ
 
--- what shows a row of the box, and its rows from row y down
-abbrev row_in : ShownBox → ℤ → List ℕ
-row_in s y = shown_row s.show s.ds y s.bounds.min_x (extent s.bounds.min_x s.bounds.max_x)
-
-abbrev rows_down : ShownBox → ℤ → ℕ → List ℕ
-rows_down s = shown_rows s.show s.end s.ds s.bounds.min_x (extent s.bounds.min_x s.bounds.max_x)
+-- what shows the rows of the box from row y down
+abbrev rows_from : ShownBox → ℤ → List ℕ
+rows_from s y = shown_rows (shown_line s.show s.end s.bounds) y (extent s.bounds.min_y y)
 
 -- the text so far is the head and the rows of the box from its top row down to the one above row y; those from y down are missing
 pub record IsBoxSoFar (s : ShownBox) (y : ℤ) (text : List ℕ) : Type 0 where
   pub bottom : s.bounds.min_y ≤ℤ (y +ℤ pos 1)
   pub top : y ≤ℤ s.bounds.max_y
-  pub rows : text ++ rows_down s y (extent s.bounds.min_y y) ≡ s.head ++ shown_box s.show s.end s.ds s.bounds
+  pub rows : text ++ rows_from s y ≡ s.head ++ shown_box s.show s.end s.bounds
 
 pub box_none : (s : ShownBox) (y : ℤ) (text : List ℕ) → IsBoxOfField s.bounds → y ≡ s.bounds.max_y → text ≡ s.head → IsBoxSoFar s y text
 box_none s y text box start begun = record { bottom = omega (arith, ints, box.rows); top = omega (arith, ints); rows = rw (start, begun) refl }
 
-rows_down-next : (s : ShownBox) (y : ℤ) → s.bounds.min_y ≤ℤ y
-    → rows_down s y (extent s.bounds.min_y y) ≡ row_in s y ++ s.end ++ rows_down s (y -ℤ pos 1) (extent s.bounds.min_y (y -ℤ pos 1))
+rows_from-next : (s : ShownBox) (y : ℤ) → s.bounds.min_y ≤ℤ y → rows_from s y ≡ shown_line s.show s.end s.bounds y ++ rows_from s (y -ℤ pos 1)
 unfolding shown_rows
-rows_down-next s y row = ap (rows_down s y) (extent-lower s.bounds.min_y y row)
+rows_from-next s y row = ap (shown_rows (shown_line s.show s.end s.bounds) y) (extent-lower s.bounds.min_y y row)
 
-pub box_more : (s : ShownBox) (y : ℤ) (text new : List ℕ) → s.bounds.min_y ≤ℤ y → new ≡ text ++ row_in s y ++ s.end
+pub box_more : (s : ShownBox) (y : ℤ) (text new : List ℕ) → s.bounds.min_y ≤ℤ y
+    → new ≡ text ++ shown_row (s.show y) s.bounds.min_x (extent s.bounds.min_x s.bounds.max_x) ++ s.end
     → IsBoxSoFar s y text → IsBoxSoFar s (y -ℤ pos 1) new
 box_more s y text new row pushed so_far = record {
   bottom = omega (arith, ints);
   top = omega (arith, ints, so_far.top);
-  rows = rw pushed (simp append_assoc) ∙ ap (λ all. text ++ all) (sym (rows_down-next s y row)) ∙ so_far.rows;
+  rows = rw pushed (simp append_assoc) ∙ ap (λ all. text ++ all) (sym (rows_from-next s y row)) ∙ so_far.rows;
 }
 
 pub box_all : (s : ShownBox) (y : ℤ) (text : List ℕ) → y +ℤ pos 1 ≡ s.bounds.min_y → IsBoxSoFar s y text
-    → text ≡ s.head ++ shown_box s.show s.end s.ds s.bounds
+    → text ≡ s.head ++ shown_box s.show s.end s.bounds
 unfolding shown_rows
 box_all s y text over so_far =
     let none : extent s.bounds.min_y y ≡ 0 = omega (arith, ints) in
-    sym (append-nil text) ∙ ap (λ n. text ++ rows_down s y n) (sym none) ∙ so_far.rows
+    sym (append-nil text) ∙ ap (λ n. text ++ shown_rows (shown_line s.show s.end s.bounds) y n) (sym none) ∙ so_far.rows

@@ -10,26 +10,29 @@ use Rattle.mf_rows.specs.Runs.{runs_of}
 use Rattle.mf_rows.proofs.PassedRuns.{runs_are_lawful}
 use Rattle.mf_show.specs.RunText.{run_line, run_text}
 
--- a text has the lines of all runs of a picture but the last ones, rs
-pub record AreWritten (ds : List Dot) (rs : List Run) (text : List ℕ) : Type 0 where
+-- with the texts of the last runs, rs, the text so far is whole
+pub record AreWritten (line : Run → List ℕ) (whole : List ℕ) (rs : List Run) (text : List ℕ) : Type 0 where
   pub runs : All IsRun rs
-  pub lines : text ++ flat_map run_line rs ≡ flat_map run_line (runs_of ds)
+  pub lines : text ++ flat_map line rs ≡ whole
 
-pub none_written : (ds : List Dot) (rs : List Run) (text : List ℕ) → IsPicture ds → rs ≡ runs_of ds → text ≡ [] → AreWritten ds rs text
-none_written ds rs text picture all empty = record { runs = runs_are_lawful ds rs picture all; lines = rw (empty, all) refl }
+pub none_written : (line : Run → List ℕ) (ds : List Dot) (rs : List Run) (old : List ℕ) → IsPicture ds → rs ≡ runs_of ds
+    → AreWritten line (old ++ flat_map line (runs_of ds)) rs old
+none_written line ds rs old picture all = record { runs = runs_are_lawful ds rs picture all; lines = rw all refl }
 
-pub next_is_lawful : (ds : List Dot) (rs : List Run) (r : Run) (others : List Run) (text : List ℕ) → rs ≡ r ∷ others → AreWritten ds rs text → IsRun r
-next_is_lawful ds rs r others text first so_far = All-head IsRun r others (All-same IsRun (r ∷ others) rs (sym first) so_far.runs)
+pub first_is_lawful : (rs : List Run) (r : Run) (others : List Run) → rs ≡ r ∷ others → All IsRun rs → IsRun r
+first_is_lawful rs r others first runs = All-head IsRun r others (All-same IsRun (r ∷ others) rs (sym first) runs)
 
-pub one_more_written : (ds : List Dot) (rs : List Run) (r : Run) (others : List Run) (text new : List ℕ) → rs ≡ r ∷ others
-    → new ≡ text ++ run_line r → AreWritten ds rs text → AreWritten ds others new
-one_more_written ds rs r others text new first line so_far = record {
+pub one_more_written : (line : Run → List ℕ) (whole : List ℕ) (rs : List Run) (r : Run) (others : List Run) (text new : List ℕ) → rs ≡ r ∷ others
+    → new ≡ text ++ line r → AreWritten line whole rs text → AreWritten line whole others new
+one_more_written line whole rs r others text new first written so_far = record {
   runs = All-rest IsRun r others rs first so_far.runs;
-  lines = rw line (append_assoc text (run_line r) (flat_map run_line others) ∙ ap (λ all. text ++ flat_map run_line all) (sym first) ∙ so_far.lines);
+  lines = rw written (append_assoc text (line r) (flat_map line others)) ∙ ap (λ all. text ++ flat_map line all) (sym first) ∙ so_far.lines;
 }
 
-all_lines : (ds : List Dot) (rs : List Run) (text : List ℕ) → rs ≡ [] → AreWritten ds rs text → text ≡ flat_map run_line (runs_of ds)
-all_lines ds rs text none so_far = sym (append-nil text) ∙ ap (λ all. text ++ flat_map run_line all) (sym none) ∙ so_far.lines
+pub all_written : (line : Run → List ℕ) (whole : List ℕ) (rs : List Run) (text : List ℕ) → rs ≡ [] → AreWritten line whole rs text → text ≡ whole
+all_written line whole rs text none so_far = sym (append-nil text) ∙ ap (λ all. text ++ flat_map line all) (sym none) ∙ so_far.lines
+
+-- ---- the run text
 
 -- a line is not empty, so the text is empty only where there is no run
 some_written : (rs : List Run) → flat_map run_line rs ≡ [] → rs ≡ []
@@ -40,12 +43,10 @@ run_text-some : (rs : List Run) (ds : List Dot) → runs_of ds ≡ rs → (rs �
 run_text-some [] ds same some = absurd (some refl)
 run_text-some (r ∷ rs) ds same some = rw same refl
 
-pub blank_written : (ds : List Dot) (rs : List Run) (text : List ℕ) → rs ≡ [] → AreWritten ds rs text → text ≡ [] → codes "blank\n" ≡ run_text ds
-blank_written ds rs text none so_far empty =
-    let blank = some_written (runs_of ds) (sym (all_lines ds rs text none so_far) ∙ empty) in
+pub blank_text : (ds : List Dot) (text : List ℕ) → text ≡ flat_map run_line (runs_of ds) → text ≡ [] → codes "blank\n" ≡ run_text ds
+blank_text ds text lines empty =
+    let blank = some_written (runs_of ds) (sym lines ∙ empty) in
     rw blank refl
 
-pub all_written : (ds : List Dot) (rs : List Run) (text : List ℕ) → rs ≡ [] → AreWritten ds rs text → (text ≡ [] → ⊥) → text ≡ run_text ds
-all_written ds rs text none so_far some =
-    let lines = all_lines ds rs text none so_far in
-    lines ∙ sym (run_text-some (runs_of ds) ds refl (λ blank. some (lines ∙ ap (λ all. flat_map run_line all) blank)))
+pub lines_text : (ds : List Dot) (text : List ℕ) → text ≡ flat_map run_line (runs_of ds) → (text ≡ [] → ⊥) → text ≡ run_text ds
+lines_text ds text lines some = lines ∙ sym (run_text-some (runs_of ds) ds refl (λ blank. some (lines ∙ ap (λ all. flat_map run_line all) blank)))

@@ -1,9 +1,10 @@
 -- The grid text of a picture: one character for each pixel of its least box, rows in order from the top.
-use Rattle.std.specs.Prelude.{◌≡◌, ◌<◌, ◌⊎◌, ℕ, zero, suc, ◌+◌, ℤ, pos, ◌+ℤ◌, ◌-ℤ◌, int_lt, List, [], ◌∷◌, ◌++◌, codes, if◌then◌else◌}
+use Rattle.std.specs.Prelude.{◌<◌, ◌⊎◌, ℕ, zero, suc, ◌+◌, ℤ, pos, ◌+ℤ◌, ◌-ℤ◌, int_lt, if◌then◌else◌}
+use Rattle.std.specs.Prelude.{List, [], ◌∷◌, ◌++◌, codes, Option, None, Some, MatchOption}
 use Rattle.std.specs.Int.RustNames.{unsigned_abs}
 use Rattle.std.specs.Ordering.{int_eq}
 use Rattle.mf_rows.specs.declared.bounds.Box4.{Box4}
-use Rattle.mf_rows.specs.Bounds.{IsLeastBox}
+use Rattle.mf_rows.specs.Boxes.{box_of}
 use Rattle.mf_rows.specs.Dots.{Dot, weight_at}
 
 -- the characters of a grid: those of weight 0 and of weights beyond the greatest digit, `0` and the one before `a`, from which the
@@ -42,39 +43,53 @@ grid_character w =
 abbrev pub extent : ℤ → ℤ → ℕ
 extent first last = unsigned_abs ((last -ℤ first) +ℤ pos 1)
 
--- what shows n pixels of row y, from column x on: a number for each, from its weight
-unfoldable pub shown_row : (ℤ → ℕ) → List Dot → ℤ → ℤ → ℕ → List ℕ
-shown_row show ds y x zero = []
-shown_row show ds y x (suc n) = show (weight_at ds x y) ∷ shown_row show ds y (x +ℤ pos 1) n
+-- a box has more columns, or more rows, than this
+abbrev pub IsLargerThan : ℕ → Box4 → Type 0
+IsLargerThan most b = (most < extent b.min_x b.max_x) ⊎ (most < extent b.min_y b.max_y)
 
--- what shows n rows from row y downwards: each has the given number of columns from column x on, and this end
-unfoldable pub shown_rows : (ℤ → ℕ) → List ℕ → List Dot → ℤ → ℕ → ℤ → ℕ → List ℕ
-shown_rows show end ds x columns y zero = []
-shown_rows show end ds x columns y (suc n) = shown_row show ds y x columns ++ end ++ shown_rows show end ds x columns (y -ℤ pos 1) n
+-- the number that shows the pixel in row y and column x, where each weight has its number
+abbrev pub shown_at : (ℤ → ℕ) → List Dot → ℤ → ℤ → ℕ
+shown_at show ds y x = show (weight_at ds x y)
 
--- what shows all rows of a box
-abbrev pub shown_box : (ℤ → ℕ) → List ℕ → List Dot → Box4 → List ℕ
-shown_box show end ds b = shown_rows show end ds b.min_x (extent b.min_x b.max_x) b.max_y (extent b.min_y b.max_y)
+-- the numbers of n columns from column x on
+unfoldable pub shown_row : (ℤ → ℕ) → ℤ → ℕ → List ℕ
+shown_row f x zero = []
+shown_row f x (suc n) = f x ∷ shown_row f (x +ℤ pos 1) n
+
+-- the lines of n rows from row y downwards
+unfoldable pub shown_rows : (ℤ → List ℕ) → ℤ → ℕ → List ℕ
+shown_rows line y zero = []
+shown_rows line y (suc n) = line y ++ shown_rows line (y -ℤ pos 1) n
+
+-- the line of row y of a box: the numbers of its pixels, and this end
+abbrev pub shown_line : (ℤ → ℤ → ℕ) → List ℕ → Box4 → ℤ → List ℕ
+shown_line f end b y = shown_row (f y) b.min_x (extent b.min_x b.max_x) ++ end
+
+-- the lines of all rows of a box
+abbrev pub shown_box : (ℤ → ℤ → ℕ) → List ℕ → Box4 → List ℕ
+shown_box f end b = shown_rows (shown_line f end b) b.max_y (extent b.min_y b.max_y)
 
 -- the characters of n pixels of row y, from column x on
 abbrev pub row_text : List Dot → ℤ → ℤ → ℕ → List ℕ
-row_text ds y x n = shown_row grid_character ds y x n
+row_text ds y x n = shown_row (shown_at grid_character ds y) x n
 
 -- the lines of all rows of a box
 abbrev pub box_text : List Dot → Box4 → List ℕ
-box_text ds b = shown_box grid_character (codes "\n") ds b
+box_text ds b = shown_box (shown_at grid_character ds) (codes "\n") b
 
--- the text is the grid text of a picture: that of its least box, or `blank` where it has none
-pub record IsGridText (ds : List Dot) (text : List ℕ) : Type 0 where
-  pub blank : ds ≡ [] → text ≡ codes "blank\n"
-  pub drawn : (b : Box4) → IsLeastBox ds b → text ≡ box_text ds b
+-- the grid text of a picture with this least box, or `blank` where it has none
+abbrev pub text_in : List Dot → Option Box4 → List ℕ
+text_in ds None = codes "blank\n"
+text_in ds (Some b) = box_text ds b
+
+-- the grid text of a picture
+unfoldable pub grid_text : List Dot → List ℕ
+grid_text ds = text_in ds (box_of ds)
 
 -- the greatest number of columns, and of rows, of a grid
 abbrev pub greatest_grid_side : ℕ
 greatest_grid_side = 128
 
 -- the least box of a picture is wider or higher than a grid may be
-pub record IsTooLarge (ds : List Dot) : Type 0 where
-  pub bounds : Box4
-  pub least : IsLeastBox ds bounds
-  pub large : (greatest_grid_side < extent bounds.min_x bounds.max_x) ⊎ (greatest_grid_side < extent bounds.min_y bounds.max_y)
+abbrev pub IsTooLargeForGrid : List Dot → Type 0
+IsTooLargeForGrid ds = MatchOption (box_of ds) ⊥ (IsLargerThan greatest_grid_side)

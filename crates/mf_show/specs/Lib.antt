@@ -1,4 +1,3 @@
-pub mod Boxes
 pub mod Grid
 pub mod Names
 pub mod RunsAhead

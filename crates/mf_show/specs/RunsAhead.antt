@@ -28,6 +28,11 @@ pub record AreInOrder (rs : List Run) : Type 0 where
 pub record AreSameFrom (low : ℤ) (ds es : List Dot) : Type 0 where
   pub same : (x y : ℤ) → low ≤ℤ place x y → weight_at es x y ≡ weight_at ds x y
 
+-- these runs are in order, and give the weights of these dots to all pixels from a place on
+pub record AreAhead (low : ℤ) (ds : List Dot) (rs : List Run) : Type 0 where
+  pub order : AreInOrder rs
+  pub same : AreSameFrom low ds (flat_map dots_of rs)
+
 -- a run reaches the pixel (x, y), or starts after it in reading order
 pub record IsNotBefore (x y : ℤ) (r : Run) : Type 0 where
   pub reach : place x y <ℤ place (r.x +ℤ pos r.len) r.y

@@ -1,9 +1,10 @@
 //! Grid texts.
-ghost use Rattle.std.specs.Prelude.{◌≡◌, ◌≤ℤ◌, ◌+ℤ◌, ◌++◌, ◌↔◌, Err, IfOk, codes, pos};
+ghost use Rattle.std.specs.Prelude.{◌≡◌, ◌≤ℤ◌, ◌+ℤ◌, ◌++◌, ◌↔◌, Err, IfOk, IsTrue, codes, pos};
 ghost use Rattle.mf_geom.specs.Coordinates.{least_coordinate, last_in_field};
 ghost use Rattle.mf_rows.specs.Bounds.{IsLeastBox};
+ghost use Rattle.mf_rows.specs.Boxes.{IsBoxOfField};
 ghost use Rattle.mf_rows.specs.Dots.{place};
-ghost use Rattle.mf_show.specs.Grid.{IsGridText, IsTooLarge, extent, box_text, row_text, grid_character};
+ghost use Rattle.mf_show.specs.Grid.{IsLargerThan, IsTooLargeForGrid, extent, grid_character, grid_text, row_text};
 ghost use Rattle.mf_show.specs.RunsAhead.{runs_ahead, dots_ahead, AreInOrder, AreSameFrom};
 
 mod weights;
@@ -22,19 +23,16 @@ const MAX_SIDE: u32 = 128;
 /// text of the blank picture is the line `blank`. Each line ends with a line feed. Refused with `ProofTooLarge` exactly where the
 /// least box is wider or higher than 128 pixels, and with `OutOfMemory` where an allocation fails.
 pub fn proof_grid(alloc: Global, picture: &Picture) -> Result<Vec<u8>, GridFault>
-    ensures text { IfOk result (λ text. IsGridText picture.now text.items) }
-    ensures too_large { IsTooLarge picture.now ↔ (result ≡ Err GridFault.ProofTooLarge) }
+    ensures text { IfOk result (λ text. text.items ≡ grid_text picture.now) }
+    ensures too_large { IsTooLargeForGrid picture.now ↔ (result ≡ Err GridFault.ProofTooLarge) }
 {
     let Some(bounds) = picture.bounds() else {
         return Ok(blank(alloc)?);
     };
-    let columns = extent(bounds.min_x, bounds.max_x);
-    let rows = extent(bounds.min_y, bounds.max_y);
-    if columns > MAX_SIDE || rows > MAX_SIDE {
+    if is_larger_than(&bounds, MAX_SIDE) {
         return Err(GridFault::ProofTooLarge);
     }
-    let size = (rows as usize).saturating_mul(columns as usize + 1);
-    Ok(box_text(alloc, picture, &bounds, size)?)
+    Ok(box_text(alloc, picture, &bounds)?)
 }
 
 /// The text of the blank picture.
@@ -54,18 +52,30 @@ pub fn extent(first: i32, last: i32) -> u32
     (last - first) as u32 + 1
 }
 
-/// The grid text of a picture whose least box is this one. Room for so many bytes is asked for at once.
-fn box_text(
-    alloc: Global,
-    picture: &Picture,
-    bounds: &Box4,
-    size: usize,
-) -> Result<Vec<u8>, OutOfMemory>
-    requires { IsLeastBox picture.now bounds.now }
-    ensures { IfOk result (λ text. text.items ≡ box_text picture.now bounds.now) }
+/// Whether a box has more columns, or more rows, than this.
+pub fn is_larger_than(bounds: &Box4, most: u32) -> bool
+    requires { IsBoxOfField bounds.now }
+    ensures { IsTrue result ↔ IsLargerThan most bounds.now }
 {
-    let mut text = Vec::with_capacity(alloc, size)?;
+    extent(bounds.min_x, bounds.max_x) > most || extent(bounds.min_y, bounds.max_y) > most
+}
+
+/// The number of bytes in the grid text of a box.
+fn size_of(bounds: &Box4) -> usize
+    requires { IsBoxOfField bounds.now }
+{
+    let columns = extent(bounds.min_x, bounds.max_x);
+    let rows = extent(bounds.min_y, bounds.max_y);
+    (rows as usize).saturating_mul(columns as usize + 1)
+}
+
+/// The grid text of a picture whose least box is this one. Room for all its bytes is asked for at once.
+fn box_text(alloc: Global, picture: &Picture, bounds: &Box4) -> Result<Vec<u8>, OutOfMemory>
+    requires { IsLeastBox picture.now bounds.now }
+    ensures { IfOk result (λ text. text.items ≡ grid_text picture.now) }
+{
     let mut weights = Weights::over(picture);
+    let mut text = Vec::with_capacity(alloc, size_of(bounds))?;
     for y in (bounds.min_y..bounds.max_y + 1).rev() {
         push_row(&mut text, &mut weights, y, bounds.min_x, bounds.max_x)?;
     }

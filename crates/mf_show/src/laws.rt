@@ -1,13 +1,13 @@
 //! Laws of the texts of pictures. Each is the contract of a function that does nothing, because the toolchain proves a statement
 //! only where the contract of a function names it.
-ghost use Rattle.std.specs.Prelude.{◌≡◌, ◌<◌, ◌+◌, ◌*◌, ℕ, pos, ◌+ℤ◌, ◌-ℤ◌, List, [], ◌∷◌, None, Some, get_or, length};
-ghost use Rattle.mf_rows.specs.Bounds.{IsLeastBox};
+ghost use Rattle.std.specs.Prelude.{◌≡◌, ◌<◌, ◌+◌, ◌*◌, ℕ, pos, ◌+ℤ◌, ◌-ℤ◌, List, [], ◌∷◌, None, Some, codes, get_or, length};
 ghost use Rattle.mf_rows.specs.declared.bounds.Box4.{Box4};
+ghost use Rattle.mf_rows.specs.Bounds.{IsLeastBox};
 ghost use Rattle.mf_rows.specs.Dots.{Dot, weight_at};
-ghost use Rattle.mf_show.specs.Boxes.{box_of, box_of_dots};
-ghost use Rattle.mf_show.specs.Grid.{IsGridText, box_text, grid_character, extent, line_feed};
+ghost use Rattle.mf_rows.specs.Boxes.{box_of, box_of_dots};
+ghost use Rattle.mf_show.specs.Grid.{box_text, extent, grid_character, grid_text, line_feed};
 
-/// The box of a picture that is computed from its dots, for images and frames, is its least box, and there is no other least
+/// The box of a picture that is computed from its dots, for grids, images and frames, is its least box, and there is no other least
 /// box. The blank picture has none.
 pub fn box_of_dots_is_least()
     ensures least { (d : Dot) (ds : List Dot) → IsLeastBox (d ∷ ds) (box_of_dots d ds) }
@@ -15,10 +15,10 @@ pub fn box_of_dots_is_least()
     ensures blank { box_of [] ≡ None }
 {}
 
-/// Each picture has exactly one grid text.
-pub fn one_grid_text()
-    ensures some { (ds : List Dot) → (text : List ℕ) × IsGridText ds text }
-    ensures one { (ds : List Dot) (one other : List ℕ) → IsGridText ds one → IsGridText ds other → one ≡ other }
+/// The grid text of a picture is that of its least box, and the blank picture's is the line `blank`.
+pub fn grid_is_of_the_least_box()
+    ensures drawn { (ds : List Dot) (b : Box4) → IsLeastBox ds b → grid_text ds ≡ box_text ds b }
+    ensures blank { grid_text [] ≡ codes "blank\n" }
 {}
 
 /// The text of a box has a line for each of its rows, from the top. A line has the character of the weight of each pixel, from

@@ -1,11 +1,7 @@
 use Rattle.std.proofs.Common.{refl}
-use Rattle.mf_show.proofs.LeastBoxes.{least_box_is, no_box}
+use Rattle.mf_rows.proofs.BoxesOfDots.{no_box}
 use Rattle.mf_frame.specs.Frames.{frame_text}
 use Rattle.mf_frame.proofs.frame.draw.Goals as goal
-
-pub returns-in-Some : goal.returns-in-Some
-unfolding frame_text
-returns-in-Some c = record { text = rw (least_box_is _ _ c.in-Some.ensures.least) c.draw_box.ensures }
 
 pub returns-in-None : goal.returns-in-None
 unfolding frame_text

@@ -1,8 +1,8 @@
 use Rattle.std.proofs.Common.{◌≡◌, to_z, of_z, w64, refl, arith}
 use Rattle.std.proofs.lemmas.Int.{ints}
 use Rattle.mf_rows.specs.Dots.{total_of}
-use Rattle.mf_show.proofs.LeastBoxes.{least_box_of_field}
-use Rattle.mf_frame.specs.Frames.{box_frame}
+use Rattle.mf_rows.proofs.BoxesOfDots.{least_box_is, least_box_of_field}
+use Rattle.mf_frame.specs.Frames.{frame_text}
 use Rattle.mf_frame.proofs.DotsInWindow.{all_in_window}
 use Rattle.mf_frame.proofs.FrameLines.{drawn_lines}
 use Rattle.mf_frame.proofs.Windows.{is_scale, stays_scale}
@@ -19,11 +19,11 @@ pub push_measures-requires : goal.push_measures-requires
 push_measures-requires c = least_box_of_field _ _ c.total-total.ensures.lawful c.requires
 
 pub returns : goal.returns
-unfolding box_frame
+unfolding frame_text
 returns c =
     let w = c.fitting-window.result in
     let lines = drawn_lines c.args.style _ _ _ c.in_ok-shades.ensures in
     let scale = stays_scale w.scale c.fitting-window.ensures.lawful.scale in
     let total : to_z w64 (of_z w64 c.total-total.result) ≡ total_of c.args.picture.now = omega (arith, ints, c.total-total.ensures.value) in
-    rw (← c.fitting-window.ensures.value, c.in_ok-push_measures.ensures, c.in_ok-push_heading.ensures, c.in_ok-push_lines.ensures)
+    rw (least_box_is _ _ c.requires, ← c.fitting-window.ensures.value, c.in_ok-push_measures.ensures, c.in_ok-push_heading.ensures, c.in_ok-push_lines.ensures)
     (rw (c.in_ok-push_empty_lines_above.ensures, c.new-text.ensures.items, c.deref.ensures.value, total, lines, scale) refl)

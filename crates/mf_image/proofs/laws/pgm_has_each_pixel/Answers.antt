@@ -1,7 +1,7 @@
 use Rattle.std.proofs.Common.{◌+◌, ◌*◌, [], length, ap, ◌∙◌, arith, length-append}
 use lib.Seq.{get_or-append-add}
-use Rattle.mf_show.specs.Grid.{extent}
-use Rattle.mf_show.proofs.ShownPixels.{pixel_at, rows_length}
+use Rattle.mf_show.specs.Grid.{extent, shown_at}
+use Rattle.mf_show.proofs.ShownPixels.{box_length, pixel_at}
 use Rattle.mf_image.specs.Boxes.{image_box}
 use Rattle.mf_image.specs.Pgm.{box_bytes, level, pgm_bytes, pgm_head}
 use Rattle.mf_image.proofs.laws.pgm_has_each_pixel.Goals as goal
@@ -12,11 +12,9 @@ returns c = record {
   pixels = λ ds i j column row.
       let b = image_box ds in
       let w = extent b.min_x b.max_x in
-      get_or-append-add (pgm_head b) (box_bytes ds b) (j * w + i) 0
-      ∙ pixel_at level [] ds b.min_x w w (omega arith) b.max_y (extent b.min_y b.max_y) i j column row;
+      get_or-append-add (pgm_head b) (box_bytes ds b) (j * w + i) 0 ∙ pixel_at (shown_at level ds) [] b w (omega arith) i j column row;
   whole = λ ds.
       let b = image_box ds in
-      let w = extent b.min_x b.max_x in
       length-append (pgm_head b) (box_bytes ds b)
-      ∙ ap (λ k. length (pgm_head b) + k) (rows_length level [] ds b.min_x w w (omega arith) b.max_y (extent b.min_y b.max_y));
+      ∙ ap (λ k. length (pgm_head b) + k) (box_length (shown_at level ds) [] b (extent b.min_x b.max_x) (omega arith));
 }

@@ -1,7 +1,8 @@
 use Rattle.std.proofs.Common.{◌≡◌, to_z, of_z, w32, arith}
 use Rattle.std.specs.Int.{int_max, int_min}
 use Rattle.std.proofs.lemmas.Int.{clamps, ints}
-use Rattle.mf_image.proofs.PathTexts.{none_spanned, first_is_lawful, one_more_spanned, all_spanned}
+use Rattle.mf_show.proofs.WrittenRuns.{first_is_lawful}
+use Rattle.mf_image.proofs.PathTexts.{none_spanned, one_more_spanned, all_spanned}
 use Rattle.mf_image.proofs.svg_image.weights.Goals as goal
 
 pub loop-run-init : goal.loop-run-init

@@ -1,38 +1,36 @@
-use Rattle.std.proofs.Common.{◌≡◌, refl, arith}
-use Rattle.std.proofs.lemmas.Int.{ints}
+use Rattle.std.proofs.Common.{refl, sym, ◌∙◌}
+use Rattle.std.proofs.lemmas.Bool.{false≢true}
 use Rattle.std.proofs.lemmas.Result.{err_from_is_err_and}
-use Rattle.mf_show.specs.Grid.{extent}
-use Rattle.mf_show.proofs.GridTexts.{grid_of_box, too_large, not_too_large}
-use Rattle.mf_show.proofs.LeastBoxes.{least_box_of_field}
+use Rattle.mf_rows.proofs.BoxesOfDots.{least_box_of_field}
+use Rattle.mf_show.proofs.GridTexts.{blank_fits, grid_of_blank, large_box}
 use Rattle.mf_show.proofs.grid.proof_grid.Goals as goal
 
-pub extent-columns-requires : goal.extent-columns-requires
-extent-columns-requires c =
-    let box = least_box_of_field _ _ c.bounds.ensures.lawful c.in-Some.ensures.least in
-    record { least = omega (arith, ints); greatest = omega (arith, ints); order = omega (arith, ints) }
+pub returns-in_err-blank-clause-too_large : goal.returns-in_err-blank-clause-too_large
+returns-in_err-blank-clause-too_large c =
+    let fault = err_from_is_err_and c.from_residual.result c.from_residual.ensures.1 in
+    (λ large. absurd (blank_fits _ (c.in_default.ensures.blank.0 refl) large), λ same. absurd (cc (fault.1, fault.2, same)))
 
-pub extent-rows-requires : goal.extent-rows-requires
-extent-rows-requires c =
-    let box = least_box_of_field _ _ c.bounds.ensures.lawful c.in-Some.ensures.least in
-    record { least = omega (arith, ints); greatest = omega (arith, ints); order = omega (arith, ints) }
+pub returns-in_default-clause-text : goal.returns-in_default-clause-text
+returns-in_default-clause-text c = c.in_ok-blank.ensures ∙ sym (grid_of_blank _ (c.in_default.ensures.blank.0 refl))
 
-pub returns-then-columns-gt-MAX_SIDE-clause-too_large : goal.returns-then-columns-gt-MAX_SIDE-clause-too_large
-returns-then-columns-gt-MAX_SIDE-clause-too_large c =
-    let b = c.in-Some.bounds in
-    let columns : c.extent-columns.result ≡ extent b.min_x b.max_x = omega (arith, ints) in
-    let rows : c.extent-rows.result ≡ extent b.min_y b.max_y = omega (arith, ints) in
-    (λ _. refl, λ _. too_large _ b _ _ c.in-Some.ensures.least columns rows c.then-columns-gt-MAX_SIDE.either)
+pub returns-in_default-clause-too_large : goal.returns-in_default-clause-too_large
+returns-in_default-clause-too_large c = (λ large. absurd (blank_fits _ (c.in_default.ensures.blank.0 refl) large), λ same. absurd (cc same))
+
+pub is_larger_than-requires : goal.is_larger_than-requires
+is_larger_than-requires c = least_box_of_field _ _ c.bounds.ensures.lawful c.in-Some.ensures.least
+
+pub returns-then-is_larger_than-clause-too_large : goal.returns-then-is_larger_than-clause-too_large
+returns-then-is_larger_than-clause-too_large c = (λ _. refl, λ _. (large_box _ _ c.in-Some.ensures.least).1 (c.if-is_larger_than.ensures.0 refl))
 
 pub returns-in_err-box_text-clause-too_large : goal.returns-in_err-box_text-clause-too_large
 returns-in_err-box_text-clause-too_large c =
     let fault = err_from_is_err_and c.from_residual-in_err-box_text.result c.from_residual-in_err-box_text.ensures.1 in (
-      λ large. absurd (not_too_large _ _ c.in-Some.ensures.least (omega (arith, ints)) (omega (arith, ints)) large),
+      λ large. absurd (false≢true (c.if-is_larger_than.ensures.1 ((large_box _ _ c.in-Some.ensures.least).0 large))),
       λ same. absurd (cc (fault.1, fault.2, same)),
     )
 
-pub returns-clause-text : goal.returns-clause-text
-returns-clause-text c = grid_of_box _ _ _ c.in-Some.ensures.least c.in_ok-box_text.ensures
-
 pub returns-clause-too_large : goal.returns-clause-too_large
-returns-clause-too_large c =
-    (λ large. absurd (not_too_large _ _ c.in-Some.ensures.least (omega (arith, ints)) (omega (arith, ints)) large), λ same. absurd (cc same))
+returns-clause-too_large c = (
+  λ large. absurd (false≢true (c.if-is_larger_than.ensures.1 ((large_box _ _ c.in-Some.ensures.least).0 large))),
+  λ same. absurd (cc same),
+)

@@ -1,6 +1,15 @@
-use Rattle.mf_show.specs.RunsAhead.{runs_ahead}
-use Rattle.mf_show.proofs.GridTexts.{IsLineSoFar, grid_row}
+use Rattle.mf_rows.specs.Dots.{place}
+use Rattle.mf_show.specs.Grid.{grid_character, shown_at}
+use Rattle.mf_show.specs.RunsAhead.{AreAhead, dots_ahead, runs_ahead}
+use Rattle.mf_show.proofs.ShownRows.{IsRowSoFar}
 use Rattle.mf_show.proofs.grid.push_row.Given as goal
 
 abbrev pub invariant-loop-x : goal.invariant-loop-x
-invariant-loop-x l = IsLineSoFar (grid_row l.y l.first l.last l.initial.text.items (runs_ahead l.initial.weights)) l.x l.text.items (runs_ahead l.weights)
+invariant-loop-x l =
+    IsRowSoFar (record {
+      show = shown_at grid_character (dots_ahead l.initial.weights) l.y;
+      first = l.first;
+      last = l.last;
+      old = l.initial.text.items;
+    }) l.x l.text.items
+    × AreAhead (place l.x l.y) (dots_ahead l.initial.weights) (runs_ahead l.weights)

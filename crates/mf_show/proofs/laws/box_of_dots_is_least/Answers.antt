@@ -1,5 +1,5 @@
 use Rattle.std.proofs.Common.{[], refl}
-use Rattle.mf_show.proofs.LeastBoxes.{least_box_is, least_box_of_dots, no_box}
+use Rattle.mf_rows.proofs.BoxesOfDots.{least_box_is, least_box_of_dots, no_box}
 use Rattle.mf_show.proofs.laws.box_of_dots_is_least.Goals as goal
 
 pub returns : goal.returns

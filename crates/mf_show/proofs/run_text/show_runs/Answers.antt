@@ -1,30 +1,30 @@
 use Rattle.std.proofs.Common.{◌≡◌, [], ap, ◌∙◌, refl, arith}
 use Rattle.std.proofs.lemmas.Bool.{false≢true}
 use Rattle.std.proofs.lemmas.List.{nil_from_length}
-use Rattle.mf_show.proofs.WrittenRuns.{none_written, next_is_lawful, one_more_written, blank_written, all_written}
+use Rattle.mf_show.proofs.WrittenRuns.{all_written, blank_text, first_is_lawful, lines_text, none_written, one_more_written}
+use Rattle.mf_show.specs.RunText.{run_line}
 use Rattle.mf_show.proofs.run_text.show_runs.Goals as goal
 use Rattle.mf_show.proofs.run_text.show_runs.Goals.{then-is_empty+in_ok-extend_from_slice, else-is_empty}
 
 pub loop-run-init : goal.loop-run-init
 loop-run-init c =
-    none_written _ _ _ c.runs-run-items.ensures.lawful
-    (rw c.into_iter-run-iterator.ensures.into_iter_gives c.runs-run-items.ensures.runs) c.in_ok-text.ensures.items
+    rw c.in_ok-text.ensures.items (none_written run_line _ _ [] c.runs-run-items.ensures.lawful
+    (rw c.into_iter-run-iterator.ensures.into_iter_gives c.runs-run-items.ensures.runs))
 
 pub push_line-requires : goal.push_line-requires
-push_line-requires c = next_is_lawful _ _ _ _ _ c.in-Some.ensures.steps c.loop-run.invariant
+push_line-requires c = first_is_lawful _ _ _ c.in-Some.ensures.steps c.loop-run.invariant.runs
 
 pub loop-run-preserved : goal.loop-run-preserved
-loop-run-preserved c = one_more_written _ _ _ _ _ _ c.in-Some.ensures.steps c.in_ok-push_line.ensures c.loop-run.invariant
+loop-run-preserved c = one_more_written run_line _ _ _ _ _ _ c.in-Some.ensures.steps c.in_ok-push_line.ensures c.loop-run.invariant
 
 pub returns : goal.returns
 returns c =
-    let all = c.in-None.ensures.steps.0 in
+    let lines = all_written run_line _ _ _ c.in-None.ensures.steps.0 c.loop-run.invariant in
     let count = c.loop-run.text.ok.0 in
     elim c.if-is_empty.branch [
       | then-is_empty+in_ok-extend_from_slice w ↦
           (let empty : c.loop-run.text.items ≡ [] = nil_from_length c.loop-run.text.items (grind (arith, w.if-is_empty.ensures, count)) in
-          ap (λ v. v.items) w.text-is ∙ w.in_ok-extend_from_slice.ensures.items ∙ rw empty (blank_written _ _ _ all c.loop-run.invariant empty))
+          ap (λ v. v.items) w.text-is ∙ w.in_ok-extend_from_slice.ensures.items ∙ rw empty (blank_text _ _ lines empty))
       | else-is_empty w ↦
-          ap (λ v. v.items) w.text-is
-          ∙ all_written _ _ _ all c.loop-run.invariant (λ empty. false≢true (w.if-is_empty.ensures ∙ rw (count, empty) refl))
+          ap (λ v. v.items) w.text-is ∙ lines_text _ _ lines (λ empty. false≢true (w.if-is_empty.ensures ∙ rw (count, empty) refl))
     ]

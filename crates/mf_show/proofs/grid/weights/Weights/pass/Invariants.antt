@@ -1,10 +1,10 @@
 use Rattle.std.proofs.Common.{length}
-use Rattle.mf_show.specs.RunsAhead.{runs_ahead}
-use Rattle.mf_show.proofs.PassedPixels.{ArePassedTo}
+use Rattle.mf_rows.specs.Dots.{place}
+use Rattle.mf_show.specs.RunsAhead.{AreAhead, dots_ahead, runs_ahead}
 use Rattle.mf_show.proofs.grid.weights.Weights.pass.Given as goal
 
 abbrev pub invariant-loop-self : goal.invariant-loop-self
-invariant-loop-self l = ArePassedTo l.x l.y (runs_ahead l.initial.self) (runs_ahead l.self)
+invariant-loop-self l = AreAhead (place l.x l.y) (dots_ahead l.initial.self) (runs_ahead l.self)
 
 abbrev pub decreases-loop-self : goal.decreases-loop-self
 decreases-loop-self l = length (runs_ahead l.self)

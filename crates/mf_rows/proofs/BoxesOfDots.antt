@@ -1,14 +1,14 @@
--- The least box of a picture.
+-- The least box of a picture, as a value.
 use Rattle.std.proofs.Common.{◌≡◌, ◌≤ℤ◌, List, [], ◌∷◌, None, Some, refl, ap, arith}
 use Rattle.std.specs.List.{All, Any}
 use Rattle.std.proofs.lemmas.Int.{ints}
 use Rattle.std.proofs.lemmas.List.Elements.{All-contains, All-nil, All-cons}
 use Rattle.mf_rows.specs.declared.bounds.Box4.{Box4}
 use Rattle.mf_rows.specs.Bounds.{IsDotIn, IsLeastBox}
+use Rattle.mf_rows.specs.Boxes.{IsBoxOfField, box_of, box_of_dot, box_of_dots}
 use Rattle.mf_rows.specs.Dots.{Dot, IsPicture}
 use Rattle.mf_rows.proofs.BoundsInField.{bounds_in_field}
 use Rattle.mf_rows.proofs.BoxesJoined.{box_of_some, least_box_of_both}
-use Rattle.mf_show.specs.Boxes.{IsBoxOfField, box_of, box_of_dot, box_of_dots}
 
 -- what holds for all dots holds for the one that some property finds
 found : (P Q : Dot → Type 0) (ds : List Dot) (some : Any P ds) → All Q ds → Q some.1
@@ -77,10 +77,6 @@ unfolding box_of_dots
 least_box_of_dots d [] = least_box_of_dot d
 least_box_of_dots d (e ∷ ds) =
     least_box_of_both (d ∷ []) (e ∷ ds) (box_of_dot d) (box_of_dots e ds) (least_box_of_dot d) (least_box_of_dots e ds)
-
--- a picture with a dot has a least box
-pub some_least_box : (d : Dot) (ds : List Dot) → (b : Box4) × IsLeastBox (d ∷ ds) b
-some_least_box d ds = (box_of_dots d ds, least_box_of_dots d ds)
 
 -- the least box of a picture is the one that is defined
 pub least_box_is : (ds : List Dot) (b : Box4) → IsLeastBox ds b → box_of ds ≡ Some b

@@ -1,9 +1,18 @@
--- The least box of a picture, as a value.
+-- Boxes as values: the one round two others, and the least box of a picture.
 use Rattle.std.specs.Prelude.{◌≤ℤ◌, List, [], ◌∷◌, Option, None, Some}
+use Rattle.std.specs.Int.{int_max, int_min}
 use Rattle.mf_geom.specs.Coordinates.{least_coordinate, last_in_field}
 use Rattle.mf_rows.specs.declared.bounds.Box4.{Box4}
 use Rattle.mf_rows.specs.Dots.{Dot}
-use Rattle.mf_rows.specs.Widening.{box_round_both}
+
+-- the least box round two boxes
+abbrev pub box_round_both : Box4 → Box4 → Box4
+box_round_both a b = record {
+  min_x = int_min a.min_x b.min_x;
+  max_x = int_max a.max_x b.max_x;
+  min_y = int_min a.min_y b.min_y;
+  max_y = int_max a.max_y b.max_y;
+}
 
 -- the box of one dot
 abbrev pub box_of_dot : Dot → Box4
