@@ -1,4 +1,4 @@
--- The runs of a set of pixels, as stretches of black pixels that a pen can paint one after another.
+-- The runs of a set of pixels, as stretches of black pixels that the machine can paint one after another.
 use Rattle.std.proofs.Common.{◌≡◌, ℤ, pos, ◌+ℤ◌, ◌≤ℤ◌, List, [], ◌∷◌, sym, subst, subst₂, arith}
 use Rattle.std.specs.List.{All}
 use Rattle.std.proofs.lemmas.Bool.{cond_both}
@@ -12,7 +12,7 @@ use Rattle.mf_rows.proofs.PlacesLemmas.{place-next}
 use Rattle.mf_rows.proofs.RunsLemmas.{continued}
 use Rattle.mf_gf.proofs.DrawnRows.{IsNext, AreNext}
 
--- a dot of weight 1 at a place or after it is a stretch that the pen can go to
+-- a dot of weight 1 at a place or after it is a stretch that the machine can go to
 next_dot : (left row column : ℤ) (d : Dot) → least_coordinate ≤ℤ left → left ≤ℤ column → row ≤ℤ last_in_field → IsDot d
     → d.weight ≡ pos 1 → left ≤ℤ d.x → place column row ≤ℤ place d.x d.y → IsNext left row column (run_from d 0)
 unfolding run_from place
@@ -59,7 +59,7 @@ next_with_dot left row column d (r ∷ rs) first others =
     ))
     (λ no. (first, others))
 
--- the pen can go from run to run, starting at a place before the first one
+-- the machine can go from run to run, starting at a place before the first one
 pub next_runs : (left row column : ℤ) (ds : List Dot) → least_coordinate ≤ℤ left → left ≤ℤ column → row ≤ℤ last_in_field
     → AreDotsFrom (place column row) ds → All (λ d. d.weight ≡ pos 1) ds → All (λ d. left ≤ℤ d.x) ds → AreNext left row column (runs_of ds)
 unfolding runs_of

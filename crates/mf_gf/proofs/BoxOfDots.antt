@@ -21,7 +21,7 @@ use Rattle.mf_gf.specs.Painting.{pixels_from, pixels_in, pixels_of_character, he
 use Rattle.mf_gf.proofs.BoxesInRange.{IsBoxInRange}
 use Rattle.mf_gf.specs.Spelling.{is_byte, is_short, short_begin, long_begin, begin}
 
--- a pen that starts at the left end and the top of a box can paint pixels
+-- the machine can paint pixels when it starts at the left end and the top of a box
 pub record IsBoxOf (b : CharacterBox) (ds : List Dot) : Type 0 where
   pub left : least_coordinate ≤ℤ b.min_m
   pub top : b.max_n ≤ℤ last_in_field

@@ -16,7 +16,7 @@ use Rattle.mf_gf.specs.Numbers.{IsWord, code_count, greatest_word}
 use Rattle.mf_gf.specs.Painting.{head_of, pixels_of_character}
 use Rattle.mf_gf.specs.Pixels.{IsPixelSet}
 use Rattle.mf_gf.specs.Pointers.{IsCharacterAt, IsShippable, LeadsBack}
-use Rattle.mf_gf.specs.Spelling.{begin, pointer, rows, spell}
+use Rattle.mf_gf.specs.Spelling.{begin, pointer, spell, stretches_text}
 use Rattle.mf_gf.proofs.BoxesInRange.{box_in_range}
 use Rattle.mf_gf.proofs.BoxOfDots.{head-begin}
 use Rattle.mf_gf.proofs.LocatorsRead.{split}
@@ -30,7 +30,7 @@ pub head-spell : (code : ℕ) (p : ℤ) (ds : List Dot) (rest : List ℕ) → co
 unfolding spell
 head-spell code p ds rest fits p_fits set =
     let b = box_of_pixels ds in
-    let all = rows b.min_m b.max_n b.min_m (runs_of ds) in
+    let all = stretches_text b.min_m b.max_n b.min_m (runs_of ds) in
     ap (λ bytes. head_of (bytes ++ rest)) (append_assoc (begin code p b) all (gf.eoc ∷ []))
     ∙ ap head_of (append_assoc (begin code p b) (all ++ gf.eoc ∷ []) rest)
     ∙ head-begin code p b (all ++ gf.eoc ∷ [] ++ rest) fits p_fits (box_in_range ds set.picture)

@@ -11,11 +11,11 @@ use Rattle.mf_rows.specs.declared.run.Run.{Run}
 use Rattle.mf_rows.specs.Dots.{Dot}
 use Rattle.mf_rows.specs.Runs.{dots_of}
 use Rattle.mf_gf.specs.Format as gf
-use Rattle.mf_gf.specs.Painting.{Stroke, Paint, Skip, NewRow, Pen, pixels_of_strokes, pen_at, pixels_from}
-use Rattle.mf_gf.specs.Spelling.{paint, skip, new_row, distance, approach, rows}
+use Rattle.mf_gf.specs.Painting.{Stroke, Paint, Skip, NewRow, Machine, pixels_of_strokes, machine_at, pixels_from}
+use Rattle.mf_gf.specs.Spelling.{paint, skip, new_row, distance, approach, stretches_text}
 use Rattle.mf_gf.proofs.ReadBack.{Spells, spells_none, spells_one, spells_both, strokes-spelled, writes_paint, writes_skip, writes_new_row}
 
--- a stretch of black pixels to which a pen can go from a position in the same row or above it
+-- a stretch of black pixels to which the machine can go from a position in the same row or above it
 pub record IsNext (left row column : ℤ) (r : Run) : Type 0 where
   pub weight : r.weight ≡ pos 1
   pub field_left : least_coordinate ≤ℤ left
@@ -27,16 +27,16 @@ pub record IsNext (left row column : ℤ) (r : Run) : Type 0 where
   pub bottom : least_coordinate ≤ℤ r.y
   pub behind : r.y ≡ row → column ≤ℤ r.x
 
--- stretches of black pixels, to each of which a pen can go from the end of the one before it
+-- stretches of black pixels, to each of which the machine can go from the end of the one before it
 abbrev pub AreNext : ℤ → ℤ → ℤ → List Run → Type 0
 AreNext left row column [] = Unit {0}
 AreNext left row column (r ∷ rs) = IsNext left row column r × AreNext left r.y (r.x +ℤ pos r.len) rs
 
 -- the machine at a row and column, in white or black
-abbrev white_at : ℤ → ℤ → ℤ → Pen
+abbrev white_at : ℤ → ℤ → ℤ → Machine
 white_at left row column = record { row = row; column = column; left = left; is_black = false }
 
-abbrev black_at : ℤ → ℤ → ℤ → Pen
+abbrev black_at : ℤ → ℤ → ℤ → Machine
 black_at left row column = record { row = row; column = column; left = left; is_black = true }
 
 -- while it is black, the machine paints a run
@@ -45,12 +45,12 @@ drawn_run : (left y x : ℤ) (r : Run) (others : List Stroke) → y ≡ r.y → 
 unfolding pixels_of_strokes dots_of
 drawn_run left y x r others row column weight = rw (row, column, weight) refl
 
--- bytes that take a pen to the start of a run
-record Approaches (pen : Pen) (r : Run) (bytes : List ℕ) : Type 0 where
+-- bytes that take the machine to the start of a run
+record Approaches (machine : Machine) (r : Run) (bytes : List ℕ) : Type 0 where
   commands : List Stroke
   spelled : Spells bytes commands
-  drawn : (others : List Stroke) → pixels_of_strokes pen (commands ++ Paint r.len ∷ others)
-      ≡ dots_of r ++ pixels_of_strokes (white_at pen.left r.y (r.x +ℤ pos r.len)) others
+  drawn : (others : List Stroke) → pixels_of_strokes machine (commands ++ Paint r.len ∷ others)
+      ≡ dots_of r ++ pixels_of_strokes (white_at machine.left r.y (r.x +ℤ pos r.len)) others
 
 in_row : (left row column : ℤ) (r : Run) → IsNext left row column r → r.y ≡ row → Approaches (white_at left row column) r (paint (distance r.x column))
 unfolding pixels_of_strokes
@@ -101,15 +101,15 @@ approaches left row column r next =
     (eqb-true (distance row r.y) 1 tests.0) (leb-true (distance r.x left) gf.most_new_row tests.1))
     (λ far. in_lower_row left row column r next (λ same. false≢true (sym no ∙ (Decides-int_eq r.y row).1 same))))
 
--- bytes by which a pen makes these pixels black
-record Draws (pen : Pen) (bytes : List ℕ) (ds : List Dot) : Type 0 where
+-- bytes by which the machine makes these pixels black
+record Draws (machine : Machine) (bytes : List ℕ) (ds : List Dot) : Type 0 where
   commands : List Stroke
   spelled : Spells bytes commands
-  drawn : pixels_of_strokes pen commands ≡ ds
+  drawn : pixels_of_strokes machine commands ≡ ds
 
 draws_rows : (left row column : ℤ) (rs : List Run) → AreNext left row column rs
-    → Draws (white_at left row column) (rows left row column rs) (flat_map dots_of rs)
-unfolding rows pixels_of_strokes
+    → Draws (white_at left row column) (stretches_text left row column rs) (flat_map dots_of rs)
+unfolding stretches_text pixels_of_strokes
 draws_rows left row column [] next = record { commands = []; spelled = spells_none; drawn = refl }
 draws_rows left row column (r ∷ rs) next =
     let first = approaches left row column r next.0 in
@@ -117,15 +117,15 @@ draws_rows left row column (r ∷ rs) next =
     let run = spells_one (paint r.len) (Paint r.len) (writes_paint r.len (omega (arith, ints, next.0))) in
     record {
       commands = first.commands ++ Paint r.len ∷ others.commands;
-      spelled = rw (append_assoc (approach left row column r) (paint r.len) (rows left r.y (r.x +ℤ pos r.len) rs))
+      spelled = rw (append_assoc (approach left row column r) (paint r.len) (stretches_text left r.y (r.x +ℤ pos r.len) rs))
           (spells_both _ _ _ _ first.spelled (spells_both _ _ _ _ run others.spelled));
       drawn = first.drawn others.commands ∙ ap (λ more. dots_of r ++ more) others.drawn;
     }
 
 -- the same, starting at the top left corner of a box
 pub pixels_from-rows : (left top : ℤ) (rs : List Run) → AreNext left top left rs
-    → pixels_from left top (rows left top left rs ++ gf.eoc ∷ []) ≡ Some (flat_map dots_of rs)
+    → pixels_from left top (stretches_text left top left rs ++ gf.eoc ∷ []) ≡ Some (flat_map dots_of rs)
 pixels_from-rows left top rs next =
     let all = draws_rows left top left rs next in
-    ap (option_map (pixels_of_strokes (pen_at left top))) (strokes-spelled (rows left top left rs) all.commands all.spelled)
+    ap (option_map (pixels_of_strokes (machine_at left top))) (strokes-spelled (stretches_text left top left rs) all.commands all.spelled)
     ∙ ap (λ ds. Some ds) all.drawn

@@ -4,14 +4,13 @@ use Rattle.std.specs.List.{All, Any}
 use Rattle.std.proofs.lemmas.Int.{ints, clamps}
 use Rattle.std.proofs.lemmas.List.Elements.{All-cons, All-head, All-nil, All-tail, All-weaker, Contains-append_right}
 use Rattle.mf_rows.proofs.BoxesJoined.{either_max, either_min}
-use Rattle.mf_rows.specs.Dots.{start_of_field}
 use Rattle.mf_gf.specs.declared.boxes.CharacterBox.{CharacterBox}
 use Rattle.mf_gf.specs.Boxes.{join}
 use Rattle.mf_gf.specs.Files.{Character, box_of_all}
 use Rattle.mf_gf.specs.FontNumbers.{IsLeastAround, IsWithin, box_of}
 use Rattle.mf_gf.specs.Numbers.{IsWord}
 use Rattle.mf_gf.specs.Pointers.{IsShippable}
-use Rattle.mf_gf.proofs.BoxesInRange.{box_from}
+use Rattle.mf_gf.proofs.BoxesInRange.{box_in_range}
 
 -- ---- the numbers of a box fit into four bytes
 
@@ -23,7 +22,7 @@ pub record FitsWords (b : CharacterBox) : Type 0 where
 
 box_fits : (c : Character) → IsShippable c → FitsWords (box_of c)
 box_fits c shippable =
-    let range = box_from start_of_field c.black shippable.black.picture.dots in
+    let range = box_in_range c.black shippable.black.picture in
     record {
       left = record { least = omega (arith, ints, range.columns.0.least); greatest = omega (arith, ints, range.columns.0.greatest) };
       right = record { least = omega (arith, ints, range.columns.1.least); greatest = omega (arith, ints, range.columns.1.greatest) };

@@ -10,12 +10,12 @@ use Rattle.mf_gf.specs.declared.boxes.CharacterBox.{CharacterBox}
 use Rattle.mf_gf.specs.declared.file.FontWords.{FontWords}
 use Rattle.mf_gf.specs.Boxes.{box_of_pixels}
 use Rattle.mf_gf.specs.Files.{Character, FileSoFar, body, box_of_all, bytes_so_far, ending, file_of}
-use Rattle.mf_gf.specs.Files.{last_place, locators_from, padding, post, preamble, shipments, spell_after, with_character, with_characters}
+use Rattle.mf_gf.specs.Files.{last_place, locators_from, padding, post_text, preamble, shipments, spell_after, with_character, with_characters}
 use Rattle.mf_gf.specs.FontNumbers.{IsAfterEoc, Post, comment_of, greatest_unsigned, post_at, post_of, read_post}
 use Rattle.mf_gf.specs.Format as gf
 use Rattle.mf_gf.specs.Numbers.{IsWord, code_count, greatest_word}
 use Rattle.mf_gf.specs.Pointers.{post_place}
-use Rattle.mf_gf.specs.Spelling.{begin, pointer, rows, spell}
+use Rattle.mf_gf.specs.Spelling.{begin, pointer, spell, stretches_text}
 use Rattle.mf_gf.proofs.BoxOfDots.{word-reads_back}
 use Rattle.mf_gf.proofs.PostFound.{place_found}
 use Rattle.mf_gf.proofs.Shipped.{bytes_so_far-more, file-begins}
@@ -55,7 +55,7 @@ module _ (words : FontWords) (comment : List ℕ) (cs : List Character) where
 
   -- the bytes of post
   abbrev pub numbers : List ℕ
-  numbers = post words (box_of_all cs) (length (bytes_so_far comment cs))
+  numbers = post_text words (box_of_all cs) (length (bytes_so_far comment cs))
 
   -- the bytes after it
   abbrev pub others : List ℕ
@@ -88,7 +88,7 @@ module _ (words : FontWords) (comment : List ℕ) (cs : List Character) where
 
 module _ (words : FontWords) (b : CharacterBox) (at : ℕ) (rest : List ℕ) where
   abbrev bytes : List ℕ
-  bytes = post words b at ++ rest
+  bytes = post_text words b at ++ rest
 
   pub place-read : at ≤ greatest_word → (read_post bytes).place ≡ at
   place-read short = big_number-reads_back 4 at (drop 5 bytes) (omega (arith, short))
@@ -119,7 +119,7 @@ module _ (words : FontWords) (b : CharacterBox) (at : ℕ) (rest : List ℕ) whe
 spell-ends : (code : ℕ) (p : ℤ) (ds : List Dot) → (before : List ℕ) × (spell code p ds ≡ before ++ 69 ∷ [])
 unfolding spell
 spell-ends code p ds =
-    let b = box_of_pixels ds in (begin code p b ++ rows b.min_m b.max_n b.min_m (runs_of ds), refl)
+    let b = box_of_pixels ds in (begin code p b ++ stretches_text b.min_m b.max_n b.min_m (runs_of ds), refl)
 
 byte_before : (before more bytes : List ℕ) (last : ℕ) → bytes ≡ before ++ last ∷ [] → slice_index (bytes ++ more) (length bytes - 1) ≡ last
 byte_before before more bytes last is =

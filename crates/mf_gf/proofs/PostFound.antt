@@ -10,7 +10,7 @@ use Rattle.byteorder.specs.Numbers.{big_number-reads_back}
 use Rattle.mf_gf.specs.declared.file.FontWords.{FontWords}
 use Rattle.mf_gf.specs.declared.locator.Locator.{Locator}
 use Rattle.mf_gf.specs.Files.{Character, Shipment, body, box_of_all, bytes_so_far, ending, file_of}
-use Rattle.mf_gf.specs.Files.{last_shipment, locator_of, locators_from, padding, post, shipments}
+use Rattle.mf_gf.specs.Files.{last_shipment, locator_of, locators_from, padding, post_text, shipments}
 use Rattle.mf_gf.specs.Format as gf
 use Rattle.mf_gf.specs.Numbers.{code_count, greatest_word, word}
 use Rattle.mf_gf.specs.Pointers.{locators_after, locators_of, locators_within, post_place, post_place_back}
@@ -57,7 +57,7 @@ locators_found words comment cs short fits =
     let characters = bytes_so_far comment cs in
     let place = length characters in
     let b = box_of_all cs in
-    let behind = post words b place in
+    let behind = post_text words b place in
     let locators = locators_from 0 code_count (shipments comment cs) in
     let last = ending place (length (body words comment cs)) in
     let file = file_of words comment cs in

@@ -5,7 +5,7 @@ use Rattle.mf_gf.specs.declared.file.FontWords.{FontWords}
 use Rattle.mf_gf.specs.declared.file.GfFile.{GfFile}
 use Rattle.mf_gf.specs.Boxes.{box_of_pixels, join, widen}
 use Rattle.mf_gf.specs.Files.{Character, FileSoFar, Shipment, body, box_of_all, bytes_so_far, ending, file_of, file_so_far}
-use Rattle.mf_gf.specs.Files.{last_place, locator_of, locators_from, post, shipments, spell_after, with_character, with_characters}
+use Rattle.mf_gf.specs.Files.{last_place, locator_of, locators_from, post_text, shipments, spell_after, with_character, with_characters}
 use Rattle.mf_gf.specs.Keeping.{HasLasts, IsAppended, Keeps, bounds_of}
 use Rattle.mf_gf.specs.Numbers.{code_count}
 use Rattle.mf_gf.specs.Spelling.{pointer, spell}
@@ -71,7 +71,7 @@ pub file-begins : (words : FontWords) (comment : List ℕ) (cs : List Character)
 unfolding file_of
 file-begins words comment cs =
     let before = bytes_so_far comment cs in
-    let behind = post words (box_of_all cs) (length before) in
+    let behind = post_text words (box_of_all cs) (length before) in
     let locators = locators_from 0 code_count (shipments comment cs) in
     let last = ending (length before) (length (body words comment cs)) in
     (behind ++ (locators ++ last), append_assoc (before ++ behind) locators last ∙ append_assoc before behind (locators ++ last))

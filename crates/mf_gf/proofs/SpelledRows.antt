@@ -15,7 +15,7 @@ use Rattle.mf_gf.specs.declared.boxes.CharacterBox.{CharacterBox}
 use Rattle.mf_gf.specs.declared.spelling.Spelling.{Spelling}
 use Rattle.mf_gf.specs.Boxes.{box_of_pixels}
 use Rattle.mf_gf.specs.Format as gf
-use Rattle.mf_gf.specs.Spelling.{approach, begin, paint, rows, spell}
+use Rattle.mf_gf.specs.Spelling.{approach, begin, paint, spell, stretches_text}
 use Rattle.mf_gf.specs.Spellings.{Holds}
 use Rattle.mf_gf.proofs.Writing.{Writes, write_both, write_same}
 
@@ -28,7 +28,7 @@ picture_from low (d ∷ ds) dots = record { dots = (dots.0, start_of_field-le d.
 pub stretches_are_runs : (ds : List Dot) → IsPicture ds → All IsRun (runs_of ds)
 stretches_are_runs ds picture = lawful_runs_of ds picture
 
--- the stretches still to come, from a position of the pen and in a box with this left end
+-- the stretches still to come, from a position of the machine and in a box with this left end
 pub record Coming : Type 0 where
   pub left : ℤ
   pub row : ℤ
@@ -36,7 +36,7 @@ pub record Coming : Type 0 where
   pub runs : List Run
 
 abbrev pub text_of : Coming → List ℕ
-text_of c = rows c.left c.row c.column c.runs
+text_of c = stretches_text c.left c.row c.column c.runs
 
 -- of this text, what comes before the coming stretches is spelled
 pub record AreSpelled (before out : Spelling) (text : List ℕ) (c : Coming) : Type 0 where
@@ -60,14 +60,14 @@ none_spelled before c runs row_in_range column_in_range = record {
   column_in_range = column_in_range;
 }
 
-rows-cons : (left row column : ℤ) (r : Run) (rs : List Run)
-    → rows left row column (r ∷ rs) ≡ approach left row column r ++ paint r.len ++ rows left r.y (r.x +ℤ pos r.len) rs
-unfolding rows
-rows-cons left row column r rs = refl
+stretches_text-cons : (left row column : ℤ) (r : Run) (rs : List Run)
+    → stretches_text left row column (r ∷ rs) ≡ approach left row column r ++ paint r.len ++ stretches_text left r.y (r.x +ℤ pos r.len) rs
+unfolding stretches_text
+stretches_text-cons left row column r rs = refl
 
-rows-nil : (left row column : ℤ) → rows left row column [] ≡ []
-unfolding rows
-rows-nil left row column = refl
+stretches_text-nil : (left row column : ℤ) → stretches_text left row column [] ≡ []
+unfolding stretches_text
+stretches_text-nil left row column = refl
 
 module _ (before out : Spelling) (text : List ℕ) (c : Coming) where
   pub next_is_run : (r : Run) (others : List Run) → c.runs ≡ r ∷ others → AreSpelled before out text c → IsRun r
@@ -83,9 +83,9 @@ module _ (before out : Spelling) (text : List ℕ) (c : Coming) where
         written = so_far.written ++ stroke;
         writes = write_both _ _ _ _ _ so_far.writes puts;
         rest =
-            append_assoc so_far.written stroke (rows c.left r.y (r.x +ℤ pos r.len) others)
-            ∙ ap (λ bytes. so_far.written ++ bytes) (sym (rows-cons c.left c.row c.column r others))
-            ∙ ap (λ rs. so_far.written ++ rows c.left c.row c.column rs) (sym first) ∙ so_far.rest;
+            append_assoc so_far.written stroke (stretches_text c.left r.y (r.x +ℤ pos r.len) others)
+            ∙ ap (λ bytes. so_far.written ++ bytes) (sym (stretches_text-cons c.left c.row c.column r others))
+            ∙ ap (λ rs. so_far.written ++ stretches_text c.left c.row c.column rs) (sym first) ∙ so_far.rest;
         room = same_room ∙ so_far.room;
         runs = All-rest IsRun r others c.runs first so_far.runs;
         row_in_range = record { least = run.bottom; greatest = omega (arith, ints, run.top) };
@@ -95,11 +95,11 @@ module _ (before out : Spelling) (text : List ℕ) (c : Coming) where
   pub all_spelled : c.runs ≡ [] → AreSpelled before out text c → Writes before out text
   all_spelled none so_far =
       write_same _ _ _ _
-      (sym (append-nil so_far.written) ∙ ap (λ bytes. so_far.written ++ bytes) (sym (rows-nil c.left c.row c.column))
-      ∙ ap (λ rs. so_far.written ++ rows c.left c.row c.column rs) (sym none) ∙ so_far.rest)
+      (sym (append-nil so_far.written) ∙ ap (λ bytes. so_far.written ++ bytes) (sym (stretches_text-nil c.left c.row c.column))
+      ∙ ap (λ rs. so_far.written ++ stretches_text c.left c.row c.column rs) (sym none) ∙ so_far.rest)
       so_far.writes
 
 pub spell-is : (code : ℕ) (p : ℤ) (ds : List Dot) (b : CharacterBox) (rs : List Run) → b ≡ box_of_pixels ds → rs ≡ runs_of ds
-    → begin code p b ++ rows b.min_m b.max_n b.min_m rs ++ gf.eoc ∷ [] ≡ spell code p ds
+    → begin code p b ++ stretches_text b.min_m b.max_n b.min_m rs ++ gf.eoc ∷ [] ≡ spell code p ds
 unfolding spell
 spell-is code p ds b rs bounds all = rw (bounds, all) refl

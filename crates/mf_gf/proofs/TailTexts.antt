@@ -9,7 +9,7 @@ use Rattle.mf_gf.specs.declared.file.FontWords.{FontWords}
 use Rattle.mf_gf.specs.declared.file.GfFile.{GfFile}
 use Rattle.mf_gf.specs.declared.finished.GfBytes.{GfBytes}
 use Rattle.mf_gf.specs.declared.spelling.Spelling.{Spelling}
-use Rattle.mf_gf.specs.Files.{Character, box_of_all, bytes_so_far, ending, file_of, locators_from, post, shipments}
+use Rattle.mf_gf.specs.Files.{Character, box_of_all, bytes_so_far, ending, file_of, locators_from, post_text, shipments}
 use Rattle.mf_gf.specs.Keeping.{IsRefusedAs, IsSameFile, Keeps, bounds_of, table_text}
 use Rattle.mf_gf.specs.Numbers.{code_count}
 use Rattle.mf_gf.specs.Spellings.{Holds}
@@ -17,11 +17,11 @@ use Rattle.mf_gf.specs.Tails.{tail_of}
 use Rattle.mf_gf.proofs.LocatorTexts.{table_text-is}
 
 pub tail_held : (s : Spelling) (words : FontWords) (b : CharacterBox) (place : ℕ) (bytes locators : List ℕ) → place ≡ length bytes
-    → Holds s (post words b place ++ locators ++ ending place (place + length (post words b place ++ locators)))
+    → Holds s (post_text words b place ++ locators ++ ending place (place + length (post_text words b place ++ locators)))
     → Holds s (tail_of words b bytes locators)
 unfolding tail_of
 tail_held s words b place bytes locators is =
-    subst (λ (at : ℕ). Holds s (post words b at ++ locators ++ ending at (at + length (post words b at ++ locators)))) is
+    subst (λ (at : ℕ). Holds s (post_text words b at ++ locators ++ ending at (at + length (post_text words b at ++ locators)))) is
 
 -- there is no room for the tail exactly where there is none for the complete file
 pub too_long_behind : {P : Type 0} (room max_bytes : ℕ) (before text : List ℕ) → room + length before ≡ max_bytes
@@ -45,7 +45,7 @@ file_of-tail : (words : FontWords) (comment : List ℕ) (cs : List Character)
     ≡ bytes_so_far comment cs ++ tail_of words (box_of_all cs) (bytes_so_far comment cs) (locators_from 0 code_count (shipments comment cs))
 unfolding file_of tail_of
 file_of-tail words comment cs =
-    split_file (bytes_so_far comment cs) (post words (box_of_all cs) (length (bytes_so_far comment cs)))
+    split_file (bytes_so_far comment cs) (post_text words (box_of_all cs) (length (bytes_so_far comment cs)))
     (locators_from 0 code_count (shipments comment cs)) (ending (length (bytes_so_far comment cs)))
 
 box_of_all-some : (cs : List Character) (b : CharacterBox) → bounds_of cs ≡ Some b → box_of_all cs ≡ b

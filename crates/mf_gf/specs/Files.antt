@@ -107,8 +107,8 @@ box_of_all (c ∷ []) = box_of_pixels c.black
 box_of_all (c ∷ d ∷ cs) = join (box_of_pixels c.black) (box_of_all (d ∷ cs))
 
 -- post, with which the postamble begins: its own place, the numbers of the font, and the box of all characters
-abbrev pub post : FontWords → CharacterBox → ℕ → List ℕ
-post words b place =
+abbrev pub post_text : FontWords → CharacterBox → ℕ → List ℕ
+post_text words b place =
     (gf.post ∷ []) ++ word (pos place) ++ word words.ds ++ word (pos words.cs) ++ word words.hppp ++ word words.vppp
     ++ word b.min_m ++ word b.max_m ++ word b.min_n ++ word b.max_n
 
@@ -123,7 +123,7 @@ ending place before = (gf.post_post ∷ []) ++ word (pos place) ++ (gf.id_byte �
 -- the bytes of a file without its ending
 abbrev pub body : FontWords → List ℕ → List Character → List ℕ
 body words comment characters =
-    bytes_so_far comment characters ++ post words (box_of_all characters) (length (bytes_so_far comment characters))
+    bytes_so_far comment characters ++ post_text words (box_of_all characters) (length (bytes_so_far comment characters))
     ++ locators_from 0 code_count (shipments comment characters)
 
 -- the bytes of the finished file of these characters

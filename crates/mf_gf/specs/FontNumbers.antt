@@ -1,11 +1,11 @@
 -- What a reader finds in a finished file besides its characters: the comment in the preamble, and what post says (The METAFONTbook,
 -- Appendix G; gftype.web). The opcodes are numerals, so that the law does not rest on those of `Format`, which files are made with.
 use Rattle.std.specs.Prelude.{◌≡◌, ◌+◌, ◌-◌, ◌*◌, ◌==◌, ◌&&◌, ℕ, ℤ, ◌≤ℤ◌, All, Any, List, take, drop, slice_index, Option, None, Some, if◌then◌else◌}
-use Rattle.byteorder.specs.Endian.{big_number, twos_complement}
 use Rattle.mf_gf.specs.declared.boxes.CharacterBox.{CharacterBox}
 use Rattle.mf_gf.specs.declared.file.FontWords.{FontWords}
 use Rattle.mf_gf.specs.Boxes.{box_of_pixels}
 use Rattle.mf_gf.specs.Files.{Character}
+use Rattle.mf_gf.specs.Numbers.{unsigned_at, word_at, word_size}
 use Rattle.mf_gf.specs.Pointers.{post_place}
 
 -- ---- the reader
@@ -22,10 +22,10 @@ pub record Post : Type 0 where
 
 -- number k, counted from 0, of those after an opcode that have four bytes each: without a sign, and with it
 abbrev pub unsigned_number : ℕ → List ℕ → ℕ
-unsigned_number k bytes = big_number 4 (drop (1 + 4 * k) bytes)
+unsigned_number k bytes = unsigned_at (1 + word_size * k) bytes
 
 abbrev pub signed_number : ℕ → List ℕ → ℤ
-signed_number k bytes = twos_complement 4 (unsigned_number k bytes)
+signed_number k bytes = word_at (1 + word_size * k) bytes
 
 -- the nine numbers of post: its place, ds, cs, hppp, vppp, least m, greatest m, least n and greatest n
 abbrev pub read_post : List ℕ → Post

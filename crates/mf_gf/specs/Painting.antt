@@ -55,33 +55,33 @@ strokes_within (suc n) bytes = elim (read_stroke bytes) [
 abbrev pub strokes : List ℕ → Option (List Stroke)
 strokes bytes = strokes_within (length bytes) bytes
 
--- the state of the machine: its row and column (n and m in GF), the left end of the box, and its color
-pub record Pen : Type 0 where
+-- the painting machine in a state: its row and column (n and m in GF), the left end of the box, and its color
+pub record Machine : Type 0 where
   pub row : ℤ
   pub column : ℤ
   pub left : ℤ
   pub is_black : Bool
 
 -- the machine at the beginning of a character: at the left end of the top row, and white
-abbrev pub pen_at : ℤ → ℤ → Pen
-pen_at left top = record { row = top; column = left; left = left; is_black = false }
+abbrev pub machine_at : ℤ → ℤ → Machine
+machine_at left top = record { row = top; column = left; left = left; is_black = false }
 
 -- the pixels that a command makes black
-abbrev pub pixels_of_stroke : Pen → Stroke → List Dot
-pixels_of_stroke pen (Paint k) = if pen.is_black then equal_dots pen.row pen.column (pos 1) k else []
-pixels_of_stroke pen (Skip k) = []
-pixels_of_stroke pen (NewRow k) = []
+abbrev pub pixels_of_stroke : Machine → Stroke → List Dot
+pixels_of_stroke machine (Paint k) = if machine.is_black then equal_dots machine.row machine.column (pos 1) k else []
+pixels_of_stroke machine (Skip k) = []
+pixels_of_stroke machine (NewRow k) = []
 
 -- the state of the machine after a command
-abbrev pub pen_after : Pen → Stroke → Pen
-pen_after pen (Paint k) = record pen { column = pen.column +ℤ pos k; is_black = not pen.is_black }
-pen_after pen (Skip k) = record pen { row = pen.row -ℤ pos (k + 1); column = pen.left; is_black = false }
-pen_after pen (NewRow k) = record pen { row = pen.row -ℤ pos 1; column = pen.left +ℤ pos k; is_black = true }
+abbrev pub machine_after : Machine → Stroke → Machine
+machine_after machine (Paint k) = record machine { column = machine.column +ℤ pos k; is_black = not machine.is_black }
+machine_after machine (Skip k) = record machine { row = machine.row -ℤ pos (k + 1); column = machine.left; is_black = false }
+machine_after machine (NewRow k) = record machine { row = machine.row -ℤ pos 1; column = machine.left +ℤ pos k; is_black = true }
 
 -- the pixels that commands make black, in the order in which they paint them
-unfoldable pub pixels_of_strokes : Pen → List Stroke → List Dot
-pixels_of_strokes pen [] = []
-pixels_of_strokes pen (stroke ∷ strokes) = pixels_of_stroke pen stroke ++ pixels_of_strokes (pen_after pen stroke) strokes
+unfoldable pub pixels_of_strokes : Machine → List Stroke → List Dot
+pixels_of_strokes machine [] = []
+pixels_of_strokes machine (stroke ∷ strokes) = pixels_of_stroke machine stroke ++ pixels_of_strokes (machine_after machine stroke) strokes
 
 -- what a character says before its commands: its code, the place of the last earlier character with this code (-1 where there is
 -- none), and its box
@@ -125,7 +125,7 @@ head_of (b ∷ bytes) = if b == gf.boc1 then Some (head_of_boc1 bytes) else (if 
 
 -- the pixels that commands make black, when they start at the left end and the top of a box
 abbrev pub pixels_from : ℤ → ℤ → List ℕ → Option (List Dot)
-pixels_from left top bytes = option_map (pixels_of_strokes (pen_at left top)) (strokes bytes)
+pixels_from left top bytes = option_map (pixels_of_strokes (machine_at left top)) (strokes bytes)
 
 abbrev pub pixels_in : CharacterBox → List ℕ → Option (List Dot)
 pixels_in b bytes = pixels_from b.min_m b.max_n bytes

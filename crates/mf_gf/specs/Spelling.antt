@@ -39,10 +39,10 @@ approach left row column r =
     else (if distance row r.y == 1 && nat_le (distance r.x left) gf.most_new_row then new_row (distance r.x left)
     else skip (distance row r.y - 1) ++ paint (distance r.x left))
 
--- stretches of black pixels, one after another, starting at a position
-unfoldable pub rows : ℤ → ℤ → ℤ → List Run → List ℕ
-rows left row column [] = []
-rows left row column (r ∷ rs) = approach left row column r ++ paint r.len ++ rows left r.y (r.x +ℤ pos r.len) rs
+-- the bytes of stretches of black pixels, one after another, from a position on
+unfoldable pub stretches_text : ℤ → ℤ → ℤ → List Run → List ℕ
+stretches_text left row column [] = []
+stretches_text left row column (r ∷ rs) = approach left row column r ++ paint r.len ++ stretches_text left r.y (r.x +ℤ pos r.len) rs
 
 -- a number fits into one byte
 abbrev pub is_byte : ℤ → Bool
@@ -72,4 +72,4 @@ begin code p b = if int_eq p (negsuc 0) && is_short b then short_begin code b el
 -- the bytes of a character with these black pixels; p is the place of the last earlier character with this code, or -1
 unfoldable pub spell : ℕ → ℤ → List Dot → List ℕ
 spell code p ds =
-    begin code p (box_of_pixels ds) ++ rows (box_of_pixels ds).min_m (box_of_pixels ds).max_n (box_of_pixels ds).min_m (runs_of ds) ++ (gf.eoc ∷ [])
+    begin code p (box_of_pixels ds) ++ stretches_text (box_of_pixels ds).min_m (box_of_pixels ds).max_n (box_of_pixels ds).min_m (runs_of ds) ++ (gf.eoc ∷ [])

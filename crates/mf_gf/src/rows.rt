@@ -2,7 +2,7 @@
 ghost use Rattle.std.specs.Prelude.{◌≡◌, ◌++◌, List, ℕ};
 ghost use Rattle.mf_geom.specs.Coordinates.{IsCoordinate};
 ghost use Rattle.mf_gf.specs.Ahead.{AreBlackRuns, blacks_ahead, stretches_left};
-ghost use Rattle.mf_gf.specs.Spelling.{approach, paint, rows};
+ghost use Rattle.mf_gf.specs.Spelling.{approach, paint, stretches_text};
 ghost use Rattle.mf_gf.specs.Spellings.{Holds};
 ghost use Rattle.mf_rows.specs.Order.{IsRun};
 
@@ -30,7 +30,7 @@ pub(crate) fn spell_rows(out: &mut Spelling, stretches: Stretches<'_>, bounds: &
     requires left { IsCoordinate bounds.now.min_m }
     requires top { IsCoordinate bounds.now.max_n }
     ensures held { (text : List ℕ) → Holds out.old text
-        → Holds out.new (text ++ rows bounds.now.min_m bounds.now.max_n bounds.now.min_m (stretches_left stretches.entry)) }
+        → Holds out.new (text ++ stretches_text bounds.now.min_m bounds.now.max_n bounds.now.min_m (stretches_left stretches.entry)) }
     ensures room { out.new.room ≡ out.old.room }
 {
     let mut place = Place {

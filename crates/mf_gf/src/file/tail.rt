@@ -1,6 +1,6 @@
 //! The postamble, which ends a file: post with its numbers, the locators and the ending.
 ghost use Rattle.std.specs.Prelude.{◌≡◌, ◌⊎◌, ◌<◌, ◌≤◌, ◌↔◌, ◌+◌, ◌++◌, [], Err, IfErr, IfOk, List, None, Ok, ℕ, length};
-ghost use Rattle.mf_gf.specs.Files.{Character, IsLongFile, ending, file_if_any, file_of, post};
+ghost use Rattle.mf_gf.specs.Files.{Character, IsLongFile, ending, file_if_any, file_of, post_text};
 ghost use Rattle.mf_gf.specs.Keeping.{IsRefusedAs, IsSameFile, Keeps, max_bytes_of, table_text};
 ghost use Rattle.mf_gf.specs.Spellings.{Holds};
 ghost use Rattle.mf_gf.specs.Tails.{tail_of};
@@ -96,7 +96,7 @@ impl GfFile {
 
 /// Appends post and its numbers. `place` is its place in the file.
 fn put_post(out: &mut Spelling, words: &FontWords, bounds: &CharacterBox, place: u32)
-    ensures held { (text : List ℕ) → Holds out.old text → Holds out.new (text ++ post words.now bounds.now place) }
+    ensures held { (text : List ℕ) → Holds out.old text → Holds out.new (text ++ post_text words.now bounds.now place) }
     ensures room { out.new.room ≡ out.old.room }
 {
     out.put_byte(POST);
