@@ -1,6 +1,6 @@
 -- What has been written where the program ends with a fault.
 use Rattle.std.specs.Prelude.{◌≡◌, ◌⊎◌, ◌<◌, ℕ, List, None, Some, IsSome, length}
-use Rattle.mf_desk.specs.Performances as runs
+use Rattle.mf_desk.specs.Performances.{TellsOfRun}
 use Rattle.mf_desk.specs.Streams.{Passes, Streams}
 use Rattle.mf_desk.specs.declared.fault.RunFault.{RunFault}
 use Rattle.mf_desk.specs.declared.fault.RunFault.TheVariants.{WriteFault}
@@ -23,13 +23,13 @@ pub record LosesFile (r : Request) (fault : RunFault) (s : Streams) : Type 0 whe
 -- what a fault of the program says about what was read and written, where this was asked for: a fault of the run says what it says
 -- there, unless it is one of the font file; where a FILE is asked for and no character was shipped, everything that the script
 -- prints is written
-abbrev pub Tells : Request → ProgramFault → Streams → Type 0
-Tells r (Run fault) s = Passes s (runs.Tells settings r.viewers fault) ⊎ LosesFile r fault s
-Tells r NoCharacters s = IsSome r.file × GetsOutput r.viewers None s
+abbrev pub TellsOfProgram : Request → ProgramFault → Streams → Type 0
+TellsOfProgram r (Run fault) s = Passes s (TellsOfRun settings r.viewers fault) ⊎ LosesFile r fault s
+TellsOfProgram r NoCharacters s = IsSome r.file × GetsOutput r.viewers None s
 
 -- with these words the program ended with some fault, which has this status, whose message was got, and which tells what was written
 pub record ReportsFault (words : List (List ℕ)) (status : ℕ) (IsGot : List ℕ → Type 0) (s : Streams) : Type 0 where
   pub fault : ProgramFault
   pub status_is : status_of fault ≡ status
   pub message : IsGot (message_of fault)
-  pub told : Tells (request_in words) fault s
+  pub told : TellsOfProgram (request_in words) fault s

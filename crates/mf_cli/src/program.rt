@@ -4,13 +4,12 @@ ghost use Rattle.std.specs.Prelude.{◌≡◌, ◌<◌, ◌≤◌, ◌⊎◌, �
 ghost use Rattle.mf_base.specs.Messages.{GetsMessage};
 ghost use Rattle.mf_options.specs.Values.{texts_of};
 ghost use Rattle.mf_words.specs.CommandLine.{IsCommandLine, greatest_viewers};
-ghost use Rattle.mf_cli.specs.Faults.{ReportsFault, Tells};
+ghost use Rattle.mf_cli.specs.Faults.{ReportsFault, TellsOfProgram};
 ghost use Rattle.mf_cli.specs.Messages.{message_of, usage};
 ghost use Rattle.mf_cli.specs.Output.{EndsWell, looks, request_in, request_of, settings};
 ghost use Rattle.mf_cli.specs.Statuses.{status_of};
-ghost use Rattle.mf_desk.specs.Performances as runs;
-ghost use Rattle.mf_desk.specs.Performances.{Performs, task};
-ghost use Rattle.mf_desk.specs.Streams.{Passes, streams_of};
+ghost use Rattle.mf_desk.specs.Performances.{Performs, TellsOfRun, task};
+ghost use Rattle.mf_desk.specs.Streams.{Passes, streams};
 
 use crate::fault::ProgramFault;
 use mf_base::write_text;
@@ -76,10 +75,10 @@ pub fn program<S: Wait + Threads + Files, R: Read, W: Write, E: Write>(
     ensures quiet { result ≡ DONE → errors.new ≡ errors.old }
     ensures usage { result ≡ BAD_WORDS → GetsMessage (E.contents errors.old) (E.contents errors.new) usage }
     ensures done { result ≡ DONE → EndsWell (request_in (texts_of words))
-        (streams_of R.remaining reader.old reader.new W.contents writer.old writer.new) }
+        (streams (R.remaining reader.old) (R.remaining reader.new) (W.contents writer.old) (W.contents writer.new)) }
     ensures fault { (result ≡ STREAM_FAULT) ⊎ (result ≡ WANTING)
         → ReportsFault (texts_of words) result (GetsMessage (E.contents errors.old) (E.contents errors.new))
-        (streams_of R.remaining reader.old reader.new W.contents writer.old writer.new) }
+        (streams (R.remaining reader.old) (R.remaining reader.new) (W.contents writer.old) (W.contents writer.new)) }
 {
     let words = match read_words(alloc, words) {
         Ok(words) => words,
@@ -102,9 +101,9 @@ fn perform<S: Wait + Threads + Files, R: Read, W: Write>(
 ) -> Result<(), ProgramFault>
     requires { words.now.viewers ≤ greatest_viewers }
     ensures done { OnOk result (EndsWell (request_of words.now)
-        (streams_of R.remaining reader.old reader.new W.contents writer.old writer.new)) }
-    ensures fault { IfErr result (λ fault. Tells (request_of words.now) fault
-        (streams_of R.remaining reader.old reader.new W.contents writer.old writer.new)) }
+        (streams (R.remaining reader.old) (R.remaining reader.new) (W.contents writer.old) (W.contents writer.new))) }
+    ensures fault { IfErr result (λ fault. TellsOfProgram (request_of words.now) fault
+        (streams (R.remaining reader.old) (R.remaining reader.new) (W.contents writer.old) (W.contents writer.new))) }
 {
     let Outcome { gf, .. } = run_script(rt, alloc, reader, writer, words.viewers)?;
     let Some(path) = &words.gf else {
@@ -126,9 +125,11 @@ fn run_script<S: Wait + Threads, R: Read, W: Write>(
 ) -> Result<Outcome, RunFault>
     requires { viewers ≤ greatest_viewers }
     ensures performance { IfOk result
-        (Performs (task settings viewers looks) (streams_of R.remaining reader.old reader.new W.contents writer.old writer.new)) }
-    ensures fault { IfErr result (λ fault. Passes (streams_of R.remaining reader.old reader.new W.contents writer.old writer.new)
-        (runs.Tells settings viewers fault)) }
+        (Performs (task settings viewers looks)
+        (streams (R.remaining reader.old) (R.remaining reader.new) (W.contents writer.old) (W.contents writer.new))) }
+    ensures fault { IfErr result (λ fault.
+        Passes (streams (R.remaining reader.old) (R.remaining reader.new) (W.contents writer.old) (W.contents writer.new))
+        (TellsOfRun settings viewers fault)) }
     ensures end { OnOk result (IsAtEnd (R.remaining reader.new)) }
 {
     if viewers == 0 {

@@ -1,4 +1,5 @@
 mod Ended
+pub mod Faults
 mod LongLines
 pub mod Performances
 mod ScriptEnds

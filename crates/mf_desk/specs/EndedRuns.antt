@@ -1,6 +1,7 @@
 -- A run whose script has ended.
-use Rattle.std.specs.Prelude.{◌≡◌, ℕ, List, [], Option, length}
-use Rattle.std.specs.Io.KnownBytes.{IsAtEnd}
+use Rattle.std.specs.Prelude.{◌≡◌, ◌+◌, ◌*◌, ◌≤◌, ℕ, List, Vec, [], Option, length}
+use Rattle.std.specs.Io.KnownBytes.{Appends}
+use Rattle.std.specs.declared.alloc.Global.{Global}
 use Rattle.mf_gf.specs.Keeping.{Keeps, max_bytes_of}
 use Rattle.mf_live.specs.Writers.{ended_identity, ended_published_list}
 use Rattle.mf_desk.specs.declared.ended_run.EndedRun.{EndedRun}
@@ -9,11 +10,12 @@ use Rattle.mf_desk.specs.declared.performer.Performer.{Performer}
 use Rattle.mf_desk.specs.declared.settings.Settings.{Settings}
 use Rattle.mf_watch.specs.declared.glance.Glance.{Glance}
 use Rattle.mf_session.specs.Endings.{HasEnded, complete_list}
-use Rattle.mf_desk.specs.Performances.{Tells, run_limits, viewer_line}
+use Rattle.mf_desk.specs.Performances.{TellsOfEnd, run_limits, viewer_lines}
+use Rattle.mf_desk.specs.Performer.{longest_text}
 use Rattle.mf_session.specs.States.{State, Limits}
 use Rattle.mf_session.specs.Transcript.{IsTranscript}
 use Rattle.mf_desk.specs.Streams.{Gets, HasRead, Passing, Streams}
-use Rattle.mf_watch.specs.Watchers.{glance_at}
+use Rattle.mf_watch.specs.Watchers.{HasSeen, glance_at}
 
 -- the script of this performer, whose lines have led to this state, has ended with this run
 pub record IsEndOf (performer : Performer) (s : State) (run : EndedRun) : Type 0 where
@@ -37,9 +39,9 @@ EndsWith limits s run = HasRead s (λ read. Gets s.held s.holds (IsOver limits r
 abbrev pub glance : EndedRun → Glance
 glance run = glance_at (ended_published_list run.ended)
 
--- this is the line of the viewer with this number
-abbrev pub IsViewerLine : EndedRun → ℕ → List ℕ → Type 0
-IsViewerLine run number line = line ≡ viewer_line number (glance run)
+-- these glances are the record of this many looks and one more, at its last picture
+abbrev pub HasSeenLast : EndedRun → ℕ → Vec Glance Global → Type 0
+HasSeenLast run looks glances = HasSeen (ended_published_list run.ended) looks glances.items
 
 -- the picture and the font file are as they were
 pub record IsSameEnd (before after : EndedRun) : Type 0 where
@@ -58,8 +60,15 @@ pub record LastLooks : Type 0 where
 abbrev pub last_looks : EndedRun → ℕ → Option (List ℕ) → Option (List ℕ) → LastLooks
 last_looks run viewers held holds = record { run = run; viewers = viewers; held = held; holds = holds }
 
+-- after these looks the run is this one: their lines have gone out, and are counted
+pub record HasShown (l : LastLooks) (now : EndedRun) : Type 0 where
+  pub same : IsSameEnd l.run now
+  pub out : Appends l.held l.holds (viewer_lines l.viewers (glance l.run))
+  pub counted : now.written ≡ l.run.written + length (viewer_lines l.viewers (glance l.run))
+  pub at_most : now.written ≤ l.run.written + l.viewers * longest_text
+
 -- whatever was read and written before, the fault breaks off the lines of these looks
 abbrev pub BreaksLooks : LastLooks → RunFault → Type 0
 BreaksLooks l fault =
-    (settings : Settings) (first left : Option (List ℕ)) (read : List ℕ) → IsAtEnd left → Gets first l.held (IsOver (run_limits settings) read l.run)
-    → Gets first l.holds (Passing (Tells settings l.viewers fault) left read)
+    (settings : Settings) (first left : Option (List ℕ)) (read : List ℕ) → Gets first l.held (IsOver (run_limits settings) read l.run)
+    → Gets first l.holds (Passing (TellsOfEnd settings l.viewers fault) left read)

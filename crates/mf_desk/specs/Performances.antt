@@ -4,12 +4,12 @@ use Rattle.std.specs.Fmt.{signed_decimal}
 use Rattle.std.specs.Io.KnownBytes.{Appends, IsAtEnd}
 use Rattle.mf_gf.specs.Files.{IsLongFile, file_if_any, preamble}
 use Rattle.mf_desk.specs.declared.fault.RunFault.{RunFault}
-use Rattle.mf_desk.specs.declared.fault.RunFault.TheVariants.{OutOfMemory, NoPlace, FileTooLong, ReadFault, WriteFault, NoLook}
+use Rattle.mf_desk.specs.declared.fault.RunFault.TheVariants.{OutOfMemory, NoPlace, FileTooLong, WriteFault, NoLook}
 use Rattle.mf_watch.specs.declared.glance.Glance.{Glance}
 use Rattle.mf_desk.specs.declared.outcome.Outcome.{Outcome}
 use Rattle.mf_desk.specs.declared.settings.Settings.{Settings}
 use Rattle.mf_session.specs.Endings.{complete_list}
-use Rattle.mf_desk.specs.Fault.{IsEndedText, IsTextSoFar}
+use Rattle.mf_desk.specs.Fault.{Breaks}
 use Rattle.mf_desk.specs.Streams.{HasRead, IsPrefixOf, Passage, Streams}
 use Rattle.mf_session.specs.States.{Limits, limits_of}
 use Rattle.mf_session.specs.Transcript.{IsTranscript}
@@ -67,29 +67,33 @@ pub record IsShownText (limits : Limits) (viewers : ℕ) (read text : List ℕ) 
   pub few : shown ≤ viewers
   pub complete : IsCompleteText limits shown read text
 
--- no line of this is cut: it is what the first of the completely read lines print or, where no byte is left, the complete
--- transcript and the lines of the first viewers
-abbrev pub IsUncutText : Limits → ℕ → Passage → List ℕ → Type 0
-IsUncutText limits viewers p text = IsTextSoFar limits p.left p.read text ⊎ (IsAtEnd p.left × IsShownText limits viewers p.read text)
-
--- no font file is as short as the limit, so nothing was read or written
-pub record HasNoRoom (limits : Limits) (p : Passage) : Type 0 where
-  pub small : limits.max_bytes < length (preamble [])
-  pub unread : p.read ≡ []
-  pub nothing : p.written ≡ []
-
 -- this is the complete transcript and all lines of viewers, and the font file of the characters would have more bytes than it may
 -- have
 pub record IsBeforeLongFile (settings : Settings) (viewers : ℕ) (read text : List ℕ) : Type 0 where
   pub complete : IsCompleteText (run_limits settings) viewers read text
   pub too_long : IsLongFile (run_limits settings).max_bytes settings.font [] complete.script.last.characters
 
--- what each fault that ends a run beside this many viewers says about what was read and written; `NoPlace` comes only where there
--- are viewers, and `NoLook` only where the line of one is not written
-abbrev pub Tells : Settings → ℕ → RunFault → Passage → Type 0
-Tells settings viewers OutOfMemory p = IsUncutText (run_limits settings) viewers p p.written
-Tells settings viewers NoPlace p = (0 < viewers) × (p.read ≡ []) × (p.written ≡ [])
-Tells settings viewers FileTooLong p = HasNoRoom (run_limits settings) p ⊎ (IsAtEnd p.left × IsBeforeLongFile settings viewers p.read p.written)
-Tells settings viewers ReadFault p = IsEndedText (run_limits settings) p.read p.written
-Tells settings viewers (WriteFault count) p = (length p.written ≡ count) × IsPrefixOf (IsUncutText (run_limits settings) viewers p) p.written
-Tells settings viewers NoLook p = IsAtEnd p.left × ((some : IsShownText (run_limits settings) viewers p.read p.written) × (some.shown < viewers))
+-- with this fault a run can end before it has read or written anything: `NoPlace` only where viewers are to look on, and `FileTooLong`
+-- only where no font file is as short as the limit
+abbrev pub ComesFirst : Settings → ℕ → RunFault → Type 0
+ComesFirst settings viewers NoPlace = 0 < viewers
+ComesFirst settings viewers FileTooLong = (run_limits settings).max_bytes < length (preamble [])
+ComesFirst settings viewers _ = ⊥
+
+-- what a fault says that comes after the end of the script, beside this many viewers: the transcript is complete, and the lines of the
+-- first viewers follow it, of which none is cut but after `WriteFault`; `NoLook` comes only where the line of a viewer is not written
+abbrev pub TellsOfEnd : Settings → ℕ → RunFault → Passage → Type 0
+TellsOfEnd settings viewers OutOfMemory p = IsShownText (run_limits settings) viewers p.read p.written
+TellsOfEnd settings viewers FileTooLong p = IsBeforeLongFile settings viewers p.read p.written
+TellsOfEnd settings viewers (WriteFault count) p = (length p.written ≡ count) × IsPrefixOf (IsShownText (run_limits settings) viewers p.read) p.written
+TellsOfEnd settings viewers NoLook p = (some : IsShownText (run_limits settings) viewers p.read p.written) × (some.shown < viewers)
+TellsOfEnd settings viewers _ p = ⊥
+
+-- what a fault says of a run that has begun, beside this many viewers: it has broken the script off, or came after its end
+abbrev pub TellsOfBegun : Settings → ℕ → RunFault → Passage → Type 0
+TellsOfBegun settings viewers fault p = Breaks (run_limits settings) fault p ⊎ (IsAtEnd p.left × TellsOfEnd settings viewers fault p)
+
+-- what each fault says that ends a run beside this many viewers: where it came first, nothing was read or written
+abbrev pub TellsOfRun : Settings → ℕ → RunFault → Passage → Type 0
+TellsOfRun settings viewers fault p =
+    TellsOfBegun settings viewers fault p ⊎ (ComesFirst settings viewers fault × (p.read ≡ []) × (p.written ≡ []))

@@ -7,11 +7,11 @@ use Rattle.mf_desk.specs.declared.fault.RunFault.{RunFault}
 use Rattle.mf_desk.specs.declared.fault.RunFault.TheVariants.{OutOfMemory, NoPlace, NoLook}
 
 -- the fault of the run where its viewers cannot be started
-abbrev pub fault_of_start : StartFault → RunFault
-fault_of_start start.OutOfMemory = OutOfMemory
-fault_of_start start.NoPlace = NoPlace
+abbrev pub run_fault_of_start : StartFault → RunFault
+run_fault_of_start start.OutOfMemory = OutOfMemory
+run_fault_of_start start.NoPlace = NoPlace
 
 -- the fault of the run where the last look of a viewer fails
-abbrev pub fault_of_sheet : SheetFault → RunFault
-fault_of_sheet sheet.NoLook = NoLook
-fault_of_sheet sheet.OutOfMemory = OutOfMemory
+abbrev pub run_fault_of_sheet : SheetFault → RunFault
+run_fault_of_sheet sheet.NoLook = NoLook
+run_fault_of_sheet sheet.OutOfMemory = OutOfMemory

@@ -1,14 +1,12 @@
 //! A run whose script has ended: its viewers are shown the last picture.
 ghost use Rattle.std.specs.Io.KnownBytes.{Appends};
-ghost use Rattle.std.specs.Prelude.{◌≡◌, ◌≢◌, ◌+◌, ◌<◌, ◌≤◌, ℕ, All, Err, IfErr, IfOk, OnOk, length};
+ghost use Rattle.std.specs.Prelude.{◌≡◌, ◌+◌, ◌<◌, ◌≤◌, ℕ, All, Err, IfErr, IfOk, List, OnOk, Option, length};
 ghost use Rattle.mf_live.specs.Desks.{most_places};
-ghost use Rattle.mf_live.specs.Writers.{ended_identity, ended_published_list};
-ghost use Rattle.mf_desk.specs.EndedRuns.{IsViewerLine, IsSameEnd, BreaksLooks, glance, last_looks};
-ghost use Rattle.mf_desk.specs.Fault.{BreaksOff};
-ghost use Rattle.mf_desk.specs.Performances.{viewer_line, viewer_lines};
+ghost use Rattle.mf_live.specs.Writers.{ended_identity};
+ghost use Rattle.mf_desk.specs.EndedRuns.{BreaksLooks, HasSeenLast, HasShown, IsSameEnd, glance, last_looks};
+ghost use Rattle.mf_desk.specs.Performances.{viewer_lines};
 ghost use Rattle.mf_desk.specs.Performer.{longest_text, most_counted, most_written};
-ghost use Rattle.mf_desk.specs.Streams.{Gets};
-ghost use Rattle.mf_watch.specs.Watchers.{HasRoomFor, HasSeen, IsRecord, identity};
+ghost use Rattle.mf_watch.specs.Watchers.{HasRoomFor, IsRecord, identity};
 
 use crate::fault::RunFault;
 use crate::output::flush;
@@ -48,10 +46,9 @@ impl EndedRun {
             Appends (W.contents writer.old) (W.contents writer.new) (viewer_lines (length seen.items) (glance self.old))) }
         ensures count { IfOk result (λ seen. (viewers : ℕ) → IfOk joined (λ watchers. length watchers.items ≡ viewers) → length seen.items ≡ viewers) }
         ensures seen { IfOk result (λ seen. (looks : ℕ) → IfOk joined (λ watchers. All (IsRecord looks) watchers.items)
-            → All (λ v. HasSeen (ended_published_list self.old.ended) looks v.items) seen.items) }
+            → All (HasSeenLast self.old looks) seen.items) }
         ensures fault { IfErr result (λ fault. (viewers : ℕ) → IfOk joined (λ watchers. length watchers.items ≡ viewers)
             → IfErr joined (λ _. 0 < viewers) → BreaksLooks (last_looks self.old viewers (W.contents writer.old) (W.contents writer.new)) fault) }
-        ensures elsewhere { (result ≢ Err RunFault.NoPlace) × (result ≢ Err RunFault.FileTooLong) × (result ≢ Err RunFault.ReadFault) }
     {
         match joined {
             Ok(watchers) => self.show_all(alloc, writer, watchers),
@@ -73,48 +70,49 @@ impl EndedRun {
         ensures same { IsSameEnd self.old self.new }
         ensures shown { OnOk result (Appends (W.contents writer.old) (W.contents writer.new) (viewer_lines (length watchers.items) (glance self.old))) }
         ensures count { IfOk result (λ seen. length seen.items ≡ length watchers.items) }
-        ensures seen { IfOk result (λ seen. (looks : ℕ) → All (IsRecord looks) watchers.items
-            → All (λ v. HasSeen (ended_published_list self.old.ended) looks v.items) seen.items) }
+        ensures seen { IfOk result (λ seen. (looks : ℕ) → All (IsRecord looks) watchers.items → All (HasSeenLast self.old looks) seen.items) }
         ensures fault { IfErr result (BreaksLooks (last_looks self.old (length watchers.items) (W.contents writer.old) (W.contents writer.new))) }
-        ensures elsewhere { (result ≢ Err RunFault.NoPlace) × (result ≢ Err RunFault.FileTooLong) × (result ≢ Err RunFault.ReadFault) }
     {
         let mut seen = Vec::with_capacity(alloc, watchers.len())?;
         for watcher in watchers {
-            let number = seen.len() as u32;
-            seen.push(self.show_one(alloc, writer, number, watcher)?)?;
+            self.show_one(alloc, writer, &mut seen, watcher)?;
         }
         flush(writer, self.written)?;
         Ok(seen)
     }
 
-    /// Lets a viewer look once more and writes its line.
+    /// Lets a viewer look once more, adds its record to those of the viewers before it, and writes its line.
     fn show_one<W: Write>(
         &mut self,
         alloc: Global,
         writer: &mut W,
-        number: u32,
+        seen: &mut Vec<Vec<Glance>>,
         watcher: Watcher,
-    ) -> Result<Vec<Glance>, RunFault>
+    ) -> Result<(), RunFault>
         requires identity { identity watcher ≡ ended_identity self.old.ended }
         requires room { HasRoomFor 1 watcher }
+        requires few { length seen.old.items < most_places }
         requires short { self.old.written + longest_text ≤ most_counted }
         ensures same { IsSameEnd self.old self.new }
-        ensures shown { OnOk result (Appends (W.contents writer.old) (W.contents writer.new) (viewer_line number (glance self.old))) }
-        ensures counted { OnOk result (self.new.written ≡ self.old.written + length (viewer_line number (glance self.old))) }
-        ensures at_most { OnOk result (self.new.written ≤ self.old.written + longest_text) }
-        ensures seen { IfOk result (λ seen. (looks : ℕ) → IsRecord looks watcher → HasSeen (ended_published_list self.old.ended) looks seen.items) }
-        ensures no_look { result ≡ Err RunFault.NoLook → writer.new ≡ writer.old }
-        ensures fault { IfErr result (λ fault. fault ≢ RunFault.NoLook
-            → Gets (W.contents writer.old) (W.contents writer.new) (BreaksOff (IsViewerLine self.old number) self.old.written fault)) }
+        ensures count { OnOk result (length seen.new.items ≡ length seen.old.items + 1) }
+        ensures seen { OnOk result ((run : EndedRun) (looks : ℕ) → IsSameEnd run self.old → IsRecord looks watcher
+            → All (HasSeenLast run looks) seen.old.items → All (HasSeenLast run looks) seen.new.items) }
+        ensures shown { OnOk result ((run : EndedRun) (held : Option (List ℕ))
+            → HasShown (last_looks run (length seen.old.items) held (W.contents writer.old)) self.old
+            → HasShown (last_looks run (length seen.old.items + 1) held (W.contents writer.new)) self.new) }
+        ensures fault { IfErr result (λ fault. (run : EndedRun) (held : Option (List ℕ)) (viewers : ℕ)
+            → HasShown (last_looks run (length seen.old.items) held (W.contents writer.old)) self.old
+            → length seen.old.items < viewers → BreaksLooks (last_looks run viewers held (W.contents writer.new)) fault) }
     {
         let mut watcher = watcher;
         let glance = watcher.look_last(alloc, self.ended.notice())?;
-        let seen = watcher.into_record();
+        let number = seen.len() as u32;
         let line = viewer_line(alloc, number, glance)?;
+        seen.push(watcher.into_record())?;
         match write_counted(writer, line.as_slice()) {
             Ok(()) => {
                 self.written += line.len() as u128;
-                Ok(seen)
+                Ok(())
             }
             Err(count) => Err(RunFault::WriteFault(self.written + count as u128)),
         }

@@ -61,9 +61,9 @@ impl<T: Drop> From<AllocFailed<T>> for RunFault {
 }
 
 impl From<StartFault> for RunFault {
-    ghost use Rattle.mf_desk.specs.ViewerFaults.{fault_of_start};
+    ghost use Rattle.mf_desk.specs.ViewerFaults.{run_fault_of_start};
 
-    ghost from_gives = { λ start fault. fault ≡ fault_of_start start };
+    ghost from_gives = { λ start fault. fault ≡ run_fault_of_start start };
 
     fn from(fault: StartFault) -> RunFault {
         match fault {
@@ -74,9 +74,9 @@ impl From<StartFault> for RunFault {
 }
 
 impl From<SheetFault> for RunFault {
-    ghost use Rattle.mf_desk.specs.ViewerFaults.{fault_of_sheet};
+    ghost use Rattle.mf_desk.specs.ViewerFaults.{run_fault_of_sheet};
 
-    ghost from_gives = { λ sheet fault. fault ≡ fault_of_sheet sheet };
+    ghost from_gives = { λ sheet fault. fault ≡ run_fault_of_sheet sheet };
 
     fn from(fault: SheetFault) -> RunFault {
         match fault {

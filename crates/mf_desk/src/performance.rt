@@ -1,11 +1,11 @@
 //! A run beside viewers in threads.
 ghost use Rattle.std.specs.Io.KnownBytes.{IsAtEnd};
-ghost use Rattle.std.specs.Prelude.{◌≡◌, ◌≢◌, ◌⊎◌, ◌<◌, ◌≤◌, ℕ, [], Err, IfErr, IfOk, List, OnOk, Option, length};
+ghost use Rattle.std.specs.Prelude.{◌≡◌, ◌⊎◌, ◌<◌, ◌≤◌, ℕ, [], Err, IfErr, IfOk, List, OnOk, Option, length};
 ghost use Rattle.mf_live.specs.Desks.{most_places};
-ghost use Rattle.mf_desk.specs.Performances.{Performs, Tells, task, run_limits};
+ghost use Rattle.mf_desk.specs.Performances.{Performs, TellsOfBegun, TellsOfRun, run_limits, task};
 ghost use Rattle.mf_desk.specs.Performer.{longest_read};
 ghost use Rattle.mf_desk.specs.Progress.{IsAfter};
-ghost use Rattle.mf_desk.specs.Streams.{Passes, streams_of};
+ghost use Rattle.mf_desk.specs.Streams.{Passes, streams};
 ghost use Rattle.mf_session.specs.Sessions.{identity, limits};
 ghost use Rattle.mf_session.specs.States.{least_bytes};
 ghost use Rattle.mf_watch.specs.Watching.{AreStarted, viewer_count};
@@ -46,10 +46,12 @@ pub fn perform<S: Wait + Threads, R: Read, W: Write, G: Gate + 'static>(
     ensures untouched { settings.now.max_bytes < least_bytes → (reader.new ≡ reader.old) × (writer.new ≡ writer.old) }
     ensures no_place { result ≡ Err RunFault.NoPlace → (reader.new ≡ reader.old) × (writer.new ≡ writer.old) }
     ensures performance { IfOk result
-        (Performs (task settings.now viewers looks) (streams_of R.remaining reader.old reader.new W.contents writer.old writer.new)) }
+        (Performs (task settings.now viewers looks)
+        (streams (R.remaining reader.old) (R.remaining reader.new) (W.contents writer.old) (W.contents writer.new))) }
     ensures end { OnOk result (IsAtEnd (R.remaining reader.new)) }
     ensures fault { IfErr result (λ fault.
-        Passes (streams_of R.remaining reader.old reader.new W.contents writer.old writer.new) (Tells settings.now viewers fault)) }
+        Passes (streams (R.remaining reader.old) (R.remaining reader.new) (W.contents writer.old) (W.contents writer.new))
+        (TellsOfRun settings.now viewers fault)) }
 {
     // Memory for reads comes first: where it fails, nothing was read or written, and no thread was started.
     let mut memory = vec![in alloc; 0u8; CHUNK_SIZE]?;
@@ -94,11 +96,11 @@ fn perform_beside_viewers<S: Wait + Threads, R: Read, W: Write>(
     requires started { (looks : ℕ) × AreStarted (identity progress.performer.session) looks watching }
     ensures performance { IfOk result (λ outcome. (looks : ℕ) → AreStarted (identity progress.performer.session) looks watching
         → Performs (task settings.now (viewer_count watching) looks)
-        (streams_of R.remaining reader.old reader.new W.contents writer.old writer.new) outcome) }
+        (streams (R.remaining reader.old) (R.remaining reader.new) (W.contents writer.old) (W.contents writer.new)) outcome) }
     ensures end { OnOk result (IsAtEnd (R.remaining reader.new)) }
     ensures fault { IfErr result (λ fault.
-        Passes (streams_of R.remaining reader.old reader.new W.contents writer.old writer.new) (Tells settings.now (viewer_count watching) fault)) }
-    ensures places { result ≢ Err RunFault.NoPlace }
+        Passes (streams (R.remaining reader.old) (R.remaining reader.new) (W.contents writer.old) (W.contents writer.new))
+        (TellsOfBegun settings.now (viewer_count watching) fault)) }
 {
     let completed = progress.complete(rt, alloc, reader, writer, chunk);
     // A fault has ended the picture by now, so that looks are refused and the threads end early.

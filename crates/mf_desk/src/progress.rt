@@ -9,7 +9,7 @@ ghost use Rattle.mf_desk.specs.Fault.{Breaks};
 ghost use Rattle.mf_desk.specs.Performances.{run_limits};
 ghost use Rattle.mf_desk.specs.Performer.{longest_read, longest_text, most_counted, most_written};
 ghost use Rattle.mf_desk.specs.Progress.{BreaksAfter, GoesOn, HasCounted, IsAfter, ReadsThrough, taking};
-ghost use Rattle.mf_desk.specs.Streams.{Gets, Passes, Passing, streams_of};
+ghost use Rattle.mf_desk.specs.Streams.{Gets, Passes, Passing, streams};
 ghost use Rattle.mf_session.specs.Sessions.{identity, limits};
 ghost use Rattle.mf_session.specs.States.{least_bytes};
 
@@ -74,11 +74,12 @@ impl Progress {
         requires some { 0 < length chunk.old }
         requires few { length chunk.old ≤ longest_read }
         ensures over { IfOk result (λ run. EndsWith (limits self.performer.session)
-            (streams_of R.remaining reader.old reader.new W.contents writer.old writer.new) run) }
+            (streams (R.remaining reader.old) (R.remaining reader.new) (W.contents writer.old) (W.contents writer.new)) run) }
         ensures identity { IfOk result (λ run. ended_identity run.ended ≡ identity self.performer.session) }
         ensures short { IfOk result (λ run. run.written ≤ most_written) }
         ensures end { OnOk result (IsAtEnd (R.remaining reader.new)) }
-        ensures fault { IfErr result (λ fault. Passes (streams_of R.remaining reader.old reader.new W.contents writer.old writer.new)
+        ensures fault { IfErr result (λ fault.
+            Passes (streams (R.remaining reader.old) (R.remaining reader.new) (W.contents writer.old) (W.contents writer.new))
             (Breaks (limits self.performer.session) fault)) }
     {
         let mut progress = self;
@@ -109,12 +110,14 @@ impl Progress {
         requires some { 0 < length chunk.old }
         requires few { length chunk.old ≤ longest_read }
         ensures through { OnOk result
-            (ReadsThrough (streams_of R.remaining reader.old reader.new W.contents writer.old writer.new) self.new.performer) }
+            (ReadsThrough (streams (R.remaining reader.old) (R.remaining reader.new) (W.contents writer.old) (W.contents writer.new))
+            self.new.performer) }
         ensures short { OnOk result (self.new.performer.written ≤ most_written) }
         ensures limits { limits self.new.performer.session ≡ limits self.old.performer.session }
         ensures identity { identity self.new.performer.session ≡ identity self.old.performer.session }
         ensures end { OnOk result (IsAtEnd (R.remaining reader.new)) }
-        ensures fault { IfErr result (λ fault. Passes (streams_of R.remaining reader.old reader.new W.contents writer.old writer.new)
+        ensures fault { IfErr result (λ fault.
+            Passes (streams (R.remaining reader.old) (R.remaining reader.new) (W.contents writer.old) (W.contents writer.new))
             (Breaks (limits self.old.performer.session) fault)) }
     {
         'reads: for _ in 0..MAX_READS {

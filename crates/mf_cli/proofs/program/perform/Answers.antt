@@ -1,5 +1,5 @@
 use Rattle.std.proofs.Common.{rules, inr, refl}
-use Rattle.std.proofs.lemmas.Result.{err_from_is_err_and}
+use Rattle.mf_desk.proofs.Faults.{IfErr-raised}
 use Rattle.mf_cli.proofs.program.perform.Goals as goal
 
 pub returns-in_default-clause-done : goal.returns-in_default-clause-done
@@ -10,8 +10,7 @@ returns-in_default-clause-done g c =
 pub returns-in_err-write_file-in-Some-gf-clause-fault : goal.returns-in_err-write_file-in-Some-gf-clause-fault
 returns-in_err-write_file-in-Some-gf-clause-fault g c =
     let (count, fault_is, few) = c.in_err-write_file-in-Some-gf.ensures in
-    let passed_on = err_from_is_err_and c.from_residual-in_err-write_file-in-Some-gf.result c.from_residual-in_err-write_file-in-Some-gf.ensures.1 in
-    rw (passed_on.1, passed_on.2)
+    IfErr-raised c.from_residual-in_err-write_file-in-Some-gf.result _ c.from_residual-in_err-write_file-in-Some-gf.ensures.1
     (inr (record {
       asked = search rules;
       count = count;

@@ -1,5 +1,5 @@
 use Rattle.std.proofs.Common.{inl, sym}
-use Rattle.mf_desk.proofs.Performances.{Tells-nothing}
+use Rattle.mf_desk.proofs.Performances.{TellsOfRun-nothing}
 use Rattle.mf_cli.specs.Output.{settings}
 use Rattle.mf_cli.proofs.program.program.Goals as goal
 
@@ -8,5 +8,5 @@ returns-in-Err-OutOfMemory-clause-fault g c = λ _. record {
   fault = c.into.result;
   status_is = sym c.report.ensures.status;
   message = c.report.ensures.message;
-  told = rw c.into.ensures (inl (Tells-nothing settings _ _ _));
+  told = rw c.into.ensures (inl (TellsOfRun-nothing settings _ _ _));
 }

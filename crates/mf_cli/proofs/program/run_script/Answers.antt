@@ -1,5 +1,6 @@
-use Rattle.std.proofs.lemmas.Result.{IfOk-weaker, err_from_is_err_and}
-use Rattle.mf_desk.proofs.Performances.{Tells-nothing}
+use Rattle.std.proofs.lemmas.Result.{IfOk-weaker}
+use Rattle.mf_desk.proofs.Faults.{IfErr-raised}
+use Rattle.mf_desk.proofs.Performances.{TellsOfRun-nothing}
 use Rattle.mf_cli.specs.Output.{looks, settings}
 use Rattle.mf_cli.proofs.program.run_script.Goals as goal
 
@@ -12,5 +13,4 @@ returns-then-viewers-eq0-clause-fault g c = rw c.if-viewers-eq0.true c.run.ensur
 
 pub returns-in_err-gate-clause-fault : goal.returns-in_err-gate-clause-fault
 returns-in_err-gate-clause-fault g c =
-    let wanting = err_from_is_err_and c.from_residual.result c.from_residual.ensures.1 in
-    rw (wanting.1, wanting.2) (Tells-nothing settings c.args.viewers _ _)
+    IfErr-raised c.from_residual.result _ c.from_residual.ensures.1 (TellsOfRun-nothing settings c.args.viewers _ _)

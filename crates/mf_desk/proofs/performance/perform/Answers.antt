@@ -1,23 +1,21 @@
 use Rattle.std.proofs.Common.{◌≡◌, Err, ⊎_elim, inl, inr, sym, ap, subst, ◌∙◌, arith}
-use Rattle.std.proofs.lemmas.Result.{IfOk-weaker, err_from_is_err_and}
+use Rattle.std.proofs.lemmas.Result.{IfErr-at_err, IfErr-weaker, IfOk-weaker, err_from_is_err_and}
 use Rattle.mf_desk.specs.declared.fault.RunFault.TheVariants as faults
-use Rattle.mf_desk.specs.ViewerFaults.{fault_of_start}
-use Rattle.mf_watch.specs.Watching.{AreStarted}
-use Rattle.mf_desk.proofs.Performances.{Tells-nothing, Tells-no_room, Tells-no_place}
+use Rattle.mf_desk.specs.ViewerFaults.{run_fault_of_start}
+use Rattle.mf_watch.specs.Watching.{AreStarted, viewer_count}
+use Rattle.mf_desk.proofs.Faults.{IfErr-raised}
+use Rattle.mf_desk.proofs.Performances.{TellsOfRun-begun, TellsOfRun-first, TellsOfRun-nothing, TellsOfRun-unstarted}
 use Rattle.mf_desk.proofs.performance.perform.Goals as goal
 
 pub returns-in_err-memory-clause-fault : goal.returns-in_err-memory-clause-fault
 returns-in_err-memory-clause-fault g c =
-    let wanting = err_from_is_err_and c.from_residual.result c.from_residual.ensures.1 in
-    rw (wanting.1, wanting.2) (Tells-nothing c.args.settings.now c.args.viewers _ _)
+    IfErr-raised c.from_residual.result _ c.from_residual.ensures.1 (TellsOfRun-nothing c.args.settings.now c.args.viewers _ _)
 
 pub returns-in_err-progress-clause-fault : goal.returns-in_err-progress-clause-fault
 returns-in_err-progress-clause-fault g c =
-    let settings = c.args.settings.now in
-    let passed_on = err_from_is_err_and c.from_residual-in_err-progress.result c.from_residual-in_err-progress.ensures.1 in
     let refused = c.in_err-progress.ensures in
-    rw (passed_on.1, passed_on.2) (⊎_elim (λ long. rw long (Tells-no_room settings c.args.viewers _ _ (refused.too_long.1 (ap Err long))))
-    (λ wanting. rw wanting (Tells-nothing settings c.args.viewers _ _)) refused.fault)
+    IfErr-raised c.from_residual-in_err-progress.result _ c.from_residual-in_err-progress.ensures.1
+    (TellsOfRun-unstarted c.args.settings.now c.args.viewers _ _ _ (λ long. refused.too_long.1 (ap Err long)) refused.fault)
 
 pub returns-in_err-progress-clause-too_small : goal.returns-in_err-progress-clause-too_small
 returns-in_err-progress-clause-too_small g c =
@@ -29,11 +27,11 @@ pub returns-in-Err-clause-fault : goal.returns-in-Err-clause-fault
 returns-in-Err-clause-fault g c =
     let settings = c.args.settings.now in
     ⊎_elim (λ none.
-    let is : c.into.result ≡ faults.NoPlace = c.into.ensures ∙ ap fault_of_start none.0 in
-    rw is (Tells-no_place settings c.args.viewers _ _ none.1))
+    let is : c.into.result ≡ faults.NoPlace = c.into.ensures ∙ ap run_fault_of_start none.0 in
+    rw is (TellsOfRun-first settings c.args.viewers _ _ faults.NoPlace none.1))
     (λ wanting.
-    let is : c.into.result ≡ faults.OutOfMemory = c.into.ensures ∙ ap fault_of_start wanting in
-    rw is (Tells-nothing settings c.args.viewers _ _)) c.in-Err.ensures.fault
+    let is : c.into.result ≡ faults.OutOfMemory = c.into.ensures ∙ ap run_fault_of_start wanting in
+    rw is (TellsOfRun-nothing settings c.args.viewers _ _)) c.in-Err.ensures.fault
 
 pub perform_beside_viewers-requires-clause-few : goal.perform_beside_viewers-requires-clause-few
 perform_beside_viewers-requires-clause-few g c = omega (arith, c.requires, c.in-Ok.ensures.count)
@@ -51,7 +49,12 @@ returns-clause-performance g c =
     (IfOk-weaker c.perform_beside_viewers.result _ _ (λ outcome performance. performance c.args.looks started) c.perform_beside_viewers.ensures.performance)
 
 pub returns-clause-fault : goal.returns-clause-fault
-returns-clause-fault g c = rw (sym c.in-Ok.ensures.count) c.perform_beside_viewers.ensures.fault
+returns-clause-fault g c =
+    rw (sym c.in-Ok.ensures.count)
+    (IfErr-weaker c.perform_beside_viewers.result _ _ (λ fault. TellsOfRun-begun c.args.settings.now (viewer_count c.in-Ok.watching) fault _)
+    c.perform_beside_viewers.ensures.fault)
 
 pub returns-clause-no_place : goal.returns-clause-no_place
-returns-clause-no_place g c = λ place. absurd (c.perform_beside_viewers.ensures.places place)
+returns-clause-no_place g c = λ place.
+    let (read, consumed, (written, out, told)) = IfErr-at_err _ place c.perform_beside_viewers.ensures.fault in
+    ⊎_elim (λ none. absurd none) (λ none. absurd none.1) told

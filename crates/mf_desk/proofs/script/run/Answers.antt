@@ -1,41 +1,31 @@
-use Rattle.std.proofs.Common.{ℕ, List, Option, Err, ⊎_elim, inl, inr, ap, subst, length}
+use Rattle.std.proofs.Common.{ℕ, List, Option, Err, ⊎_elim, inl, inr, ap, length}
 use Rattle.std.specs.Io.KnownBytes.{Appends}
 use Rattle.std.proofs.KnownBytes.{Appends-nil}
 use Rattle.std.proofs.lemmas.List.Elements.{All-nil}
 use Rattle.std.proofs.lemmas.Result.{err_from_is_err_and}
 use Rattle.mf_desk.specs.declared.ended_run.EndedRun.{EndedRun}
 use Rattle.mf_desk.specs.declared.outcome.Outcome.{Outcome}
-use Rattle.mf_desk.specs.EndedRuns.{EndsWith, glance}
-use Rattle.mf_desk.specs.Performances.{run_limits, viewer_lines}
-use Rattle.mf_desk.specs.Streams.{streams_of}
-use Rattle.mf_desk.proofs.Performances.{Tells-script, Tells-nothing, Tells-no_room, Tells-unfinished, IsPerformance-over}
+use Rattle.mf_desk.specs.EndedRuns.{glance}
+use Rattle.mf_desk.specs.Performances.{viewer_lines}
+use Rattle.mf_desk.proofs.Faults.{IfErr-raised}
+use Rattle.mf_desk.proofs.Performances.{TellsOfBegun-end, TellsOfBegun-script, TellsOfEnd-unfinished, TellsOfRun-begun}
+use Rattle.mf_desk.proofs.Performances.{IsPerformance-over, TellsOfRun-nothing, TellsOfRun-unstarted}
 use Rattle.mf_desk.proofs.ViewerLines.{lines-nobody}
-use Rattle.mf_desk.proofs.script.run.Goals.{In_ok-ended}
 use Rattle.mf_desk.proofs.script.run.Goals as goal
 
 -- no line of a viewer is written
 nobody : (holds : Option (List ℕ)) (run : EndedRun) → Appends holds holds (viewer_lines 0 (glance run))
 nobody holds run = rw (lines-nobody (glance run)) (Appends-nil holds)
 
--- everything was read and performed, under the limits of the settings
-ended : (g : _) (c : In_ok-ended g) → EndsWith (run_limits c.args.settings.now) (streams_of g.R.Read.remaining c.args.reader.now
-    c.complete.new.reader g.W.Write.contents c.args.writer.now c.complete.new.writer) c.in_ok-ended.ended
-ended g c =
-    subst (λ l. EndsWith l (streams_of g.R.Read.remaining c.args.reader.now c.complete.new.reader g.W.Write.contents c.args.writer.now
-    c.complete.new.writer) c.in_ok-ended.ended) c.in_ok-progress.ensures.limits c.in_ok-ended.ensures.over
-
 pub returns-in_err-memory-clause-fault : goal.returns-in_err-memory-clause-fault
 returns-in_err-memory-clause-fault g c =
-    let wanting = err_from_is_err_and c.from_residual.result c.from_residual.ensures.1 in
-    rw (wanting.1, wanting.2) (Tells-nothing c.args.settings.now 0 _ _)
+    IfErr-raised c.from_residual.result _ c.from_residual.ensures.1 (TellsOfRun-nothing c.args.settings.now 0 _ _)
 
 pub returns-in_err-progress-clause-fault : goal.returns-in_err-progress-clause-fault
 returns-in_err-progress-clause-fault g c =
-    let settings = c.args.settings.now in
-    let passed_on = err_from_is_err_and c.from_residual-in_err-progress.result c.from_residual-in_err-progress.ensures.1 in
     let refused = c.in_err-progress.ensures in
-    rw (passed_on.1, passed_on.2) (⊎_elim (λ long. rw long (Tells-no_room settings 0 _ _ (refused.too_long.1 (ap Err long))))
-    (λ wanting. rw wanting (Tells-nothing settings 0 _ _)) refused.fault)
+    IfErr-raised c.from_residual-in_err-progress.result _ c.from_residual-in_err-progress.ensures.1
+    (TellsOfRun-unstarted c.args.settings.now 0 _ _ _ (λ long. refused.too_long.1 (ap Err long)) refused.fault)
 
 pub returns-in_err-progress-clause-too_small : goal.returns-in_err-progress-clause-too_small
 returns-in_err-progress-clause-too_small g c =
@@ -45,27 +35,27 @@ returns-in_err-progress-clause-too_small g c =
 
 pub returns-in_err-ended-clause-fault : goal.returns-in_err-ended-clause-fault
 returns-in_err-ended-clause-fault g c =
-    let passed_on = err_from_is_err_and c.from_residual-in_err-ended.result c.from_residual-in_err-ended.ensures.1 in
-    rw (passed_on.1, passed_on.2)
-    (Tells-script c.args.settings.now 0 _ _ _ c.in_ok-progress.ensures.limits c.in_err-ended.ensures.fault)
+    IfErr-raised c.from_residual-in_err-ended.result _ c.from_residual-in_err-ended.ensures.1
+    (TellsOfRun-begun c.args.settings.now 0 _ _
+    (TellsOfBegun-script c.args.settings.now 0 _ _ _ c.in_ok-progress.ensures.limits c.in_err-ended.ensures.fault))
 
 pub returns-in_err-gf-clause-fault : goal.returns-in_err-gf-clause-fault
 returns-in_err-gf-clause-fault g c =
     let held = g.W.Write.contents c.args.writer.now in
     let holds = g.W.Write.contents c.complete.new.writer in
     let run = c.in_ok-ended.ended in
-    let (read, consumed, over) = ended g (goal.at.returns-in_err-gf-clause-fault g c).In_ok-ended in
-    let passed_on = err_from_is_err_and c.from_residual-in_err-gf.result c.from_residual-in_err-gf.ensures.1 in
-    rw (passed_on.1, passed_on.2)
-    (Tells-unfinished c.args.settings.now 0 held holds holds read run over _ _ consumed c.in_ok-ended.ensures.end (nobody holds run)
-    c.file.result _ c.file.ensures (λ long characters keeps. (c.in_err-gf.ensures.too_long characters keeps).1 (ap Err long)) c.in_err-gf.ensures.fault)
+    let (read, consumed, over) = rw c.in_ok-progress.ensures.limits at c.in_ok-ended.ensures.over in
+    IfErr-raised c.from_residual-in_err-gf.result _ c.from_residual-in_err-gf.ensures.1
+    (TellsOfRun-begun c.args.settings.now 0 _ _ (TellsOfBegun-end c.args.settings.now 0 _ _ read consumed c.in_ok-ended.ensures.end
+    (TellsOfEnd-unfinished c.args.settings.now 0 held holds holds read run over _ c.file.result _ (nobody holds run)
+    c.file.ensures (λ long characters keeps. (c.in_err-gf.ensures.too_long characters keeps).1 (ap Err long)) c.in_err-gf.ensures.fault)))
 
 pub returns-clause-transcript : goal.returns-clause-transcript
 returns-clause-transcript g c looks =
     let held = g.W.Write.contents c.args.writer.now in
     let holds = g.W.Write.contents c.complete.new.writer in
     let run = c.in_ok-ended.ended in
-    let (read, consumed, over) = ended g (goal.at.returns-clause-transcript g c).In_ok-ended in
+    let (read, consumed, over) = rw c.in_ok-progress.ensures.limits at c.in_ok-ended.ensures.over in
     let outcome : Outcome = record { gf = c.in_ok-gf.gf; seen = c.new-2.result } in (
       read,
       consumed,

@@ -1,8 +1,9 @@
 use Rattle.std.proofs.Common.{◌≡◌, ◌<◌, All, IfErr, IfOk, length, subst}
 use Rattle.std.proofs.lemmas.Result.{IfErr-weaker, IfOk-weaker}
+use Rattle.mf_live.specs.declared.sheet.SheetFault.TheVariants.{NoLook}
 use Rattle.mf_watch.specs.Watchers.{IsRecord}
 use Rattle.mf_desk.specs.EndedRuns.{BreaksLooks, last_looks}
-use Rattle.mf_desk.proofs.Showing.{IsShown-start, breaks-no_look}
+use Rattle.mf_desk.proofs.Showing.{HasShown-start, breaks-look}
 use Rattle.mf_desk.proofs.ended_run.EndedRun.show.Goals as goal
 
 pub returns-in-Ok-clause-seen : goal.returns-in-Ok-clause-seen
@@ -20,5 +21,5 @@ returns-in-Ok-clause-fault g c =
 
 pub returns-in-Err-clause-fault : goal.returns-in-Err-clause-fault
 returns-in-Err-clause-fault g c = λ viewers joined some.
-    breaks-no_look viewers _ c.args.self.now (IsShown-start c.args.self.now (g.W.Write.contents c.args.writer.now))
+    breaks-look _ c.args.self.now (HasShown-start c.args.self.now (g.W.Write.contents c.args.writer.now)) viewers NoLook
     (subst (λ r. IfErr r (λ _. 0 < viewers)) c.in-Err.is some)

@@ -1,14 +1,13 @@
 use Rattle.std.proofs.Common.{[], ◌++◌, refl, take, drop, sym, ap, ◌+◌, take-append-drop, arith}
 use Rattle.std.proofs.KnownBytes.{Appends-nil}
 use Rattle.std.proofs.lemmas.List.{length-take-le}
-use Rattle.std.proofs.lemmas.Result.{err_from_is_err_and}
 use Rattle.mf_desk.specs.Performer.{IsLineText}
+use Rattle.mf_desk.proofs.Faults.{IfErr-raised}
 use Rattle.mf_desk.proofs.performer.Performer.perform_line.Goals as goal
 
 pub returns-in_err-text-clause-fault : goal.returns-in_err-text-clause-fault
 returns-in_err-text-clause-fault g c =
-    let wanting = err_from_is_err_and c.from_residual.result c.from_residual.ensures.1 in
-    rw (wanting.1, wanting.2) ([], Appends-nil _, refl)
+    IfErr-raised c.from_residual.result _ c.from_residual.ensures.1 ([], Appends-nil _, refl)
 
 pub returns-clause-fault : goal.returns-clause-fault
 returns-clause-fault g c =

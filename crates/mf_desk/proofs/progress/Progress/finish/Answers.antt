@@ -1,8 +1,9 @@
 use Rattle.std.proofs.Common.{ℕ, List, Option, Result, Ok, Err, append-nil, inr, sym}
 use Rattle.std.specs.Prelude.{OnOk}
 use Rattle.std.specs.Str.Lines.{lines}
-use Rattle.std.proofs.lemmas.Result.{err_from_is_err_and, IfErr-weaker}
+use Rattle.std.proofs.lemmas.Result.{IfErr-weaker}
 use Rattle.mf_desk.specs.Progress.{HasCounted, IsAfter}
+use Rattle.mf_desk.proofs.Faults.{IfErr-raised}
 use Rattle.mf_desk.proofs.Ended.{lines-none}
 use Rattle.mf_desk.proofs.Stages.{HasCounted-flushed, HasCounted-last, empty-unended, Breaks-last, Breaks-flush}
 use Rattle.mf_desk.proofs.progress.Progress.finish.Goals.{In_ok-perform}
@@ -19,9 +20,8 @@ always (Err fault) holds = tt
 
 pub returns-in_err-perform-clause-fault : goal.returns-in_err-perform-clause-fault
 returns-in_err-perform-clause-fault g c =
-    let passed_on = err_from_is_err_and c.from_residual.result c.from_residual.ensures.1 in
     let broken = rw c.at_end.ensures at c.in_err-perform.ensures.fault in
-    rw (passed_on.1, passed_on.2) (λ held left read all_read after.
+    IfErr-raised c.from_residual.result _ c.from_residual.ensures.1 (λ held left read all_read after.
     Breaks-last held _ read c.args.self.now after c.in_err-perform.field-0.0 left _ all_read (sym (c.if-is_empty.ensures)) broken)
 
 -- the last line has been performed, and its text written

@@ -1,5 +1,5 @@
 use Rattle.std.proofs.Common.{refl}
-use Rattle.std.proofs.lemmas.Result.{err_from_is_err_and}
+use Rattle.mf_desk.proofs.Faults.{IfErr-raised}
 use Rattle.mf_desk.proofs.Stages.{IsAfter-unbroken, Breaks-between}
 use Rattle.mf_desk.proofs.progress.Progress.keep.Goals as goal
 
@@ -9,5 +9,5 @@ returns-clause-after c =
 
 pub returns-in_err-extend-clause-fault : goal.returns-in_err-extend-clause-fault
 returns-in_err-extend-clause-fault c =
-    let wanting = err_from_is_err_and c.from_residual.result c.from_residual.ensures.1 in
-    rw (wanting.1, wanting.2) (λ holds held left read more after. Breaks-between held holds read c.args.self.now after left c.args.bytes.now more)
+    IfErr-raised c.from_residual.result _ c.from_residual.ensures.1
+    (λ holds held left read more after. Breaks-between held holds read c.args.self.now after left c.args.bytes.now more)

@@ -1,11 +1,12 @@
 use Rattle.std.proofs.Common.{◌≡◌, ◌++◌, ◌∷◌, ◌∙◌, List, ℕ, [], ap, sym, subst, append_assoc}
 use Rattle.std.proofs.lemmas.Bool.{eqb-true}
 use Rattle.std.proofs.lemmas.List.{nil_from_length}
-use Rattle.std.proofs.lemmas.Result.{err_from_is_err_and, on_ok_weaker, IfErr-weaker}
+use Rattle.std.proofs.lemmas.Result.{on_ok_weaker, IfErr-weaker}
 use Rattle.mf_desk.specs.Progress.{IsAfter}
 use Rattle.mf_desk.specs.Fault.{Breaks}
 use Rattle.mf_desk.specs.Streams.{Gets, Passing}
 use Rattle.mf_session.specs.Sessions.{limits}
+use Rattle.mf_desk.proofs.Faults.{IfErr-raised}
 use Rattle.mf_desk.proofs.Stages.{IsAfter-whole, Breaks-whole}
 use Rattle.mf_desk.proofs.progress.Progress.take_line.Goals as goal
 
@@ -32,9 +33,8 @@ returns-then-is_empty-clause-fault g c =
 
 pub returns-in_err-keep-clause-fault : goal.returns-in_err-keep-clause-fault
 returns-in_err-keep-clause-fault g c =
-    let passed_on = err_from_is_err_and c.from_residual.result c.from_residual.ensures.1 in
     let bounds = limits c.args.self.now.performer.session in
-    rw (passed_on.1, passed_on.2) (
+    IfErr-raised c.from_residual.result _ c.from_residual.ensures.1 (
     λ held left read more after.
     subst (λ all. Gets held (g.W.Write.contents c.args.writer.now) (Passing (Breaks bounds c.in_err-keep.field-0.0) left all))
     (regrouped read c.args.bytes.now more) (c.in_err-keep.ensures.fault _ held left read (10 ∷ more) after)
