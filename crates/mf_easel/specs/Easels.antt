@@ -26,26 +26,30 @@ identity easel = viewers.identity (viewer_of easel)
 abbrev pub looked_at_list : Easel → List Entry
 looked_at_list easel = viewers.looked_at_list (viewer_of easel)
 
--- how large its frames are
-abbrev pub canvas_of : Easel → Size
-canvas_of easel = easel.canvas
+-- how frames are drawn, and how large they are
+pub record Manner : Type 0 where
+  pub style : Style
+  pub canvas : Size
 
--- how they are drawn
-abbrev pub style_of : Easel → Style
-style_of easel = easel.style
+-- the manner with these two, in this order
+abbrev pub manner : Style → Size → Manner
+manner style canvas = record { style = style; canvas = canvas }
+
+-- the manner in which it draws
+abbrev pub manner_of : Easel → Manner
+manner_of easel = manner easel.style easel.canvas
 
 -- the revision of the frame that it drew last, if there is one
 abbrev pub revision_of : Easel → Option ℕ
 revision_of easel = easel.drawn
 
 -- it draws frames of the same size and style
-pub record HasSameManner (before after : Easel) : Type 0 where
-  pub canvas : canvas_of after ≡ canvas_of before
-  pub style : style_of after ≡ style_of before
+abbrev pub HasSameManner : Easel → Easel → Type 0
+HasSameManner before after = manner_of after ≡ manner_of before
 
 -- the text that draws a picture of this revision on an easel: over the frame before, if there is one
 abbrev pub drawing_with : Easel → ℕ → List Dot → List ℕ
-drawing_with easel revision ds = over (style_of easel) (canvas_of easel) (revision_of easel) ++ frame_text (style_of easel) (canvas_of easel) revision ds
+drawing_with easel revision ds = over easel.style easel.canvas (revision_of easel) ++ frame_text easel.style easel.canvas revision ds
 
 -- the text that draws the picture of a list on an easel
 abbrev pub drawing_of : Easel → List Entry → List ℕ

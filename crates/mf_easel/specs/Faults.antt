@@ -13,6 +13,6 @@ easel_fault_text NoLook = codes "NoLook"
 easel_fault_text WriteFault = codes "WriteFault"
 
 -- why a look is not drawn where there is no sheet of it
-abbrev pub fault_of_sheet : SheetFault → EaselFault
-fault_of_sheet sheets.NoLook = NoLook
-fault_of_sheet sheets.OutOfMemory = OutOfMemory
+abbrev pub easel_fault_of_sheet : SheetFault → EaselFault
+easel_fault_of_sheet sheets.NoLook = NoLook
+easel_fault_of_sheet sheets.OutOfMemory = OutOfMemory

@@ -54,9 +54,9 @@ impl From<AllocError> for EaselFault {
 }
 
 impl From<SheetFault> for EaselFault {
-    ghost use Rattle.mf_easel.specs.Faults.{fault_of_sheet};
+    ghost use Rattle.mf_easel.specs.Faults.{easel_fault_of_sheet};
 
-    ghost from_gives = { λ sheet fault. fault ≡ fault_of_sheet sheet };
+    ghost from_gives = { λ sheet fault. fault ≡ easel_fault_of_sheet sheet };
 
     fn from(fault: SheetFault) -> EaselFault {
         match fault {

@@ -14,7 +14,7 @@ use Rattle.mf_session.specs.States.{Limits, State, answer_with}
 use Rattle.mf_session.specs.Transcript.{Due, IsFirstText, Perform, due}
 use Rattle.mf_stage.proofs.Performed.{published-all}
 use Rattle.mf_stage.proofs.Scripts.{AreFirstLines, IsUnderWay, under_way-line, under_way-start}
-use Rattle.mf_stage.specs.Faults.{BreaksLines, BreaksScript, ConcernsPlate, IsBrokenOff, IsCutText, IsOfPlate, IsPublishedAs, Tells}
+use Rattle.mf_stage.specs.Faults.{BreaksLines, BreaksScript, ConcernsPlate, AreBrokenOff, IsCutText, IsOfPlate, IsPublishedAs, TellsOfScript}
 use Rattle.mf_stage.specs.Lines.{IsReadLine, Reads, without_ending}
 use Rattle.mf_stage.specs.Publications.{IsPlateWhere}
 use Rattle.mf_stage.specs.Scripts.{Act, HasPerformedLine, PerformsFrom, act_of}
@@ -30,9 +30,9 @@ regroup : (a b c d : List (List ℕ)) → (a ++ (b ++ c)) ++ d ≡ (a ++ b) ++ (
 regroup a b c d = simp append_assoc
 
 tells-between : (d : Due) (last : State) (fault : StageFault) (written : List ℕ) → (fault ≡ OutOfMemory) ⊎ (fault ≡ ReadFault)
-    → IsFirstText d last written → Tells d last fault written
-tells-between d last fault written (inl is) first = subst (λ f. Tells d last f written) (sym is) first
-tells-between d last fault written (inr is) first = subst (λ f. Tells d last f written) (sym is) first
+    → IsFirstText d last written → TellsOfScript d last fault written
+tells-between d last fault written (inl is) first = subst (λ f. TellsOfScript d last f written) (sym is) first
+tells-between d last fault written (inr is) first = subst (λ f. TellsOfScript d last f written) (sym is) first
 
 -- no such fault is one of a plate
 between-plates : (fault : StageFault) → (fault ≡ OutOfMemory) ⊎ (fault ≡ ReadFault) → ConcernsPlate fault → ⊥
@@ -71,8 +71,8 @@ module _ (limits : Limits) (s t : State) (done mid more : List (List ℕ)) (text
     written_is = ap (λ w. text ++ w) f.written_is ∙ sym (append_assoc text f.texts f.front);
   }
 
-  tells-after : (last : State) (fault : StageFault) (written : List ℕ) → Tells (due limits t mid) last fault written
-      → Tells (due limits s ((done ++ mid) ++ more)) last fault (text ++ written)
+  tells-after : (last : State) (fault : StageFault) (written : List ℕ) → TellsOfScript (due limits t mid) last fault written
+      → TellsOfScript (due limits s ((done ++ mid) ++ more)) last fault (text ++ written)
   tells-after last OutOfMemory written told = first-after last written told
   tells-after last FileTooLong written told = told
   tells-after last ReadFault written told = first-after last written told
@@ -83,8 +83,8 @@ module _ (limits : Limits) (s t : State) (done mid more : List (List ℕ)) (text
 -- what is written where a fault comes in a line, whose stage represented the state t
 broken-after : (before now after : Stage) (s : State) (done mid more : List (List ℕ)) (fault : StageFault) (held holds last : Option (List ℕ))
     → limits now ≡ limits before → plates_of now ≡ plates_of before → (first : PerformsFrom (act_of before now held holds) s done)
-    → IsBrokenOff (act_of now after holds last) first.last mid fault
-    → IsBrokenOff (act_of before after held last) s ((done ++ mid) ++ more) fault
+    → AreBrokenOff (act_of now after holds last) first.last mid fault
+    → AreBrokenOff (act_of before after held last) s ((done ++ mid) ++ more) fault
 broken-after before now after s done mid more fault held holds last same same_plates first broken =
     record {
       last = broken.last;
@@ -92,7 +92,7 @@ broken-after before now after s done mid more fault held holds last same same_pl
       stands = broken.stands;
       out = Appends-trans held holds last first.text broken.written first.out broken.out;
       told = tells-after (limits before) s first.last done mid more first.text first.performed broken.last fault broken.written
-          (subst (λ l. Tells (due l first.last mid) broken.last fault broken.written) same broken.told);
+          (subst (λ l. TellsOfScript (due l first.last mid) broken.last fault broken.written) same broken.told);
       asked = λ concerns. subst IsSome same_plates (broken.asked concerns);
     }
 
@@ -141,13 +141,13 @@ under_way-cut before now later unread left remaining held holds last line fault 
       known = known;
       broken = λ s stands.
           let performed = was.performed s stands in
-          subst (λ ls. IsBrokenOff (act_of before later held last) s ls fault) (sym first)
+          subst (λ ls. AreBrokenOff (act_of before later held last) s ls fault) (sym first)
           (broken-after before now later s was.done one more fault held holds last same same_plates performed (breaks performed.last performed.stands));
     }
 
 -- an allocation failed before anything was done for a line
 pub nothing-done : (before after : Stage) (s : State) (line : List ℕ) (held : Option (List ℕ)) → StandsFor after s
-    → IsBrokenOff (act_of before after held held) s (line ∷ []) OutOfMemory
+    → AreBrokenOff (act_of before after held held) s (line ∷ []) OutOfMemory
 nothing-done before after s line held stands = record {
   last = s;
   written = [];
@@ -159,7 +159,7 @@ nothing-done before after s line held stands = record {
 
 -- the text of a line was cut
 pub line-cut : (act : Act) (s next : State) (line text : List ℕ) → Answers (limits act.before) s line (answer_with text next) → StandsFor act.after next
-    → GetsMessage act.held act.holds text → IsBrokenOff act s (line ∷ []) WriteFault
+    → GetsMessage act.held act.holds text → AreBrokenOff act s (line ∷ []) WriteFault
 line-cut act s next line text answer stands (front, rest, is, out) = record {
   last = next;
   written = front;
@@ -188,18 +188,18 @@ line-first limits s next line text answer =
     record { done = line ∷ []; more = []; first = refl; performed = Perform-one limits s line (answer_with text next) answer }
 
 tells-published : (d : Due) (next : State) (fault : StageFault) (text : List ℕ) → IsFirstText d next text
-    → next.pictures.published ≡ next.pictures.accepted → IsOfPlate next.pictures.published fault → Tells d next fault text
+    → next.pictures.published ≡ next.pictures.accepted → IsOfPlate next.pictures.published fault → TellsOfScript d next fault text
 tells-published d next fault text first all is =
     let published : IsPublishedAs (rev next.pictures.published) next = record { all = all; revision_is = refl } in
-    ⊎_elim (⊎_elim (λ memory. subst (λ f. Tells d next f text) (sym memory) first)
-    (λ large. subst (λ f. Tells d next f text) (sym large.0) (first, published, large.1)))
-    (λ plate. subst (λ f. Tells d next f text) (sym plate) (first, published)) is
+    ⊎_elim (⊎_elim (λ memory. subst (λ f. TellsOfScript d next f text) (sym memory) first)
+    (λ large. subst (λ f. TellsOfScript d next f text) (sym large.0) (first, published, large.1)))
+    (λ plate. subst (λ f. TellsOfScript d next f text) (sym plate) (first, published)) is
 
 -- a line was performed and its text was written, and then the plate of what it has published fails
 pub line-published : (act : Act) (s next : State) (line text : List ℕ) (fault : StageFault)
     → Answers (limits act.before) s line (answer_with text next) → StandsFor act.after next → Appends act.held act.holds text
     → next.pictures.published ≡ next.pictures.accepted → IsOfPlate next.pictures.published fault → IsSome (plates_of act.before)
-    → IsBrokenOff act s (line ∷ []) fault
+    → AreBrokenOff act s (line ∷ []) fault
 line-published act s next line text fault answer stands out all is some = record {
   last = next;
   written = text;
@@ -211,7 +211,7 @@ line-published act s next line text fault answer stands out all is some = record
 
 -- the same of a plate that was made and not written
 pub line-unwritten : (act : Act) (s : State) (line : List ℕ) (fault : StageFault) (made : Option Publication) → HasPerformedLine act s line made
-    → IsSomeAnd made (λ publication. (fault ≡ PlateFault publication.revision) × IsSome publication.plate) → IsBrokenOff act s (line ∷ []) fault
+    → IsSomeAnd made (λ publication. (fault ≡ PlateFault publication.revision) × IsSome publication.plate) → AreBrokenOff act s (line ∷ []) fault
 line-unwritten act s line fault None done is = absurd is
 line-unwritten act s line fault (Some publication) done (is, some) =
     let (given, of_list) = done.made_is in

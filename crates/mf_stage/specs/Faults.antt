@@ -36,14 +36,14 @@ pub record IsPublishedAs (revision : ℕ) (s : State) : Type 0 where
 -- what a fault says of these lines, the first of which have led to this state, and of what was written: after `WriteFault` the text of
 -- the last line that was performed may be cut, and after each other fault the texts of all of them have been written; after the faults
 -- of an image these lines have published its revision, and after `ImageTooLarge` the picture that they have published is too large
-abbrev pub Tells : Due → State → StageFault → List ℕ → Type 0
-Tells d last OutOfMemory written = IsFirstText d last written
-Tells d last FileTooLong written = ⊥
-Tells d last ReadFault written = IsFirstText d last written
-Tells d last WriteFault written = IsCutText d last written
-Tells d last (ImageTooLarge revision) written =
+abbrev pub TellsOfScript : Due → State → StageFault → List ℕ → Type 0
+TellsOfScript d last OutOfMemory written = IsFirstText d last written
+TellsOfScript d last FileTooLong written = ⊥
+TellsOfScript d last ReadFault written = IsFirstText d last written
+TellsOfScript d last WriteFault written = IsCutText d last written
+TellsOfScript d last (ImageTooLarge revision) written =
     IsFirstText d last written × IsPublishedAs revision last × IsTooLargeForImage (pic last.pictures.published)
-Tells d last (PlateFault revision) written = IsFirstText d last written × IsPublishedAs revision last
+TellsOfScript d last (PlateFault revision) written = IsFirstText d last written × IsPublishedAs revision last
 
 -- the fault is one of a plate
 abbrev pub ConcernsPlate : StageFault → Type 0
@@ -53,17 +53,17 @@ ConcernsPlate _ = ⊥
 
 -- in this act, at whose start the stage represented this state, a fault has broken these lines off: now the stage represents the state
 -- to which the first of them have led, and has written what the fault says, which is one of a plate only where plates are asked for
-pub record IsBrokenOff (act : Act) (s : State) (whole : List (List ℕ)) (fault : StageFault) : Type 0 where
+pub record AreBrokenOff (act : Act) (s : State) (whole : List (List ℕ)) (fault : StageFault) : Type 0 where
   pub last : State
   pub written : List ℕ
   pub stands : StandsFor act.after last
   pub out : Appends act.held act.holds written
-  pub told : Tells (due (limits act.before) s whole) last fault written
+  pub told : TellsOfScript (due (limits act.before) s whole) last fault written
   pub asked : ConcernsPlate fault → IsSome (plates_of act.before)
 
 -- in this act the fault has broken the lines off, whatever state the stage represented
 abbrev pub BreaksLines : Act → List (List ℕ) → StageFault → Type 0
-BreaksLines act whole fault = (s : State) → StandsFor act.before s → IsBrokenOff act s whole fault
+BreaksLines act whole fault = (s : State) → StandsFor act.before s → AreBrokenOff act s whole fault
 
 -- in this act the fault has broken a script off: that of which its reader had the bytes, where these are known, and else that of some
 -- bytes

@@ -3,7 +3,6 @@
 #![tactic(auto)]
 
 mod fault;
-mod limits;
 mod line;
 mod pace;
 mod plate;
@@ -11,7 +10,6 @@ mod stage;
 mod transcript;
 
 pub use fault::StageFault;
-pub use limits::Limits;
 pub use pace::Pace;
 pub use plate::{Image, Plate, Plates};
 pub use stage::{Publication, Stage};

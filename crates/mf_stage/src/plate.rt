@@ -63,7 +63,7 @@ impl Plates {
         revision: u32,
         picture: &Picture,
     ) -> Result<Option<Image>, StageFault>
-        ensures made { IfOk result (IsPgmWhere self.now.pgm self.now revision picture.now) }
+        ensures made { IfOk result (IsPgmWhere self.now.pgm (IsPgm self.now revision picture.now)) }
         ensures fault { IfErr result (IsOfImage revision picture.now) }
     {
         if !self.pgm {

@@ -10,7 +10,6 @@ ghost use Rattle.mf_stage.specs.Scripts.{HasPerformedLine, PerformsLines, Perfor
 ghost use Rattle.mf_stage.specs.Stages.{StandsFor, identity, limits, plates_of, session_of};
 
 use crate::fault::StageFault;
-use crate::limits::Limits;
 use crate::line::{next_line, publishes, without_ending};
 use crate::pace::Pace;
 use crate::plate::{Plate, Plates};
@@ -41,24 +40,26 @@ pub struct Publication {
 }
 
 impl Stage {
-    /// A stage on which nothing was performed, and the desk, with at most one place for a viewer. With `plates`, each publish of
-    /// the script writes a plate. Refused with `FileTooLong` exactly where `max_bytes` is below 3, and with `OutOfMemory` where an
-    /// allocation fails.
+    /// A stage on which nothing was performed, and the desk, with at most one place for a viewer. `currentpicture` accepts at most
+    /// `max_ops` operations, and the font file has at most `max_bytes` bytes; more than 2,147,483,647 count as that. With `plates`,
+    /// each publish of the script writes a plate. Refused with `FileTooLong` exactly where `max_bytes` is below 3, since no font
+    /// file is so short, and with `OutOfMemory` where an allocation fails.
     pub fn new<S: Wait>(
         rt: &S,
         alloc: Global,
-        script_limits: &Limits,
+        max_ops: u32,
+        max_bytes: u32,
         plates: Option<Plates>,
     ) -> Result<(Stage, Desk), StageFault>
         ensures start { IfOk result (λ made. StandsFor made.0 start) }
-        ensures limits { IfOk result (λ made. limits made.0 ≡ limits_of script_limits.now.max_ops script_limits.now.max_bytes) }
+        ensures limits { IfOk result (λ made. limits made.0 ≡ limits_of max_ops max_bytes) }
         ensures identity { IfOk result (λ made. desk_identity made.1 ≡ identity made.0) }
         ensures plates { IfOk result (λ made. plates_of made.0 ≡ plates) }
         ensures places { IfOk result (λ made. remaining_viewers made.1 ≤ 1) }
-        ensures too_long { (script_limits.now.max_bytes < least_bytes) ↔ (result ≡ Err StageFault.FileTooLong) }
+        ensures too_long { (max_bytes < least_bytes) ↔ (result ≡ Err StageFault.FileTooLong) }
         ensures fault { IfErr result (λ fault. (fault ≡ StageFault.FileTooLong) ⊎ (fault ≡ StageFault.OutOfMemory)) }
     {
-        match Session::new(rt, alloc, 1, script_limits.max_ops, script_limits.max_bytes) {
+        match Session::new(rt, alloc, 1, max_ops, max_bytes) {
             Ok((session, desk)) => Ok((Stage { session, plates }, desk)),
             Err(GfFault::FileTooLong) => Err(StageFault::FileTooLong),
             Err(_) => Err(StageFault::OutOfMemory),

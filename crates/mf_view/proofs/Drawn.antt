@@ -4,11 +4,9 @@ use Rattle.std.specs.Io.KnownBytes.{Appends}
 use Rattle.std.proofs.KnownBytes.{Appends-nil, Appends-trans}
 use Rattle.std.proofs.lemmas.List.{append-nil}
 use Rattle.std.proofs.lemmas.List.Elements.{All-cons, All-head, All-nil, All-weaker}
-use Rattle.mf_easel.specs.Easels.{HasLookedLast, HasSameManner, canvas_of, drawing_of, looked_at_list, revision_of, style_of, viewer_of}
+use Rattle.mf_easel.specs.Easels.{HasLookedLast, HasSameManner, Manner, drawing_of, looked_at_list, manner_of, revision_of, viewer_of}
 use Rattle.mf_easel.specs.Screens.{GetsFrame, IsAbove, new_revision, over, screen_of}
-use Rattle.mf_frame.specs.Canvases.{Size}
 use Rattle.mf_frame.specs.Frames.{frame_text}
-use Rattle.mf_frame.specs.declared.tile.Style.{Style}
 use Rattle.mf_easel.specs.declared.easel.Easel.{Easel}
 use Rattle.mf_ops.specs.Operations.{picture_after, revision_after}
 use Rattle.mf_ops.specs.declared.op.Op.{Op}
@@ -35,19 +33,16 @@ seen-more S L lists more seen = All-weaker (IsSeenOf S) (IsSeenOf L) (λ A part.
 
 -- what was drawn is the same text in the same manner
 in-manner : (held holds : Option (List ℕ)) (before after : Easel) (lists : List (List Entry)) → HasSameManner before after
-    → Appends held holds (frames (style_of before) (canvas_of before) lists) → Appends held holds (frames (style_of after) (canvas_of after) lists)
-in-manner held holds before after lists manner text =
-    subst (λ style. Appends held holds (frames style (canvas_of after) lists)) (sym manner.style)
-    (subst (λ canvas. Appends held holds (frames (style_of before) canvas lists)) (sym manner.canvas) text)
+    → Appends held holds (frames (manner_of before) lists) → Appends held holds (frames (manner_of after) lists)
+in-manner held holds before after lists same text = subst (λ m. Appends held holds (frames m lists)) (sym same) text
 
 -- what a look draws goes after what was drawn
-drawn-after : (held then holds : Option (List ℕ)) (style : Style) (canvas : Size) (drawn : Option ℕ) (lists : List (List Entry)) (L : List Entry)
-    → Appends held then (frames style canvas lists) → drawn ≡ last_revision lists
-    → Appends then holds (over style canvas drawn ++ frame_text style canvas (rev L) (pic L))
-    → Appends held holds (frames style canvas (L ∷ lists))
-drawn-after held then holds style canvas drawn lists L was last gets =
-    Appends-trans held then holds (frames style canvas lists) (drawing style canvas lists L) was
-    (subst (λ d. Appends then holds (over style canvas d ++ frame_text style canvas (rev L) (pic L))) last gets)
+drawn-after : (held then holds : Option (List ℕ)) (m : Manner) (drawn : Option ℕ) (lists : List (List Entry)) (L : List Entry)
+    → Appends held then (frames m lists) → drawn ≡ last_revision lists
+    → Appends then holds (over m.style m.canvas drawn ++ frame_text m.style m.canvas (rev L) (pic L)) → Appends held holds (frames m (L ∷ lists))
+drawn-after held then holds m drawn lists L was last gets =
+    Appends-trans held then holds (frames m lists) (drawing m lists L) was
+    (subst (λ d. Appends then holds (over m.style m.canvas d ++ frame_text m.style m.canvas (rev L) (pic L))) last gets)
 
 -- a look draws its own list after what was drawn, or what was drawn last has its revision
 pub drawn-look : {W : Type 0} (contents : W → Option (List ℕ)) (held : Option (List ℕ)) (s t : W) (before after : Easel) (shown : Option ℕ)
@@ -67,8 +62,7 @@ drawn-look contents held s t before after (Some shown) look manner answer drawn 
     record {
       lists = looked_at_list after ∷ was.lists;
       text = in-manner held (contents t) before after (looked_at_list after ∷ was.lists) manner
-          (drawn-after held (contents s) (contents t) (style_of before) (canvas_of before) (revision_of before)
-          was.lists (looked_at_list after) was.text was.last gets);
+          (drawn-after held (contents s) (contents t) (manner_of before) (revision_of before) was.lists (looked_at_list after) was.text was.last gets);
       rise = (subst (λ n. IsAbove (last_revision was.lists) n) revision (subst (λ d. IsAbove d shown) was.last rising), was.rise);
       seen = All-cons (IsSeenOf (looked_at_list after)) (looked_at_list after) was.lists (whole-self (looked_at_list after))
           (seen-more (looked_at_list before) (looked_at_list after) was.lists look.extends.looked was.seen);
@@ -91,8 +85,8 @@ same-picture L whole part same =
 
 -- the last picture was drawn before
 shown-before : (easel : Easel) (whole : List Entry) (held holds : Option (List ℕ)) (lists : List (List Entry))
-    → Appends held holds (frames (style_of easel) (canvas_of easel) lists) → Rise lists → All (IsSeenOf whole) lists → last_revision lists ≡ Some (rev whole)
-    → ShowsLast (style_of easel) (canvas_of easel) whole held holds
+    → Appends held holds (frames (manner_of easel) lists) → Rise lists → All (IsSeenOf whole) lists → last_revision lists ≡ Some (rev whole)
+    → ShowsLast (manner_of easel) whole held holds
 shown-before easel whole held holds [] text rise seen last = cc
 shown-before easel whole held holds (L ∷ earlier) text rise seen last =
     let revision : rev L ≡ rev whole = cc in
@@ -110,7 +104,7 @@ shown-before easel whole held holds (L ∷ earlier) text rise seen last =
 pub shown-last : {W : Type 0} (contents : W → Option (List ℕ)) (held : Option (List ℕ)) (s t : W) (before after : Easel) (whole : List Entry) (shown : Option ℕ)
     → HasLookedLast (viewer_of before) whole (viewer_of after) → shown ≡ new_revision (revision_of before) (rev whole)
     → GetsFrame (screen_of contents s t) (drawing_of before whole) shown → IfSome shown (IsAbove (revision_of before))
-    → HasDrawn before held (contents s) → ShowsLast (style_of before) (canvas_of before) whole held (contents t)
+    → HasDrawn before held (contents s) → ShowsLast (manner_of before) whole held (contents t)
 shown-last contents held s t before after whole None look answer same rising was =
     let again = sym was.last ∙ new-none (revision_of before) (rev whole) (sym answer) in
     let seen = seen-more (looked_at_list before) whole was.lists look.0.looked was.seen in
@@ -120,7 +114,7 @@ shown-last contents held s t before after whole (Some shown) look answer gets ri
     record {
       last = whole;
       earlier = was.lists;
-      text = drawn-after held (contents s) (contents t) (style_of before) (canvas_of before) (revision_of before) was.lists whole was.text was.last gets;
+      text = drawn-after held (contents s) (contents t) (manner_of before) (revision_of before) was.lists whole was.text was.last gets;
       rise = (subst (λ n. IsAbove (last_revision was.lists) n) revision (subst (λ d. IsAbove d shown) was.last rising), was.rise);
       seen = All-cons (IsSeenOf whole) whole was.lists (whole-self whole) (seen-more (looked_at_list before) whole was.lists look.0.looked was.seen);
       revision = refl;
@@ -131,6 +125,3 @@ shown-last contents held s t before after whole (Some shown) look answer gets ri
 pub drawn-nothing : (easel : Easel) (held : Option (List ℕ)) → revision_of easel ≡ None → HasDrawn easel held held
 drawn-nothing easel held nothing =
     record { lists = []; text = Appends-nil held; rise = tt; seen = All-nil (IsSeenOf (looked_at_list easel)); last = nothing }
-
-pub same-manner : (a b c : Easel) → HasSameManner a b → HasSameManner b c → HasSameManner a c
-same-manner a b c first then = record { canvas = then.canvas ∙ first.canvas; style = then.style ∙ first.style }

@@ -2,7 +2,7 @@
 use Rattle.std.proofs.Common.{◌≡◌, ℕ, List, Option, Result, Ok, Err, IfErr, IfOk, OnOk, subst}
 use Rattle.std.specs.Str.Lines.{lines}
 use Rattle.core.specs.Result.{result_and}
-use Rattle.mf_easel.specs.Easels.{HasSameManner, canvas_of, style_of}
+use Rattle.mf_easel.specs.Easels.{HasSameManner, Manner, manner, manner_of}
 use Rattle.mf_easel.specs.declared.easel.Easel.{Easel}
 use Rattle.mf_easel.specs.declared.fault.EaselFault.{EaselFault}
 use Rattle.mf_frame.specs.Canvases.{Size}
@@ -36,12 +36,12 @@ stands-after before after (Ok done) begins stands = stands start begins
 stands-after before after (Err fault) begins stands = tt
 
 -- a script was performed on this stage, and its end was shown
-module _ (style : Style) (canvas : Size) (s : ScreenStreams) (before after : Stage) (limited : limits before ≡ script_limits)
+module _ (m : Manner) (s : ScreenStreams) (before after : Stage) (limited : limits before ≡ script_limits)
     (begins : StandsFor before start) where
   shown-file : (file : GfFile) → PerformsAll (act_of before after s.told s.tells) s.unread
       → ((t : State) → StandsFor after t → IsFileOf (session_of after) t file)
-      → ((t : State) → StandsFor after t → ShowsLast style canvas (complete_list t.pictures) s.held s.holds)
-      → Shows style canvas s file
+      → ((t : State) → StandsFor after t → ShowsLast m (complete_list t.pictures) s.held s.holds)
+      → Shows m s file
   shown-file file script of_file shown =
       let done = script.performed start begins in (
         script.input,
@@ -60,8 +60,8 @@ module _ (style : Style) (canvas : Size) (s : ScreenStreams) (before after : Sta
       → OnOk performed (PerformsAll (act_of before after s.told s.tells) s.unread)
       → IfErr performed (λ fault. r ≡ Err (fault_of_stage fault))
       → IfOk r (λ file. (t : State) → StandsFor after t → IsFileOf (session_of after) t file)
-      → OnOk r ((t : State) → StandsFor after t → ShowsLast style canvas (complete_list t.pictures) s.held s.holds)
-      → IfOk r (Shows style canvas s)
+      → OnOk r ((t : State) → StandsFor after t → ShowsLast m (complete_list t.pictures) s.held s.holds)
+      → IfOk r (Shows m s)
   shown-whole (Ok done) (Ok file) transcript script of_file shown = shown-file file transcript of_file shown
   shown-whole (Ok done) (Err fault) transcript script of_file shown = tt
   shown-whole (Err fault) (Ok file) transcript script of_file shown = absurd (cc)
@@ -70,17 +70,16 @@ module _ (style : Style) (canvas : Size) (s : ScreenStreams) (before after : Sta
 -- what is shown in the manner of an easel is shown in its first manner
 pub shown-end : (first easel : Easel) (stage : Stage) (held mid holds : Option (List ℕ)) (drawn : Result (Unit {0}) EaselFault) (r : Result GfFile ProgramFault)
     → HasSameManner first easel → OnOk drawn (HasDrawn easel held mid)
-    → OnOk r ((s : State) → StandsFor stage s → EndsDrawing drawn easel (complete_list s.pictures) mid holds)
-    → OnOk r ((s : State) → StandsFor stage s → ShowsLast (style_of first) (canvas_of first) (complete_list s.pictures) held holds)
-shown-end first easel stage held mid holds drawn (Ok file) manner was shown = λ s stands.
-    subst (λ style. ShowsLast style (canvas_of first) (complete_list s.pictures) held holds) manner.style
-    (subst (λ canvas. ShowsLast (style_of easel) canvas (complete_list s.pictures) held holds) manner.canvas (shown s stands held was))
-shown-end first easel stage held mid holds drawn (Err fault) manner was shown = tt
+    → OnOk r ((s : State) → StandsFor stage s → EndsDrawing drawn easel (complete_list s.pictures) (record { held = mid; holds = holds }))
+    → OnOk r ((s : State) → StandsFor stage s → ShowsLast (manner_of first) (complete_list s.pictures) held holds)
+shown-end first easel stage held mid holds drawn (Ok file) same was shown =
+    λ s stands. subst (λ m. ShowsLast m (complete_list s.pictures) held holds) same (shown s stands held was)
+shown-end first easel stage held mid holds drawn (Err fault) same was shown = tt
 
 -- what was performed with this style and this size is what was asked for
 pub shown-as : (transcript : Option (List ℕ)) (style wanted : Style) (canvas size : Size) (s : ScreenStreams) (file : GfFile)
-    → (style ≡ wanted) × (canvas ≡ size) → IsShownInto transcript style canvas s file
-    → IsShownInto transcript wanted size s file
+    → (style ≡ wanted) × (canvas ≡ size) → IsShownInto transcript (manner style canvas) s file
+    → IsShownInto transcript (manner wanted size) s file
 shown-as transcript style wanted canvas size s file (same_style, same_size) shown =
-    subst (λ style. IsShownInto transcript style size s file) same_style
-    (subst (λ size. IsShownInto transcript style size s file) same_size shown)
+    subst (λ style. IsShownInto transcript (manner style size) s file) same_style
+    (subst (λ size. IsShownInto transcript (manner style size) s file) same_size shown)

@@ -6,7 +6,7 @@ use Rattle.mf_image.specs.Boxes.{IsTooLargeForImage}
 use Rattle.mf_live.specs.Entries.{Entry, pic, rev}
 use Rattle.mf_session.specs.States.{State, answer_with, start}
 use Rattle.mf_session.specs.Transcript.{Due, Perform, due}
-use Rattle.mf_stage.specs.Faults as stage
+use Rattle.mf_stage.specs.Faults.{TellsOfScript}
 use Rattle.mf_stage.specs.declared.fault.StageFault.{StageFault}
 use Rattle.mf_view.specs.Causes.{fault_of_stage}
 use Rattle.mf_view.specs.Performances.{script_limits}
@@ -24,9 +24,9 @@ IsOfEnd last _ = ⊥
 
 -- what a fault says of the lines of a script, the first of which have led to this state, and of what was written of their transcript: what
 -- the same fault of the stage says; or it came at the end, after all of them; or there was no place for the viewer, and nothing was written
-abbrev pub Tells : Due → State → ProgramFault → List ℕ → Type 0
-Tells d last fault written =
-    ((cause : StageFault) × (fault ≡ fault_of_stage cause) × stage.Tells d last cause written)
+abbrev pub TellsOfPerformance : Due → State → ProgramFault → List ℕ → Type 0
+TellsOfPerformance d last fault written =
+    ((cause : StageFault) × (fault ≡ fault_of_stage cause) × TellsOfScript d last cause written)
     ⊎ ((Perform d.limits d.from d.whole (answer_with written last) × IsOfEnd last.pictures.accepted fault) ⊎ ((fault ≡ NoPlace) × (written ≡ [])))
 
 -- a fault has broken off the performance of a script: of the one that the reader had, where this is known, and else of some bytes; the
@@ -37,4 +37,4 @@ pub record IsBrokenOff (unread told tells : Option (List ℕ)) (fault : ProgramF
   pub last : State
   pub written : List ℕ
   pub out : Appends told tells written
-  pub tells_is : Tells (due script_limits start (lines input)) last fault written
+  pub tells_is : TellsOfPerformance (due script_limits start (lines input)) last fault written

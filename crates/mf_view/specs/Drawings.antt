@@ -1,13 +1,11 @@
 -- What an easel has drawn on a screen.
 use Rattle.std.specs.Prelude.{◌≡◌, ℕ, All, List, [], ◌∷◌, ◌++◌, None, OnOk, Option, Result, Some}
 use Rattle.std.specs.Io.KnownBytes.{Appends}
-use Rattle.mf_easel.specs.Easels.{canvas_of, looked_at_list, revision_of, style_of}
+use Rattle.mf_easel.specs.Easels.{Manner, looked_at_list, manner_of, revision_of}
 use Rattle.mf_easel.specs.Screens.{IsAbove, over}
 use Rattle.mf_easel.specs.declared.easel.Easel.{Easel}
 use Rattle.mf_easel.specs.declared.fault.EaselFault.{EaselFault}
-use Rattle.mf_frame.specs.Canvases.{Size}
 use Rattle.mf_frame.specs.Frames.{frame_text}
-use Rattle.mf_frame.specs.declared.tile.Style.{Style}
 use Rattle.mf_live.specs.Entries.{Entry, pic, rev}
 use Rattle.mf_live.specs.Prefixes.{IsWholePrefix}
 
@@ -17,13 +15,13 @@ last_revision [] = None
 last_revision (L ∷ earlier) = Some (rev L)
 
 -- the frame of the picture of a list, drawn over that of the last of the earlier lists
-abbrev pub drawing : Style → Size → List (List Entry) → List Entry → List ℕ
-drawing style canvas earlier L = over style canvas (last_revision earlier) ++ frame_text style canvas (rev L) (pic L)
+abbrev pub drawing : Manner → List (List Entry) → List Entry → List ℕ
+drawing m earlier L = over m.style m.canvas (last_revision earlier) ++ frame_text m.style m.canvas (rev L) (pic L)
 
 -- the frames of the pictures of these lists, each drawn over the one before it
-abbrev pub frames : Style → Size → List (List Entry) → List ℕ
-frames style canvas [] = []
-frames style canvas (L ∷ earlier) = frames style canvas earlier ++ drawing style canvas earlier L
+abbrev pub frames : Manner → List (List Entry) → List ℕ
+frames m [] = []
+frames m (L ∷ earlier) = frames m earlier ++ drawing m earlier L
 
 -- the revision of each of these lists is above that of the one before it
 abbrev pub Rise : List (List Entry) → Type 0
@@ -37,7 +35,7 @@ IsSeenOf whole L = IsWholePrefix L whole
 -- an easel has drawn frames of what its viewer has seen, of rising revisions, and nothing else went to its screen
 pub record HasDrawn (easel : Easel) (held holds : Option (List ℕ)) : Type 0 where
   pub lists : List (List Entry)
-  pub text : Appends held holds (frames (style_of easel) (canvas_of easel) lists)
+  pub text : Appends held holds (frames (manner_of easel) lists)
   pub rise : Rise lists
   pub seen : All (IsSeenOf (looked_at_list easel)) lists
   pub last : revision_of easel ≡ last_revision lists
@@ -47,10 +45,10 @@ abbrev pub DrawsMore : Easel → Easel → Option (List ℕ) → Option (List �
 DrawsMore before after holds later = (held : Option (List ℕ)) → HasDrawn before held holds → HasDrawn after held later
 
 -- a screen has got frames of whole prefixes of a list, of rising revisions, and the last is that of the picture of the list
-pub record ShowsLast (style : Style) (canvas : Size) (whole : List Entry) (held holds : Option (List ℕ)) : Type 0 where
+pub record ShowsLast (manner : Manner) (whole : List Entry) (held holds : Option (List ℕ)) : Type 0 where
   pub last : List Entry
   pub earlier : List (List Entry)
-  pub text : Appends held holds (frames style canvas (last ∷ earlier))
+  pub text : Appends held holds (frames manner (last ∷ earlier))
   pub rise : Rise (last ∷ earlier)
   pub seen : All (IsSeenOf whole) (last ∷ earlier)
   pub revision : rev last ≡ rev whole
@@ -60,10 +58,19 @@ pub record ShowsLast (style : Style) (canvas : Size) (whole : List Entry) (held 
 -- holds others
 abbrev pub LeavesLast : Easel → List Entry → Option (List ℕ) → Option (List ℕ) → Type 0
 LeavesLast easel whole holds later =
-    (held : Option (List ℕ)) → HasDrawn easel held holds → ShowsLast (style_of easel) (canvas_of easel) whole held later
+    (held : Option (List ℕ)) → HasDrawn easel held holds → ShowsLast (manner_of easel) whole held later
+
+-- what a screen or a transcript has received in a call: what it held before and holds after it, where this is known
+pub record Receipt : Type 0 where
+  pub held : Option (List ℕ)
+  pub holds : Option (List ℕ)
+
+-- the receipt of what is written to, before and after a call
+abbrev pub receipt : {W : Type 0} → (W → Option (List ℕ)) → W → W → Receipt
+receipt contents before after = record { held = contents before; holds = contents after }
 
 -- the last picture is shown after a drawing that has succeeded; this is claimed only of runs that end well, and none does after a
 -- drawing that has failed
-abbrev pub EndsDrawing : Result (Unit {0}) EaselFault → Easel → List Entry → Option (List ℕ) → Option (List ℕ) → Type 0
-EndsDrawing drawn easel whole holds later =
-    (held : Option (List ℕ)) → OnOk drawn (HasDrawn easel held holds) → ShowsLast (style_of easel) (canvas_of easel) whole held later
+abbrev pub EndsDrawing : Result (Unit {0}) EaselFault → Easel → List Entry → Receipt → Type 0
+EndsDrawing drawn easel whole screen =
+    (held : Option (List ℕ)) → OnOk drawn (HasDrawn easel held screen.held) → ShowsLast (manner_of easel) whole held screen.holds

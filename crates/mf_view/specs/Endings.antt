@@ -2,7 +2,8 @@
 use Rattle.std.specs.Prelude.{◌≡◌, ◌≢◌, ◌⊎◌, Bool, true, false, ℕ, List, [], Option, None, Some, IsSome, codes, option_map, string_bytes}
 use Rattle.std.specs.Io.KnownBytes.{Appends}
 use Rattle.clap.specs.Words.{Text}
-use Rattle.mf_frame.specs.Canvases.{Size, size_in}
+use Rattle.mf_easel.specs.Easels.{Manner, manner}
+use Rattle.mf_frame.specs.Canvases.{size_in}
 use Rattle.mf_frame.specs.declared.tile.Style.{Style}
 use Rattle.mf_frame.specs.declared.tile.Style.TheVariants.{Colored, Plain}
 use Rattle.mf_gf.specs.declared.file.GfFile.{GfFile}
@@ -23,10 +24,10 @@ style_in false = Colored
 
 -- a script was performed and shown: where no path is given, with its transcript in the stream of messages; with a path that stream is as
 -- it was, and nothing is said of where the transcript went, since no contract knows what a file holds
-abbrev pub IsShownInto : Option (List ℕ) → Style → Size → ScreenStreams → GfFile → Type 0
-IsShownInto None style canvas s file = Shows style canvas s file
-IsShownInto (Some path) style canvas s file =
-    (s.tells ≡ s.told) × (empty : Option (List ℕ)) × (full : Option (List ℕ)) × Shows style canvas (record s { told = empty; tells = full }) file
+abbrev pub IsShownInto : Option (List ℕ) → Manner → ScreenStreams → GfFile → Type 0
+IsShownInto None m s file = Shows m s file
+IsShownInto (Some path) m s file =
+    (s.tells ≡ s.told) × (empty : Option (List ℕ)) × (full : Option (List ℕ)) × Shows m (record s { told = empty; tells = full }) file
 
 -- the font file of a script is not too long, and where the words ask for it, it has a character
 pub record HasFont (words : Words) (file : GfFile) : Type 0 where
@@ -37,7 +38,7 @@ pub record HasFont (words : Words) (file : GfFile) : Type 0 where
 -- a script was performed and shown as the words ask for it, and this is its font file
 abbrev pub IsShownFor : Words → ScreenStreams → GfFile → Type 0
 IsShownFor words =
-    IsShownInto (option_map string_bytes words.transcript) (style_in words.frames) (size_in words.columns words.rows)
+    IsShownInto (option_map string_bytes words.transcript) (manner (style_in words.frames) (size_in words.columns words.rows))
 
 -- the script was performed and shown as the words ask for it, and so is its font file
 pub record IsWatched (words : Words) (s : ScreenStreams) : Type 0 where

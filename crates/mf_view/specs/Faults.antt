@@ -21,15 +21,15 @@ use Rattle.mf_view_words.specs.declared.words.Request.TheVariants.{Show}
 use Rattle.mf_view_words.specs.declared.words.Words.{Words}
 
 -- the fault is one of a plate
-abbrev pub ConcernsPlate : ProgramFault → Type 0
-ConcernsPlate (faults.ImageTooLarge revision) = Unit {0}
-ConcernsPlate (faults.PlateFault revision) = Unit {0}
-ConcernsPlate _ = ⊥
+abbrev pub ComesFromPlate : ProgramFault → Type 0
+ComesFromPlate (faults.ImageTooLarge revision) = Unit {0}
+ComesFromPlate (faults.PlateFault revision) = Unit {0}
+ComesFromPlate _ = ⊥
 
 -- where a script was performed to its end and the drawing has failed with the first fault, the second is told: it is the same, unless
 -- the end of the script fails, too, with `OutOfMemory` or a fault of its plate
 abbrev pub IsToldAfter : EaselFault → ProgramFault → Type 0
-IsToldAfter cause told = (told ≡ fault_of_easel cause) ⊎ ((told ≡ faults.OutOfMemory) ⊎ ConcernsPlate told)
+IsToldAfter cause told = (told ≡ fault_of_easel cause) ⊎ ((told ≡ faults.OutOfMemory) ⊎ ComesFromPlate told)
 
 -- the fault is not that there was no place for the viewer
 abbrev pub HadPlace : ProgramFault → Type 0
@@ -73,7 +73,7 @@ abbrev pub EndsScript : Words → ScreenStreams → ProgramFault → Type 0
 EndsScript asked s fault =
     ((fault ≡ faults.TooSmall) × (IsLargeEnough asked.columns asked.rows → ⊥) × IsUntouched s)
     ⊎ ((IsBrokenOffInto (option_map string_bytes asked.transcript) s fault
-    × (ConcernsPlate fault → IsSome asked.plates) × (fault ≡ faults.NoPlace → s.holds ≡ s.held))
+    × (ComesFromPlate fault → IsSome asked.plates) × (fault ≡ faults.NoPlace → s.holds ≡ s.held))
     ⊎ ((file : GfFile) × IsShownFor asked s file × LosesFont asked file fault))
 
 -- with this fault a run with these words ends: memory is missing before anything is drawn or told, a text that is asked for cannot be

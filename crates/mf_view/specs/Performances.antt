@@ -2,14 +2,13 @@
 use Rattle.std.specs.Prelude.{◌≡◌, ℕ, IfSome, List, [], Option}
 use Rattle.std.specs.Io.KnownBytes.{Appends}
 use Rattle.std.specs.Str.Lines.{lines}
-use Rattle.mf_frame.specs.Canvases.{Size}
-use Rattle.mf_frame.specs.declared.tile.Style.{Style}
+use Rattle.mf_easel.specs.Easels.{Manner}
 use Rattle.mf_gf.specs.declared.file.GfFile.{GfFile}
 use Rattle.mf_gf.specs.Keeping.{Keeps}
 use Rattle.mf_session.specs.Endings.{complete_list}
 use Rattle.mf_session.specs.States.{Limits, State, answer_with, limits_of, most_bytes, most_operations, start}
 use Rattle.mf_session.specs.Transcript.{Perform}
-use Rattle.mf_view.specs.Drawings.{ShowsLast}
+use Rattle.mf_view.specs.Drawings.{Receipt, ShowsLast}
 
 -- the limits of a script (here as well as in the code, so that a wrong constant there is not proved)
 abbrev pub script_limits : Limits
@@ -23,26 +22,21 @@ pub record ScreenStreams : Type 0 where
   pub told : Option (List ℕ)
   pub tells : Option (List ℕ)
 
--- the streams of a reader before a call, and of a screen and another writer before and after it
-abbrev pub screen_streams_of : {R W T : Type 0} → (R → Option (List ℕ)) → R → (W → Option (List ℕ)) → W → W → (T → Option (List ℕ)) → T → T → ScreenStreams
-screen_streams_of remaining reader contents screen shown texts transcript grown = record {
-  unread = remaining reader;
-  held = contents screen;
-  holds = contents shown;
-  told = texts transcript;
-  tells = texts grown;
-}
+-- the streams of a reader that had this, and of a screen and a transcript with these receipts
+abbrev pub screen_streams : Option (List ℕ) → Receipt → Receipt → ScreenStreams
+screen_streams unread screen transcript =
+    record { unread = unread; held = screen.held; holds = screen.holds; told = transcript.held; tells = transcript.holds }
 
 -- the script of these bytes was performed: the transcript is written, the screen has got frames of the picture, the last of them
 -- that of the last picture, and the font file keeps the characters that were shipped
-pub record IsShown (style : Style) (canvas : Size) (s : ScreenStreams) (file : GfFile) (input : List ℕ) : Type 0 where
+pub record IsShown (manner : Manner) (s : ScreenStreams) (file : GfFile) (input : List ℕ) : Type 0 where
   pub text : List ℕ
   pub last : State
   pub performed : Perform script_limits start (lines input) (answer_with text last)
   pub out : Appends s.told s.tells text
-  pub shown : ShowsLast style canvas (complete_list last.pictures) s.held s.holds
+  pub shown : ShowsLast manner (complete_list last.pictures) s.held s.holds
   pub file_is : Keeps file [] last.characters
 
 -- a script was performed and shown: the one that the reader had, where this is known, and else some bytes
-abbrev pub Shows : Style → Size → ScreenStreams → GfFile → Type 0
-Shows style canvas s file = (input : List ℕ) × IfSome s.unread (λ known. input ≡ known) × IsShown style canvas s file input
+abbrev pub Shows : Manner → ScreenStreams → GfFile → Type 0
+Shows manner s file = (input : List ℕ) × IfSome s.unread (λ known. input ≡ known) × IsShown manner s file input

@@ -11,9 +11,9 @@ ghost use Rattle.mf_stage.specs.Stages.{StandsFor, limits};
 ghost use Rattle.mf_stage.specs.Scripts.{PerformsAll, StillStands, act_of};
 ghost use Rattle.mf_view.specs.Broken.{IsBrokenOff, IsOfEnd};
 ghost use Rattle.mf_view.specs.Causes.{fault_of_stage};
-ghost use Rattle.mf_view.specs.Faults.{ConcernsPlate, HadPlace, IsToldAfter};
-ghost use Rattle.mf_view.specs.Drawings.{DrawsMore, EndsDrawing};
-ghost use Rattle.mf_view.specs.Performances.{Shows, script_limits, screen_streams_of};
+ghost use Rattle.mf_view.specs.Faults.{ComesFromPlate, HadPlace, IsToldAfter};
+ghost use Rattle.mf_view.specs.Drawings.{DrawsMore, EndsDrawing, receipt};
+ghost use Rattle.mf_view.specs.Performances.{Shows, screen_streams, script_limits};
 
 use crate::drawing::{draw, draw_last, draw_on};
 use crate::fault::ProgramFault;
@@ -23,19 +23,13 @@ use mf_frame::{Canvas, Style};
 use mf_gf::GfFile;
 use mf_live::Ended;
 use mf_session::{MAX_BYTES, MAX_OPS};
-use mf_stage::{Limits, Pace, Plates, Stage, StageFault};
+use mf_stage::{Pace, Plates, Stage, StageFault};
 use std::alloc::Global;
 use std::io::{Read, Write};
 use std::rt::Files;
 use std::sync::Wait;
 use std::sync::atomic::{AtomicBool, Ordering};
 use std::thread::{Threads, join_mut};
-
-/// The limits of a script.
-const LIMITS: Limits = Limits {
-    max_ops: MAX_OPS,
-    max_bytes: MAX_BYTES,
-};
 
 /// How a performance is shown.
 #[derive(Drop)]
@@ -77,10 +71,10 @@ pub fn perform<
     pace: &P,
     showing: Showing,
 ) -> Result<GfFile, ProgramFault>
-    ensures shown { IfOk result (Shows showing.style showing.canvas
-        (screen_streams_of R.remaining reader.old W.contents screen.old screen.new T.contents transcript.old transcript.new)) }
+    ensures shown { IfOk result (Shows (easels.manner showing.style showing.canvas)
+        (screen_streams (R.remaining reader.old) (receipt W.contents screen.old screen.new) (receipt T.contents transcript.old transcript.new))) }
     ensures fault { IfErr result (IsBrokenOff (R.remaining reader.old) (T.contents transcript.old) (T.contents transcript.new)) }
-    ensures plates { IfErr result (λ fault. ConcernsPlate fault → IsSome showing.plates) }
+    ensures plates { IfErr result (λ fault. ComesFromPlate fault → IsSome showing.plates) }
     ensures no_place { result ≡ Err ProgramFault.NoPlace
         → (reader.new ≡ reader.old) × (screen.new ≡ screen.old) × (transcript.new ≡ transcript.old) }
 {
@@ -89,7 +83,7 @@ pub fn perform<
         style,
         plates,
     } = showing;
-    let (stage, mut desk) = Stage::new(rt, alloc, &LIMITS, plates)?;
+    let (stage, mut desk) = Stage::new(rt, alloc, MAX_OPS, MAX_BYTES, plates)?;
     match desk.viewer() {
         Ok(viewer) => {
             let easel = Easel::new(viewer, canvas, style);
@@ -124,10 +118,10 @@ fn show<
     requires start { StandsFor stage start }
     requires limits { limits stage ≡ script_limits }
     requires blank { easels.revision_of easel ≡ None }
-    ensures shown { IfOk result (Shows (easels.style_of easel) (easels.canvas_of easel)
-        (screen_streams_of R.remaining reader.old W.contents screen.old screen.new T.contents transcript.old transcript.new)) }
+    ensures shown { IfOk result (Shows (easels.manner_of easel)
+        (screen_streams (R.remaining reader.old) (receipt W.contents screen.old screen.new) (receipt T.contents transcript.old transcript.new))) }
     ensures fault { IfErr result (IsBrokenOff (R.remaining reader.old) (T.contents transcript.old) (T.contents transcript.new)) }
-    ensures plates { IfErr result (λ fault. ConcernsPlate fault → IsSome (stages.plates_of stage)) }
+    ensures plates { IfErr result (λ fault. ComesFromPlate fault → IsSome (stages.plates_of stage)) }
     ensures placed { IfErr result HadPlace }
 {
     let mut stage = stage;
@@ -154,12 +148,12 @@ fn conclude<S: Wait + Files, W: Write>(
     requires stands { OnOk performed ((s : State) × StandsFor stage s) }
     ensures script { IfErr performed (λ fault. result ≡ Err (fault_of_stage fault)) }
     ensures late { OnOk performed (IfErr result (λ fault. (s : State) → StandsFor stage s → IsOfEnd s.pictures.accepted fault)) }
-    ensures plates { OnOk performed (IfErr result (λ fault. ConcernsPlate fault → IsSome (stages.plates_of stage))) }
+    ensures plates { OnOk performed (IfErr result (λ fault. ComesFromPlate fault → IsSome (stages.plates_of stage))) }
     ensures drawing { IfErr drawn (λ _. IsErr result) }
     ensures told { OnOk performed (IfErr drawn (λ cause. IsErrAnd result (IsToldAfter cause))) }
     ensures file { IfOk result (λ file. (s : State) → StandsFor stage s → IsFileOf (stages.session_of stage) s file) }
     ensures shown { OnOk result ((s : State) → StandsFor stage s
-        → EndsDrawing drawn easel (complete_list s.pictures) (W.contents screen.old) (W.contents screen.new)) }
+        → EndsDrawing drawn easel (complete_list s.pictures) (receipt W.contents screen.old screen.new)) }
     ensures placed { IfErr result HadPlace }
 {
     match performed {
@@ -247,10 +241,10 @@ fn end<S: Wait + Files, W: Write>(
     requires stands { (s : State) × StandsFor stage s }
     ensures told { IfErr drawn (λ cause. IsErrAnd result (IsToldAfter cause)) }
     ensures late { IfErr result (λ fault. (s : State) → StandsFor stage s → IsOfEnd s.pictures.accepted fault) }
-    ensures plates { IfErr result (λ fault. ConcernsPlate fault → IsSome (stages.plates_of stage)) }
+    ensures plates { IfErr result (λ fault. ComesFromPlate fault → IsSome (stages.plates_of stage)) }
     ensures file { IfOk result (λ file. (s : State) → StandsFor stage s → IsFileOf (stages.session_of stage) s file) }
     ensures shown { OnOk result ((s : State) → StandsFor stage s
-        → EndsDrawing drawn easel (complete_list s.pictures) (W.contents screen.old) (W.contents screen.new)) }
+        → EndsDrawing drawn easel (complete_list s.pictures) (receipt W.contents screen.old screen.new)) }
     ensures placed { IfErr result HadPlace }
 {
     let (mut ended, file) = stage.finish(rt, alloc)?;
@@ -272,7 +266,7 @@ fn show_last<W: Write>(
 ) -> Result<(), EaselFault>
     requires identity { easels.identity easel ≡ ended_identity ended.old }
     ensures drawing { IfErr drawn (λ fault. result ≡ Err fault) }
-    ensures shown { OnOk result (EndsDrawing drawn easel (ended_published_list ended.old) (W.contents screen.old) (W.contents screen.new)) }
+    ensures shown { OnOk result (EndsDrawing drawn easel (ended_published_list ended.old) (receipt W.contents screen.old screen.new)) }
 {
     let mut easel = easel;
     match drawn {

@@ -2,12 +2,14 @@
 ghost use Rattle.std.specs.Io.KnownBytes.{Appends};
 ghost use Rattle.std.specs.Prelude.{◌≡◌, ◌++◌, ◌⊎◌, ◌↔◌, Err, IfErr, IfOk, IsOk, IsSome, OnOk, codes, decimal, option_map, string_bytes};
 ghost use Rattle.mf_base.specs.Messages.{GetsMessage};
+ghost use Rattle.mf_view.specs.Drawings.{receipt};
 ghost use Rattle.mf_view.specs.Endings.{AsksForText, Fulfils, IsShownInto, IsWatched, style_in};
-ghost use Rattle.mf_view.specs.Faults.{ConcernsPlate, EndsScript, IsBrokenOffInto, LacksRoom, ReportsFaultLast};
+ghost use Rattle.mf_view.specs.Faults.{ComesFromPlate, EndsScript, IsBrokenOffInto, LacksRoom, ReportsFaultLast};
+ghost use Rattle.mf_easel.specs.Easels.{manner};
 ghost use Rattle.mf_frame.specs.Canvases.{IsLargeEnough, size_in};
 ghost use Rattle.mf_options.specs.Values.{texts_of};
 ghost use Rattle.mf_view.specs.Messages.{message_of, usage};
-ghost use Rattle.mf_view.specs.Performances.{screen_streams_of};
+ghost use Rattle.mf_view.specs.Performances.{screen_streams};
 ghost use Rattle.mf_view.specs.Statuses.{status_of};
 ghost use Rattle.mf_view_words.specs.Requests.{IsCommandLine, IsWordsInRange};
 
@@ -66,10 +68,10 @@ pub fn program<S: Wait + Threads + Files + Clock + Sync, R: Read, W: Write + Sen
         → GetsMessage (E.contents errors.old) (E.contents errors.new) (message_of ProgramFault.OutOfMemory) }
     ensures usage { result ≡ BAD_WORDS → GetsMessage (E.contents errors.old) (E.contents errors.new) usage }
     ensures done { result ≡ DONE → Fulfils (texts_of words)
-        (screen_streams_of R.remaining reader.old W.contents screen.old screen.new E.contents errors.old errors.new) }
+        (screen_streams (R.remaining reader.old) (receipt W.contents screen.old screen.new) (receipt E.contents errors.old errors.new)) }
     ensures fault { (result ≡ STREAM_FAULT) ⊎ (result ≡ WANTING) ⊎ (result ≡ TOO_SMALL)
         → ReportsFaultLast (texts_of words) result
-        (screen_streams_of R.remaining reader.old W.contents screen.old screen.new E.contents errors.old errors.new) }
+        (screen_streams (R.remaining reader.old) (receipt W.contents screen.old screen.new) (receipt E.contents errors.old errors.new)) }
     ensures text_alone { AsksForText (texts_of words) → reader.new ≡ reader.old }
     ensures too_small { IsCommandLine (texts_of words) → LacksRoom (texts_of words) → (result ≡ TOO_SMALL)
         ⊎ ((result ≡ WANTING) × GetsMessage (E.contents errors.old) (E.contents errors.new) (message_of ProgramFault.OutOfMemory)) }
@@ -100,12 +102,12 @@ fn watch<S: Wait + Threads + Files + Clock + Sync, R: Read, W: Write + Send, E: 
     words: Words,
 ) -> Result<(), ProgramFault>
     requires { IsWordsInRange words }
-    ensures done { OnOk result
-        (IsWatched words (screen_streams_of R.remaining reader.old W.contents screen.old screen.new E.contents errors.old errors.new)) }
+    ensures done { OnOk result (IsWatched words
+        (screen_streams (R.remaining reader.old) (receipt W.contents screen.old screen.new) (receipt E.contents errors.old errors.new))) }
     ensures too_small { (IsLargeEnough words.columns words.rows → ⊥) ↔ (result ≡ Err ProgramFault.TooSmall) }
     ensures untouched { result ≡ Err ProgramFault.TooSmall → (reader.new ≡ reader.old) × (screen.new ≡ screen.old) }
-    ensures fault { IfErr result
-        (EndsScript words (screen_streams_of R.remaining reader.old W.contents screen.old screen.new E.contents errors.old errors.new)) }
+    ensures fault { IfErr result (EndsScript words
+        (screen_streams (R.remaining reader.old) (receipt W.contents screen.old screen.new) (receipt E.contents errors.old errors.new))) }
 {
     let Words {
         columns,
@@ -175,12 +177,12 @@ fn perform_into<
     showing: Showing,
     transcript: Option<String>,
 ) -> Result<GfFile, ProgramFault>
-    ensures done { IfOk result (IsShownInto (option_map string_bytes transcript) showing.style showing.canvas
-        (screen_streams_of R.remaining reader.old W.contents screen.old screen.new E.contents errors.old errors.new)) }
-    ensures plates { IfErr result (λ fault. ConcernsPlate fault → IsSome showing.plates) }
+    ensures done { IfOk result (IsShownInto (option_map string_bytes transcript) (manner showing.style showing.canvas)
+        (screen_streams (R.remaining reader.old) (receipt W.contents screen.old screen.new) (receipt E.contents errors.old errors.new))) }
+    ensures plates { IfErr result (λ fault. ComesFromPlate fault → IsSome showing.plates) }
     ensures no_place { result ≡ Err ProgramFault.NoPlace → screen.new ≡ screen.old }
     ensures fault { IfErr result (IsBrokenOffInto (option_map string_bytes transcript)
-        (screen_streams_of R.remaining reader.old W.contents screen.old screen.new E.contents errors.old errors.new)) }
+        (screen_streams (R.remaining reader.old) (receipt W.contents screen.old screen.new) (receipt E.contents errors.old errors.new))) }
 {
     let Some(path) = transcript else {
         return perform(rt, alloc, reader, screen, errors, pace, showing);

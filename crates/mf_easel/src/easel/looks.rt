@@ -3,8 +3,8 @@ ghost use Rattle.std.specs.Prelude.{◌≡◌, ◌⊎◌, None, Some, true, IfEr
 ghost use Rattle.mf_live.specs.Entries.{is_closed, pic, rev};
 ghost use Rattle.mf_live.specs.Sheets.{HasLooked, sheet_picture, sheet_revision};
 ghost use Rattle.mf_live.specs.Viewers as viewers;
-ghost use Rattle.mf_easel.specs.Easels.{HasLookedLast, HasSameManner, IsLastNotDrawn, IsNotDrawn, canvas_of, drawing_of, drawing_with};
-ghost use Rattle.mf_easel.specs.Easels.{identity, looked_at_list, revision_of, style_of, viewer_of};
+ghost use Rattle.mf_easel.specs.Easels.{HasLookedLast, HasSameManner, IsLastNotDrawn, IsNotDrawn, drawing_of, drawing_with};
+ghost use Rattle.mf_easel.specs.Easels.{identity, looked_at_list, manner, manner_of, revision_of, viewer_of};
 ghost use Rattle.mf_easel.specs.Screens.{GetsFrame, GetsNoMore, IsAbove, new_revision, over, screen_of};
 
 use super::Easel;
@@ -23,8 +23,7 @@ impl Easel {
     pub fn new(viewer: Viewer, canvas: Canvas, style: Style) -> Easel
         ensures identity { identity result ≡ viewers.identity viewer }
         ensures viewer { viewer_of result ≡ viewer }
-        ensures canvas { canvas_of result ≡ canvas }
-        ensures style { style_of result ≡ style }
+        ensures manner { manner_of result ≡ manner style canvas }
         ensures drawn { revision_of result ≡ None }
     {
         Easel {
@@ -136,7 +135,7 @@ impl Easel {
 
     /// What moves the cursor up to the first line of the frame before.
     fn over(&self, alloc: Global) -> Result<Vec<u8>, OutOfMemory>
-        ensures { IfOk result (λ text. text.items ≡ over (style_of self.now) (canvas_of self.now) (revision_of self.now)) }
+        ensures { IfOk result (λ text. text.items ≡ over self.now.style self.now.canvas (revision_of self.now)) }
     {
         let mut text = Vec::new(alloc);
         if let (Style::Colored, Some(_)) = (self.style, self.drawn) {

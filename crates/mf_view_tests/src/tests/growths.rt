@@ -5,16 +5,15 @@ use super::paces::Held;
 use mf_easel::{Easel, EaselFault};
 use mf_frame::{Canvas, Style};
 use mf_live::Desk;
-use mf_stage::{Limits, Plates, Stage, StageFault};
+use mf_stage::{Plates, Stage, StageFault};
 use mf_testing::{Pieces, Sink, grow_again, refuse_growths};
 use std::alloc::Global;
 use std::process::Abort;
 use std::sync::Wait;
 
-const LIMITS: Limits = Limits {
-    max_ops: 10,
-    max_bytes: 1000,
-};
+const MAX_OPS: u32 = 10;
+
+const MAX_BYTES: u32 = 1000;
 
 /// Two pixels, in the columns 1 and 2 of row 1.
 const CONTOUR: &[u8] = b"addto currentpicture contour (1,1)--(3,1)--(3,2)--(1,2)--cycle";
@@ -23,7 +22,7 @@ const FRAME: &str = "▀▀\nrevision 1  totalweight 2\ncolumns 1..2  rows 1..1 
 
 /// A stage whose picture has two pixels.
 fn stage_and_desk<R: Abort + Wait>(rt: &R, alloc: Global, plates: Option<Plates>) -> (Stage, Desk) {
-    let made = Stage::new(rt, alloc, &LIMITS, plates);
+    let made = Stage::new(rt, alloc, MAX_OPS, MAX_BYTES, plates);
     let (mut stage, desk) = made.expect(rt, "there is room for a stage");
     answer(rt, alloc, &mut stage, CONTOUR);
     (stage, desk)
@@ -98,7 +97,7 @@ fn a_publish_has_a_plate(rt: HostRuntime) {
 fn a_stage_is_made(rt: HostRuntime) {
     let alloc = rt.alloc();
     refuse_growths(alloc);
-    let made = Stage::new(&rt, alloc, &LIMITS, None);
+    let made = Stage::new(&rt, alloc, MAX_OPS, MAX_BYTES, None);
     grow_again(alloc);
     match made {
         Ok((stage, _)) => stage.discard(&rt),

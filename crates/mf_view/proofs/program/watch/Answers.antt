@@ -4,7 +4,8 @@ use Rattle.std.proofs.lemmas.Result.{err_from_is_err_and}
 use Rattle.mf_gf.specs.Files.{file_if_any}
 use Rattle.mf_view.specs.Endings.{IsShownFor}
 use Rattle.mf_view.specs.Faults.{EndsScript}
-use Rattle.mf_view.specs.Performances.{ScreenStreams, screen_streams_of}
+use Rattle.mf_view.specs.Performances.{ScreenStreams, screen_streams}
+use Rattle.mf_view.specs.Drawings.{receipt}
 use Rattle.mf_view.proofs.FontsAsked.{no-file, on-ok-from, unmade, unwritten}
 use Rattle.mf_view.proofs.Shown.{shown-as}
 use Rattle.mf_view.proofs.program.watch.Goals.{In_ok-file}
@@ -13,8 +14,8 @@ use Rattle.mf_view.proofs.program.watch.Goals as goal
 -- the streams of the performance, before its font file is written
 abbrev streams : (g : _) → In_ok-file g → ScreenStreams
 streams g c =
-    screen_streams_of g.R.Read.remaining c.args.reader.now g.W.Write.contents c.args.screen.now c.perform_into.new.screen
-    g.E.Write.contents c.args.errors.now c.perform_into.new.errors
+    screen_streams (g.R.Read.remaining c.args.reader.now) (receipt g.W.Write.contents c.args.screen.now c.perform_into.new.screen)
+    (receipt g.E.Write.contents c.args.errors.now c.perform_into.new.errors)
 
 -- the script was shown as the words ask for it
 shown : (g : _) (c : In_ok-file g) → IsShownFor c.args.words (streams g c) c.in_ok-file.file
