@@ -51,6 +51,13 @@ ConcernsPlate (ImageTooLarge revision) = Unit {0}
 ConcernsPlate (PlateFault revision) = Unit {0}
 ConcernsPlate _ = ⊥
 
+-- the fault is one that comes where nothing is read and no file is written
+abbrev pub NeedsNoFile : StageFault → Type 0
+NeedsNoFile OutOfMemory = Unit {0}
+NeedsNoFile WriteFault = Unit {0}
+NeedsNoFile (ImageTooLarge revision) = Unit {0}
+NeedsNoFile _ = ⊥
+
 -- in this act, at whose start the stage represented this state, a fault has broken these lines off: now the stage represents the state
 -- to which the first of them have led, and has written what the fault says, which is one of a plate only where plates are asked for
 pub record AreBrokenOff (act : Act) (s : State) (whole : List (List ℕ)) (fault : StageFault) : Type 0 where

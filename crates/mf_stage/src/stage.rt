@@ -4,7 +4,7 @@ ghost use Rattle.mf_live.specs.Desks.{desk_identity, remaining_viewers};
 ghost use Rattle.mf_session.specs.Endings.{HasEnded};
 ghost use Rattle.mf_live.specs.Entries.{pic, rev};
 ghost use Rattle.mf_session.specs.States.{State, least_bytes, limits_of, start};
-ghost use Rattle.mf_stage.specs.Faults.{BreaksLines, BreaksScript, ConcernsPlate, IsOfImage, IsOfPlate};
+ghost use Rattle.mf_stage.specs.Faults.{BreaksLines, BreaksScript, ConcernsPlate, IsOfImage, IsOfPlate, NeedsNoFile};
 ghost use Rattle.mf_stage.specs.Publications.{IsPlateWhere, IsPublication};
 ghost use Rattle.mf_stage.specs.Scripts.{HasPerformedLine, PerformsLines, PerformsAll, StillStands, act_of};
 ghost use Rattle.mf_stage.specs.Stages.{StandsFor, identity, limits, plates_of, session_of};
@@ -156,6 +156,7 @@ impl Stage {
         ensures performed { IfOk result (λ made. (s : State) → StandsFor self.old s
             → HasPerformedLine (act_of self.old self.new (W.contents transcript.old) (W.contents transcript.new)) s line.now made) }
         ensures begun { IfErr result (BreaksLines (act_of self.old self.new (W.contents transcript.old) (W.contents transcript.new)) (line.now ∷ [])) }
+        ensures possible { IfErr result NeedsNoFile }
         ensures limits { limits self.new ≡ limits self.old }
         ensures identity { identity self.new ≡ identity self.old }
         ensures plates { plates_of self.new ≡ plates_of self.old }
@@ -178,6 +179,7 @@ impl Stage {
         ensures asked { IfErr result (λ _. IsSome (plates_of self.now)) }
         ensures fault { IfErr result (λ fault. (s : State) → StandsFor self.now s
             → IsOfImage (rev s.pictures.accepted) (pic s.pictures.accepted) fault) }
+        ensures possible { IfErr result NeedsNoFile }
     {
         let revision = self.session.revision();
         let plate = self.plate(alloc)?;
@@ -191,6 +193,7 @@ impl Stage {
         ensures asked { IfErr result (λ _. IsSome (plates_of self.now)) }
         ensures fault { IfErr result (λ fault. (s : State) → StandsFor self.now s
             → IsOfImage (rev s.pictures.accepted) (pic s.pictures.accepted) fault) }
+        ensures possible { IfErr result NeedsNoFile }
     {
         let Some(plates) = &self.plates else {
             return Ok(None);
