@@ -1,5 +1,5 @@
 //! Viewers that look on, each in a thread of its own.
-ghost use Rattle.std.specs.Prelude.{◌≡◌, ◌⊎◌, ◌+◌, ◌≤◌, ◌<◌, ℕ, All, IfErr, IfOk, OnOk, length, vec_capacity};
+ghost use Rattle.std.specs.Prelude.{◌≡◌, ◌⊎◌, ◌+◌, ◌≤◌, ◌<◌, ℕ, All, IfErr, IfOk, OnErr, OnOk, length, vec_capacity};
 ghost use Rattle.logbook.specs.Pages.{Book};
 ghost use Rattle.mf_live.specs.Desks.{desk_identity, most_places, remaining_viewers};
 ghost use Rattle.mf_watch.specs.Watchers.{IsWatcher, identity};
@@ -92,7 +92,7 @@ impl Watching {
     }
 
     /// Starts a thread for a viewer. Refused with `NoPlace` where there is no thread for it, or the gate cannot be shared with
-    /// it.
+    /// it; the threads that were started before are kept, since they have to be joined.
     fn start_one<S: Threads, G: Gate + 'static>(
         &mut self,
         rt: &S,
@@ -107,6 +107,7 @@ impl Watching {
         requires joined { length self.old.threads.items < vec_capacity self.old.room }
         ensures started { AreStarted (identity watcher) looks self.new }
         ensures count { OnOk result (viewer_count self.new ≡ viewer_count self.old + 1) }
+        ensures kept { OnErr result (self.new.threads ≡ self.old.threads) }
         ensures room { vec_capacity self.old.threads ≤ vec_capacity self.new.threads }
         ensures joined { vec_capacity self.new.room ≡ vec_capacity self.old.room }
     {
