@@ -23,8 +23,9 @@ returns-clause-shown g c =
 
 pub returns-clause-fault : goal.returns-clause-fault
 returns-clause-fault g c =
-    broken-whole c.args.stage c.perform_beside-drawn.new.stage _ _ _ c.requires.limits c.requires.start c.perform_beside-drawn.result.performed c.conclude.result
-    c.perform_beside-drawn.ensures.transcript c.perform_beside-drawn.ensures.fault c.conclude.ensures.script c.conclude.ensures.late
+    broken-whole c.args.stage c.perform_beside-drawn.new.stage _ _ _ c.requires.limits c.requires.start
+    c.perform_beside-drawn.result.performed c.conclude.result c.perform_beside-drawn.ensures.transcript
+    c.perform_beside-drawn.ensures.fault c.conclude.ensures.script c.conclude.ensures.late
 
 pub returns-clause-plates : goal.returns-clause-plates
 returns-clause-plates g c =

@@ -34,8 +34,8 @@ due g c =
 
 pub returns-in-Ok-clause-seen : goal.returns-in-Ok-clause-seen
 returns-in-Ok-clause-seen g c = λ run looks same recorded kept.
-    let here =
-    subst (λ list. HasSeen list looks (record_of c.look_last.new.self).items) (c.notice.ensures.told ∙ same.published) (c.in_ok-glance.ensures.seen looks recorded) in
+    let here = subst (λ list. HasSeen list looks (record_of c.look_last.new.self).items) (c.notice.ensures.told ∙ same.published)
+    (c.in_ok-glance.ensures.seen looks recorded) in
     rw c.in_ok-push.ensures.items (All-push (HasSeenLast run looks) c.args.seen.now.items c.into_record.result kept (rw c.into_record.ensures here))
 
 pub returns-in-Ok-clause-shown : goal.returns-in-Ok-clause-shown
