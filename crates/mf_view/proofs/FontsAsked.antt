@@ -8,7 +8,7 @@ use Rattle.mf_gf.specs.declared.file.GfFile.{GfFile}
 use Rattle.mf_view.specs.Faults.{LosesFont}
 use Rattle.mf_view.specs.Fonts.{font_words}
 use Rattle.mf_view.specs.declared.fault.ProgramFault.{ProgramFault}
-use Rattle.mf_view.specs.declared.fault.ProgramFault.TheVariants.{OutOfMemory, FileTooLong, WriteFault, NoCharacters}
+use Rattle.mf_view.specs.declared.fault.ProgramFault.TheVariants.{OutOfMemory, FileTooLong, NoPlace, WriteFault, NoCharacters}
 use Rattle.mf_view_words.specs.declared.words.Words.{Words}
 
 -- what holds where a result is no refusal
@@ -37,3 +37,19 @@ pub unwritten : {A : Type 0} (asked : Words) (file : GfFile) (made : Option A) (
 unwritten asked file None r P some nothing none failed ends = subst (λ r. IfErr r P) (sym (none.0 refl)) (ends NoCharacters (some, nothing refl))
 unwritten asked file (Some bytes) (Ok done) P some nothing none failed ends = tt
 unwritten asked file (Some bytes) (Err fault) P some nothing none failed ends = ends fault (subst (LosesFont asked file) (sym failed) some)
+
+-- a result has one fault
+pub err-same : {A E : Type 0} (r : Result A E) (fault other : E) → r ≡ Err fault → r ≡ Err other → fault ≡ other
+err-same r fault other one two = cc
+
+-- neither says that there was no place for the viewer
+pub placed-unmade : (fault : ProgramFault) (r : Result (Unit {0}) ProgramFault) → (fault ≡ FileTooLong) ⊎ (fault ≡ OutOfMemory) → r ≡ Err fault
+    → r ≡ Err NoPlace → ⊥
+placed-unmade fault r (inl long) same is = cc
+placed-unmade fault r (inr memory) same is = cc
+
+pub placed-unwritten : {A : Type 0} (made : Option A) (r : Result (Unit {0}) ProgramFault) → (made ≡ None) ↔ (r ≡ Err NoCharacters)
+    → IfSome made (λ _. IfErr r (λ fault. fault ≡ WriteFault)) → r ≡ Err NoPlace → ⊥
+placed-unwritten None r none failed is = let same = none.0 refl in cc
+placed-unwritten (Some bytes) (Ok done) none failed is = cc
+placed-unwritten (Some bytes) (Err fault) none failed is = cc

@@ -3,37 +3,56 @@ use Rattle.std.proofs.Common.{◌≡◌, ◌⊎◌, ℕ, inl, inr, List, Option,
 use Rattle.clap.specs.Words.{Text}
 use Rattle.mf_base.specs.Messages.{GetsMessage}
 use Rattle.mf_frame.specs.Canvases.{IsLargeEnough}
-use Rattle.mf_view.specs.Endings.{AsksForText}
-use Rattle.mf_view.specs.Faults.{EndsScript, LacksRoom, ReportsFaultLast}
+use Rattle.mf_view.specs.Faults.{EndsScript, GetsPartOfText, LacksRoom, ReportsFaultLast}
 use Rattle.mf_view.specs.Messages.{message_of}
 use Rattle.mf_view.specs.Performances.{ScreenStreams}
 use Rattle.mf_view.specs.Statuses.{status_of}
 use Rattle.mf_view.specs.declared.fault.ProgramFault.{ProgramFault}
-use Rattle.mf_view.specs.declared.fault.ProgramFault.TheVariants.{OutOfMemory, WriteFault}
+use Rattle.mf_view.specs.declared.fault.ProgramFault.TheVariants.{OutOfMemory, NoPlace, WriteFault}
 use Rattle.mf_view_words.specs.Requests.{IsRequest}
 use Rattle.mf_view_words.specs.declared.words.Request.TheVariants.{Show}
 use Rattle.mf_view_words.specs.declared.words.Words.{Words}
 
 -- memory was missing before anything was drawn or told
-pub wanting : (words : List Text) (status : ℕ) (s : ScreenStreams) → s.holds ≡ s.held → status ≡ status_of OutOfMemory
-    → GetsMessage s.told s.tells (message_of OutOfMemory) → ReportsFaultLast words status s
-wanting words status s drawn is message =
-    record { fault = OutOfMemory; status_is = sym is; between = s.told; ends = inl (refl, (drawn, refl)); message = message }
+pub wanting : (words : List Text) (status : ℕ) (IsUnread : Type 0) (s : ScreenStreams) → s.holds ≡ s.held → status ≡ status_of OutOfMemory
+    → GetsMessage s.told s.tells (message_of OutOfMemory) → ReportsFaultLast words status IsUnread s
+wanting words status IsUnread s drawn is message = record {
+  fault = OutOfMemory;
+  status_is = sym is;
+  between = s.told;
+  ends = inl (refl, (drawn, refl));
+  message = message;
+  unread = λ same. absurd (cc);
+}
 
--- a text that was asked for went out, or its writer failed
-pub answered : (words : List Text) (status : ℕ) (s : ScreenStreams) → AsksForText words → (status ≡ 0) ⊎ (status ≡ 3)
-    → (status ≡ 3) ⊎ ((status ≡ 4) ⊎ (status ≡ 5)) → (status ≡ 3 → GetsMessage s.told s.tells (message_of WriteFault)) → ReportsFaultLast words status s
-answered words status s text (inl done) bad got =
+-- a text that was asked for went out, or was cut
+pub answered : (words : List Text) (status : ℕ) (IsUnread : Type 0) (s : ScreenStreams) → (status ≡ 3 → GetsPartOfText words s)
+    → (status ≡ 0) ⊎ (status ≡ 3) → (status ≡ 3) ⊎ ((status ≡ 4) ⊎ (status ≡ 5)) → (status ≡ 3 → GetsMessage s.told s.tells (message_of WriteFault))
+    → ReportsFaultLast words status IsUnread s
+answered words status IsUnread s text (inl done) bad got =
     absurd (⊎_elim (λ three. omega (arith, done, three)) (⊎_elim (λ four. omega (arith, done, four)) (λ five. omega (arith, done, five))) bad)
-answered words status s text (inr failed) bad got =
-    record { fault = WriteFault; status_is = sym failed; between = s.told; ends = inr (inl (refl, text, refl)); message = got failed }
+answered words status IsUnread s text (inr failed) bad got = record {
+  fault = WriteFault;
+  status_is = sym failed;
+  between = s.told;
+  ends = inr (inl (refl, text failed, refl));
+  message = got failed;
+  unread = λ same. absurd (cc);
+}
 
 module _ (words : List Text) (asked : Words) (request : IsRequest words (Show asked)) where
   -- the script has ended with this fault, after which the stream of messages had some bytes
-  pub reported : (fault : ProgramFault) (status : ℕ) (between : Option (List ℕ)) (s : ScreenStreams) → EndsScript asked (record s { tells = between }) fault
-      → status ≡ status_of fault → GetsMessage between s.tells (message_of fault) → ReportsFaultLast words status s
-  reported fault status between s ends is message =
-      record { fault = fault; status_is = sym is; between = between; ends = inr (inr (asked, request, ends)); message = message }
+  pub reported : (fault : ProgramFault) (status : ℕ) (IsUnread : Type 0) (between : Option (List ℕ)) (s : ScreenStreams)
+      → EndsScript asked (record s { tells = between }) fault → (fault ≡ NoPlace → IsUnread)
+      → status ≡ status_of fault → GetsMessage between s.tells (message_of fault) → ReportsFaultLast words status IsUnread s
+  reported fault status IsUnread between s ends unread is message = record {
+    fault = fault;
+    status_is = sym is;
+    between = between;
+    ends = inr (inr (asked, request, ends));
+    message = message;
+    unread = unread;
+  }
 
   -- all words of a script with the same values have the same size of frames
   pub lacking : LacksRoom words → IsLargeEnough asked.columns asked.rows → ⊥

@@ -1,7 +1,7 @@
 -- Which fault ends a run.
-use Rattle.std.specs.Prelude.{◌≡◌, ◌⊎◌, ℕ, IsSome, List, [], None, Option, Some, option_map, string_bytes}
+use Rattle.std.specs.Prelude.{◌≡◌, ◌⊎◌, ℕ, IsSome, List, [], None, Option, Some, codes, option_map, string_bytes}
 use Rattle.clap.specs.Words.{Text}
-use Rattle.mf_base.specs.Messages.{GetsMessage}
+use Rattle.mf_base.specs.Messages.{GetsMessage, GetsPart}
 use Rattle.mf_easel.specs.declared.fault.EaselFault.{EaselFault}
 use Rattle.mf_frame.specs.Canvases.{IsLargeEnough}
 use Rattle.mf_gf.specs.declared.file.GfFile.{GfFile}
@@ -11,13 +11,14 @@ use Rattle.mf_view.specs.declared.fault.ProgramFault.{ProgramFault}
 use Rattle.mf_view.specs.declared.fault.ProgramFault.TheVariants as faults
 use Rattle.mf_view.specs.Broken.{IsBrokenOff}
 use Rattle.mf_view.specs.Causes.{fault_of_easel}
-use Rattle.mf_view.specs.Endings.{AsksForText, IsShownFor}
+use Rattle.mf_view.specs.Endings.{IsShownFor}
 use Rattle.mf_view.specs.Fonts.{font_words}
 use Rattle.mf_view.specs.Messages.{message_of}
 use Rattle.mf_view.specs.Performances.{ScreenStreams}
 use Rattle.mf_view.specs.Statuses.{status_of}
 use Rattle.mf_view_words.specs.Requests.{IsRequest}
-use Rattle.mf_view_words.specs.declared.words.Request.TheVariants.{Show}
+use Rattle.mf_view_words.specs.Texts.{help_text}
+use Rattle.mf_view_words.specs.declared.words.Request.TheVariants.{Help, Show, Version}
 use Rattle.mf_view_words.specs.declared.words.Words.{Words}
 
 -- the fault is one of a plate
@@ -76,19 +77,26 @@ EndsScript asked s fault =
     × (ComesFromPlate fault → IsSome asked.plates) × (fault ≡ faults.NoPlace → s.holds ≡ s.held))
     ⊎ ((file : GfFile) × IsShownFor asked s file × LosesFont asked file fault))
 
--- with this fault a run with these words ends: memory is missing before anything is drawn or told, a text that is asked for cannot be
--- written, or the script that is asked for ends with it
+-- these words ask for the help text or for the version, of which the screen has got a part, and not all
+abbrev pub GetsPartOfText : List Text → ScreenStreams → Type 0
+GetsPartOfText words s =
+    (IsRequest words Help × GetsPart s.held s.holds help_text)
+    ⊎ (IsRequest words Version × GetsPart s.held s.holds (codes "mfview 1.0\n"))
+
+-- with this fault a run with these words ends: memory is missing before anything is drawn or told, a text that is asked for is cut, or
+-- the script that is asked for ends with it
 abbrev pub EndsRun : List Text → ScreenStreams → ProgramFault → Type 0
 EndsRun words s fault =
     ((fault ≡ faults.OutOfMemory) × IsUntouched s)
-    ⊎ (((fault ≡ faults.WriteFault) × AsksForText words × (s.tells ≡ s.told))
+    ⊎ (((fault ≡ faults.WriteFault) × GetsPartOfText words s × (s.tells ≡ s.told))
     ⊎ ((asked : Words) × IsRequest words (Show asked) × EndsScript asked s fault))
 
 -- with these words the program ended with some fault, which has this status; the stream of messages, whose bytes are those of the
--- transcript here, has got its message last
-pub record ReportsFaultLast (words : List Text) (status : ℕ) (s : ScreenStreams) : Type 0 where
+-- transcript here, has got its message last; where there was no place for the viewer, nothing was read
+pub record ReportsFaultLast (words : List Text) (status : ℕ) (IsUnread : Type 0) (s : ScreenStreams) : Type 0 where
   pub fault : ProgramFault
   pub status_is : status_of fault ≡ status
   pub between : Option (List ℕ)
   pub ends : EndsRun words (record s { tells = between }) fault
   pub message : GetsMessage between s.tells (message_of fault)
+  pub unread : fault ≡ faults.NoPlace → IsUnread

@@ -1,6 +1,7 @@
 //! The viewer's side of a performance: looking and drawing until the script has ended.
-ghost use Rattle.std.specs.Prelude.{◌≡◌, true, OnOk};
-ghost use Rattle.mf_easel.specs.Easels.{HasSameManner, identity};
+ghost use Rattle.std.specs.Prelude.{◌≡◌, true, IfErr, OnOk};
+ghost use Rattle.mf_easel.specs.Easels.{HasSameManner, drawing_of, identity, looked_at_list};
+ghost use Rattle.mf_easel.specs.Screens.{GetsNoMore, screen_of};
 ghost use Rattle.mf_live.specs.Entries.{is_closed};
 ghost use Rattle.mf_live.specs.Viewers.{notice_identity, told_list};
 ghost use Rattle.mf_view.specs.Drawings.{DrawsMore, LeavesLast};
@@ -46,6 +47,7 @@ pub fn draw<W: Write, P: Rest>(
     ensures identity { identity easel.new ≡ identity easel.old }
     ensures manner { HasSameManner easel.old easel.new }
     ensures drawn { OnOk result (DrawsMore easel.old easel.new (W.contents screen.old) (W.contents screen.new)) }
+    ensures cut { IfErr result (GetsNoMore (screen_of W.contents screen.old screen.new) (drawing_of easel.old (looked_at_list easel.new))) }
 {
     match easel.look(alloc, screen) {
         Ok(Some(revision)) => {
@@ -67,6 +69,7 @@ pub fn draw_last<W: Write>(
     requires identity { notice_identity notice ≡ identity easel.old }
     requires closed { is_closed (told_list notice) ≡ true }
     ensures shown { OnOk result (LeavesLast easel.old (told_list notice) (W.contents screen.old) (W.contents screen.new)) }
+    ensures cut { IfErr result (GetsNoMore (screen_of W.contents screen.old screen.new) (drawing_of easel.old (told_list notice))) }
 {
     match easel.look_last(alloc, screen, notice) {
         Ok(_) => Ok(()),

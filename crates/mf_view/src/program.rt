@@ -1,7 +1,7 @@
 //! The program that `main` calls: from its words and streams to its exit status.
 ghost use Rattle.std.specs.Io.KnownBytes.{Appends};
 ghost use Rattle.std.specs.Prelude.{◌≡◌, ◌++◌, ◌⊎◌, ◌↔◌, Err, IfErr, IfOk, IsOk, IsSome, OnOk, codes, decimal, option_map, string_bytes};
-ghost use Rattle.mf_base.specs.Messages.{GetsMessage};
+ghost use Rattle.mf_base.specs.Messages.{GetsMessage, GetsPart};
 ghost use Rattle.mf_view.specs.Drawings.{receipt};
 ghost use Rattle.mf_view.specs.Endings.{AsksForText, Fulfils, IsShownInto, IsWatched, style_in};
 ghost use Rattle.mf_view.specs.Faults.{ComesFromPlate, EndsScript, IsBrokenOffInto, LacksRoom, ReportsFaultLast};
@@ -70,7 +70,7 @@ pub fn program<S: Wait + Threads + Files + Clock + Sync, R: Read, W: Write + Sen
     ensures done { result ≡ DONE → Fulfils (texts_of words)
         (screen_streams (R.remaining reader.old) (receipt W.contents screen.old screen.new) (receipt E.contents errors.old errors.new)) }
     ensures fault { (result ≡ STREAM_FAULT) ⊎ (result ≡ WANTING) ⊎ (result ≡ TOO_SMALL)
-        → ReportsFaultLast (texts_of words) result
+        → ReportsFaultLast (texts_of words) result (reader.new ≡ reader.old)
         (screen_streams (R.remaining reader.old) (receipt W.contents screen.old screen.new) (receipt E.contents errors.old errors.new)) }
     ensures text_alone { AsksForText (texts_of words) → reader.new ≡ reader.old }
     ensures too_small { IsCommandLine (texts_of words) → LacksRoom (texts_of words) → (result ≡ TOO_SMALL)
@@ -106,6 +106,7 @@ fn watch<S: Wait + Threads + Files + Clock + Sync, R: Read, W: Write + Send, E: 
         (screen_streams (R.remaining reader.old) (receipt W.contents screen.old screen.new) (receipt E.contents errors.old errors.new))) }
     ensures too_small { (IsLargeEnough words.columns words.rows → ⊥) ↔ (result ≡ Err ProgramFault.TooSmall) }
     ensures untouched { result ≡ Err ProgramFault.TooSmall → (reader.new ≡ reader.old) × (screen.new ≡ screen.old) }
+    ensures unread { result ≡ Err ProgramFault.NoPlace → reader.new ≡ reader.old }
     ensures fault { IfErr result (EndsScript words
         (screen_streams (R.remaining reader.old) (receipt W.contents screen.old screen.new) (receipt E.contents errors.old errors.new))) }
 {
@@ -180,7 +181,7 @@ fn perform_into<
     ensures done { IfOk result (IsShownInto (option_map string_bytes transcript) (manner showing.style showing.canvas)
         (screen_streams (R.remaining reader.old) (receipt W.contents screen.old screen.new) (receipt E.contents errors.old errors.new))) }
     ensures plates { IfErr result (λ fault. ComesFromPlate fault → IsSome showing.plates) }
-    ensures no_place { result ≡ Err ProgramFault.NoPlace → screen.new ≡ screen.old }
+    ensures no_place { result ≡ Err ProgramFault.NoPlace → (reader.new ≡ reader.old) × (screen.new ≡ screen.old) }
     ensures fault { IfErr result (IsBrokenOffInto (option_map string_bytes transcript)
         (screen_streams (R.remaining reader.old) (receipt W.contents screen.old screen.new) (receipt E.contents errors.old errors.new))) }
 {
@@ -197,6 +198,7 @@ fn perform_into<
 fn answer<W: Write, E: Write>(screen: &mut W, errors: &mut E, text: &str) -> u8
     ensures statuses { (result ≡ DONE) ⊎ (result ≡ STREAM_FAULT) }
     ensures done { result ≡ DONE → (errors.new ≡ errors.old) × Appends (W.contents screen.old) (W.contents screen.new) text.now }
+    ensures part { result ≡ STREAM_FAULT → GetsPart (W.contents screen.old) (W.contents screen.new) text.now }
     ensures fault { result ≡ STREAM_FAULT → GetsMessage (E.contents errors.old) (E.contents errors.new) (message_of ProgramFault.WriteFault) }
 {
     if write_text(screen, text) {

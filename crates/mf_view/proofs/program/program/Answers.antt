@@ -1,19 +1,20 @@
-use Rattle.std.proofs.Common.{inl, inr, refl}
+use Rattle.std.proofs.Common.{Err, ap, inl, inr, refl}
 use Rattle.mf_view.proofs.Reports.{answered, reported, wanting}
 use Rattle.mf_view.proofs.program.program.Goals as goal
 
 pub returns-in-Err-OutOfMemory-clause-fault : goal.returns-in-Err-OutOfMemory-clause-fault
-returns-in-Err-OutOfMemory-clause-fault g c = λ _. wanting _ _ _ refl c.report.ensures.status c.report.ensures.message
+returns-in-Err-OutOfMemory-clause-fault g c = λ _. wanting _ _ _ _ refl c.report.ensures.status c.report.ensures.message
 
 pub returns-in-Err-clause-fault : goal.returns-in-Err-clause-fault
 returns-in-Err-clause-fault g c = λ _.
-    reported _ c.in-Show.words (rw c.in-Show.is at c.in-Ok.ensures.value) c.in-Err.fault _ (g.E.Write.contents c.watch.new.errors) _ c.in-Err.ensures.fault
-    c.report-in-Err.ensures.status c.report-in-Err.ensures.message
+    reported _ c.in-Show.words (rw c.in-Show.is at c.in-Ok.ensures.value) c.in-Err.fault _ _ (g.E.Write.contents c.watch.new.errors) _ c.in-Err.ensures.fault
+    (λ is. c.in-Err.ensures.unread (ap Err is)) c.report-in-Err.ensures.status c.report-in-Err.ensures.message
 
 pub returns-in-Help-clause-fault : goal.returns-in-Help-clause-fault
 returns-in-Help-clause-fault g c = λ bad.
-    answered _ _ _ (inl (rw c.in-Help.is at c.in-Ok.ensures.value)) c.answer.ensures.statuses bad c.answer.ensures.fault
+    answered _ _ _ _ (λ cut. inl (rw c.in-Help.is at c.in-Ok.ensures.value, c.answer.ensures.part cut)) c.answer.ensures.statuses bad c.answer.ensures.fault
 
 pub returns-in-Version-clause-fault : goal.returns-in-Version-clause-fault
 returns-in-Version-clause-fault g c = λ bad.
-    answered _ _ _ (inr (rw c.in-Version.is at c.in-Ok.ensures.value)) c.answer-in-Version.ensures.statuses bad c.answer-in-Version.ensures.fault
+    answered _ _ _ _ (λ cut. inr (rw c.in-Version.is at c.in-Ok.ensures.value, c.answer-in-Version.ensures.part cut))
+    c.answer-in-Version.ensures.statuses bad c.answer-in-Version.ensures.fault

@@ -6,7 +6,7 @@ use Rattle.mf_view.specs.Endings.{IsShownFor}
 use Rattle.mf_view.specs.Faults.{EndsScript}
 use Rattle.mf_view.specs.Performances.{ScreenStreams, screen_streams}
 use Rattle.mf_view.specs.Drawings.{receipt}
-use Rattle.mf_view.proofs.FontsAsked.{no-file, on-ok-from, unmade, unwritten}
+use Rattle.mf_view.proofs.FontsAsked.{err-same, no-file, on-ok-from, placed-unmade, placed-unwritten, unmade, unwritten}
 use Rattle.mf_view.proofs.Shown.{shown-as}
 use Rattle.mf_view.proofs.program.watch.Goals.{In_ok-file}
 use Rattle.mf_view.proofs.program.watch.Goals as goal
@@ -47,7 +47,7 @@ returns-in_err-file-clause-fault g c =
     rw (failed.1, failed.2) (inr (inl (
       c.in_err-file.ensures.fault,
       (λ concerns. c.in_ok-showing.ensures.plates (c.in_err-file.ensures.plates concerns)),
-      (λ is. ap g.W.Write.contents (c.in_err-file.ensures.no_place (ap Err is))),
+      (λ is. ap g.W.Write.contents (c.in_err-file.ensures.no_place (ap Err is)).1),
     )))
 
 pub returns-in_err-bytes-clause-fault : goal.returns-in_err-bytes-clause-fault
@@ -74,3 +74,16 @@ returns-in-None-clause-done g c = record {
     fits = λ characters keeps long. let refused = (c.in_ok-bytes.ensures.too_long characters keeps).0 (rw c.font_words.ensures long) in cc;
   };
 }
+
+pub returns-in_err-file-clause-unread : goal.returns-in_err-file-clause-unread
+returns-in_err-file-clause-unread g c =
+    let failed = err_from_is_err_and c.from_residual-in_err-file.result c.from_residual-in_err-file.ensures.1 in
+    rw (failed.1, failed.2) (λ is. (c.in_err-file.ensures.no_place (ap Err (err-same _ _ _ refl is))).0)
+
+pub returns-in_err-bytes-clause-unread : goal.returns-in_err-bytes-clause-unread
+returns-in_err-bytes-clause-unread g c =
+    let failed = err_from_is_err_and c.from_residual-in_err-bytes.result c.from_residual-in_err-bytes.ensures.1 in
+    rw (failed.1, failed.2) (λ is. absurd (placed-unmade _ _ c.in_err-bytes.ensures.fault refl is))
+
+pub returns-in-Some-clause-unread : goal.returns-in-Some-clause-unread
+returns-in-Some-clause-unread g c = λ is. absurd (placed-unwritten c.in_ok-bytes.bytes _ c.write_font.ensures.none c.write_font.ensures.fault is)
