@@ -7,7 +7,8 @@ use Rattle.std.specs.Io.KnownBytes.{Appends}
 use Rattle.std.specs.Prelude.{IsSome, IsSomeAnd}
 use Rattle.std.specs.Str.Lines.{lines}
 use Rattle.mf_base.specs.Messages.{GetsMessage}
-use Rattle.mf_live.specs.Entries.{Entry, rev}
+use Rattle.mf_image.specs.Boxes.{IsTooLargeForImage}
+use Rattle.mf_live.specs.Entries.{Entry, pic, rev}
 use Rattle.mf_session.proofs.Performing.{Perform-append, Perform-one}
 use Rattle.mf_session.specs.Answers.{Answers}
 use Rattle.mf_session.specs.States.{Limits, State, answer_with}
@@ -78,7 +79,7 @@ module _ (limits : Limits) (s t : State) (done mid more : List (List ℕ)) (text
   tells-after last ReadFault written told = first-after last written told
   tells-after last WriteFault written told = cut-after last written told
   tells-after last (ImageTooLarge revision) written (first, published, large) = (first-after last written first, published, large)
-  tells-after last (PlateFault revision) written (first, published) = (first-after last written first, published)
+  tells-after last (PlateFault revision) written (first, published, fits) = (first-after last written first, published, fits)
 
 -- what is written where a fault comes in a line, whose stage represented the state t
 broken-after : (before now after : Stage) (s : State) (done mid more : List (List ℕ)) (fault : StageFault) (held holds last : Option (List ℕ))
@@ -193,7 +194,7 @@ tells-published d next fault text first all is =
     let published : IsPublishedAs (rev next.pictures.published) next = record { all = all; revision_is = refl } in
     ⊎_elim (⊎_elim (λ memory. subst (λ f. TellsOfScript d next f text) (sym memory) first)
     (λ large. subst (λ f. TellsOfScript d next f text) (sym large.0) (first, published, large.1)))
-    (λ plate. subst (λ f. TellsOfScript d next f text) (sym plate) (first, published)) is
+    (λ plate. subst (λ f. TellsOfScript d next f text) (sym plate.0) (first, published, plate.1)) is
 
 -- a line was performed and its text was written, and then the plate of what it has published fails
 pub line-published : (act : Act) (s next : State) (line text : List ℕ) (fault : StageFault)
@@ -209,6 +210,12 @@ line-published act s next line text fault answer stands out all is some = record
   asked = λ concerns. some;
 }
 
+-- a picture with a plate is not too large for an image
+pub plate-fits : (wanted : Option Plates) (shown : List Entry) (made : Option Plate) → IsPlateWhere wanted shown made → IsSome made
+    → IsTooLargeForImage (pic shown) → ⊥
+plate-fits None shown made none some large = absurd (false≢true (sym (ap is_some none) ∙ some))
+plate-fits (Some plates) shown made (plate, is, it) some large = it.svg.fits large
+
 -- the same of a plate that was made and not written
 pub line-unwritten : (act : Act) (s : State) (line : List ℕ) (fault : StageFault) (made : Option Publication) → HasPerformedLine act s line made
     → IsSomeAnd made (λ publication. (fault ≡ PlateFault publication.revision) × IsSome publication.plate) → AreBrokenOff act s (line ∷ []) fault
@@ -217,5 +224,5 @@ line-unwritten act s line fault (Some publication) done (is, some) =
     let (given, of_list) = done.made_is in
     let all = published-all (limits act.before) s line (answer_with done.text done.next) done.answer given in
     line-published act s done.next line done.text fault done.answer done.stands done.out all
-    (inr (is ∙ ap PlateFault of_list.revision))
+    (inr (is ∙ ap PlateFault of_list.revision, plate-fits (plates_of act.before) done.next.pictures.published publication.plate of_list.plate some))
     (plate-asked (plates_of act.before) done.next.pictures.published publication.plate of_list.plate some)

@@ -35,7 +35,8 @@ pub record IsPublishedAs (revision : ℕ) (s : State) : Type 0 where
 
 -- what a fault says of these lines, the first of which have led to this state, and of what was written: after `WriteFault` the text of
 -- the last line that was performed may be cut, and after each other fault the texts of all of them have been written; after the faults
--- of an image these lines have published its revision, and after `ImageTooLarge` the picture that they have published is too large
+-- of an image these lines have published its revision, and the picture that they have published is too large after `ImageTooLarge`, and
+-- not after `PlateFault`
 abbrev pub TellsOfScript : Due → State → StageFault → List ℕ → Type 0
 TellsOfScript d last OutOfMemory written = IsFirstText d last written
 TellsOfScript d last FileTooLong written = ⊥
@@ -43,7 +44,8 @@ TellsOfScript d last ReadFault written = IsFirstText d last written
 TellsOfScript d last WriteFault written = IsCutText d last written
 TellsOfScript d last (ImageTooLarge revision) written =
     IsFirstText d last written × IsPublishedAs revision last × IsTooLargeForImage (pic last.pictures.published)
-TellsOfScript d last (PlateFault revision) written = IsFirstText d last written × IsPublishedAs revision last
+TellsOfScript d last (PlateFault revision) written =
+    IsFirstText d last written × IsPublishedAs revision last × (IsTooLargeForImage (pic last.pictures.published) → ⊥)
 
 -- the fault is one of a plate
 abbrev pub ConcernsPlate : StageFault → Type 0
@@ -85,4 +87,5 @@ IsOfImage revision ds fault = (fault ≡ OutOfMemory) ⊎ ((fault ≡ ImageTooLa
 
 -- with this fault the plate of what this list shows is not written
 abbrev pub IsOfPlate : List Entry → StageFault → Type 0
-IsOfPlate shown fault = IsOfImage (rev shown) (pic shown) fault ⊎ (fault ≡ PlateFault (rev shown))
+IsOfPlate shown fault =
+    IsOfImage (rev shown) (pic shown) fault ⊎ ((fault ≡ PlateFault (rev shown)) × (IsTooLargeForImage (pic shown) → ⊥))

@@ -19,7 +19,7 @@ IsOfEnd last OutOfMemory = Unit {0}
 IsOfEnd last NoLook = Unit {0}
 IsOfEnd last WriteFault = Unit {0}
 IsOfEnd last (ImageTooLarge revision) = (rev last ≡ revision) × IsTooLargeForImage (pic last)
-IsOfEnd last (PlateFault revision) = rev last ≡ revision
+IsOfEnd last (PlateFault revision) = (rev last ≡ revision) × (IsTooLargeForImage (pic last) → ⊥)
 IsOfEnd last _ = ⊥
 
 -- what a fault says of the lines of a script, the first of which have led to this state, and of what was written of their transcript: what
