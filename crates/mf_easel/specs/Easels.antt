@@ -1,7 +1,7 @@
 -- What easels look at and draw.
 use Rattle.std.specs.Prelude.{◌≡◌, ℕ, List, ◌++◌, Option}
 use Rattle.logbook.specs.Pages.{Book}
-use Rattle.mf_live.specs.Entries.{Entry, pic, rev}
+use Rattle.mf_live.specs.Entries.{Entry, picture_at, revision_at}
 use Rattle.mf_live.specs.Sheets.{HasLearnt, HasLooked, HasLookedAt}
 use Rattle.mf_live.specs.Viewers as viewers
 use Rattle.mf_live.specs.declared.viewer.Viewer.{Viewer}
@@ -53,7 +53,7 @@ drawing_with easel revision ds = over easel.style easel.canvas (revision_of ease
 
 -- the text that draws the picture of a list on an easel
 abbrev pub drawing_of : Easel → List Entry → List ℕ
-drawing_of easel L = drawing_with easel (rev L) (pic L)
+drawing_of easel L = drawing_with easel (revision_at L) (picture_at L)
 
 -- where nothing is drawn, the viewer has not looked, or something failed after it had
 abbrev pub IsNotDrawn : Viewer → Viewer → EaselFault → Type 0

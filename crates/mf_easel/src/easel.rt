@@ -1,7 +1,7 @@
 //! Easels.
 ghost use Rattle.std.specs.Prelude.{◌≤◌};
 ghost use Rattle.core.specs.Option.{unwrap_or};
-ghost use Rattle.mf_live.specs.Entries.{rev};
+ghost use Rattle.mf_live.specs.Entries.{revision_at};
 ghost use Rattle.mf_live.specs.Viewers.{looked_at_list};
 
 use mf_frame::{Canvas, Style};
@@ -20,5 +20,5 @@ pub struct Easel {
     pub(crate) style: Style,
     /// The revision of the frame that was drawn last.
     pub(crate) drawn: Option<u32>,
-    ghost seen: { unwrap_or drawn 0 ≤ rev (looked_at_list viewer) },
+    ghost seen: { unwrap_or drawn 0 ≤ revision_at (looked_at_list viewer) },
 }

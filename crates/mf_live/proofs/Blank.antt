@@ -1,19 +1,19 @@
 -- Where nothing has happened, nothing is accepted, and the picture is blank.
 use Rattle.std.proofs.Common.{◌≡◌, List, [], refl, ap, ◌∙◌}
 use Rattle.mf_ops.specs.Operations.{after_all, picture_after, revision_after}
-use Rattle.mf_live.specs.Entries.{Entry, pic, rev}
+use Rattle.mf_live.specs.Entries.{Entry, picture_at, revision_at}
 
-pub pic-none : pic [] ≡ []
+pub picture_at-none : picture_at [] ≡ []
 unfolding picture_after after_all
-pic-none = refl
+picture_at-none = refl
 
-pub rev-none : rev [] ≡ 0
+pub revision_at-none : revision_at [] ≡ 0
 unfolding revision_after
-rev-none = refl
+revision_at-none = refl
 
 -- the picture and the revision of an empty list
-pub pic-blank : (L : List Entry) → L ≡ [] → pic L ≡ []
-pic-blank L none = ap pic none ∙ pic-none
+pub picture_at-blank : (L : List Entry) → L ≡ [] → picture_at L ≡ []
+picture_at-blank L none = ap picture_at none ∙ picture_at-none
 
-pub rev-blank : (L : List Entry) → L ≡ [] → rev L ≡ 0
-rev-blank L none = ap rev none ∙ rev-none
+pub revision_at-blank : (L : List Entry) → L ≡ [] → revision_at L ≡ 0
+revision_at-blank L none = ap revision_at none ∙ revision_at-none

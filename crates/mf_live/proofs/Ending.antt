@@ -3,22 +3,22 @@ use Rattle.std.proofs.Common.{◌≡◌, ◌∙◌, ◌+◌, ◌≤◌, true, fa
 use Rattle.std.proofs.lemmas.Bool.{or_from, or_right}
 use Rattle.mf_ops.specs.declared.op.Op.{Op}
 use Rattle.mf_live.specs.declared.holder.Holder.{Holder}
-use Rattle.mf_live.specs.Entries.{entry, Operation, End, rev, is_closed}
+use Rattle.mf_live.specs.Entries.{entry, Operation, End, revision_at, is_closed}
 use Rattle.mf_live.specs.Holders.{accepted_list, published_list, version}
-use Rattle.mf_live.proofs.EntryLists.{rev-push, rev-whole, is_closed-append}
+use Rattle.mf_live.proofs.EntryLists.{revision_at-push, revision_at-whole, is_closed-append}
 use Rattle.mf_live.proofs.Histories.{lawful}
 
 -- no more is published than is accepted
 pub published_list-few : (h : Holder) → (version h).notice.number ≤ h.revision
 published_list-few h =
-    let whole : rev (published_list h) ≤ rev (accepted_list h) = rev-whole (published_list h) (accepted_list h) (lawful h).whole in
+    let whole : revision_at (published_list h) ≤ revision_at (accepted_list h) = revision_at-whole (published_list h) (accepted_list h) (lawful h).whole in
     rw ((version h).notice.numbered, h.shown_is, h.numbered) whole
 
 module _ (old new : Holder) (n : ℕ) where
   -- one more operation has the next number, and does not close the list
   module _ (op : Op) (more : accepted_list new ≡ accepted_list old ++ entry n (Operation op) ∷ []) where
     pub revision-push : new.revision ≡ old.revision + 1
-    revision-push = new.numbered ∙ ap rev more ∙ rev-push (accepted_list old) n op ∙ ap (λ m. m + 1) (sym old.numbered)
+    revision-push = new.numbered ∙ ap revision_at more ∙ revision_at-push (accepted_list old) n op ∙ ap (λ m. m + 1) (sym old.numbered)
 
     pub open-push : is_closed (accepted_list old) ≡ false → is_closed (accepted_list new) ≡ false
     open-push is_open =

@@ -6,7 +6,8 @@ use Rattle.mf_ops.specs.Operations.{picture_after, revision_after}
 use Rattle.mf_ops.specs.Step.{next_picture, op_fault}
 use Rattle.mf_ops.specs.declared.op.Op.{Op}
 use Rattle.mf_ops.proofs.Operations.{picture_after-push, AreAccepted-push}
-use Rattle.mf_live.specs.Entries.{Change, Operation, End, Entry, entry, operation_of, operations, pic, rev, IsUnrefused, is_end, is_closed, ends_last}
+use Rattle.mf_live.specs.Entries.{Change, Operation, End, Entry, entry, operation_of, operations, picture_at, revision_at}
+use Rattle.mf_live.specs.Entries.{IsUnrefused, is_end, is_closed, ends_last}
 use Rattle.mf_live.specs.Prefixes.{IsWholePrefix}
 
 pub operations-append : (xs ys : List Entry) → operations (xs ++ ys) ≡ operations xs ++ operations ys
@@ -16,29 +17,29 @@ operations-append (e ∷ xs) ys = rw (operations-append xs ys) (sym (append_asso
 operations-end : (L : List Entry) (n : ℕ) → operations (L ++ entry n End ∷ []) ≡ operations L
 operations-end L n = operations-append L (entry n End ∷ []) ∙ append-nil (operations L)
 
-pub pic-push : (L : List Entry) (n : ℕ) (op : Op) → pic (L ++ entry n (Operation op) ∷ []) ≡ next_picture (pic L) op
-pic-push L n op = ap picture_after (operations-append L (entry n (Operation op) ∷ [])) ∙ picture_after-push (operations L) op
+pub picture_at-push : (L : List Entry) (n : ℕ) (op : Op) → picture_at (L ++ entry n (Operation op) ∷ []) ≡ next_picture (picture_at L) op
+picture_at-push L n op = ap picture_after (operations-append L (entry n (Operation op) ∷ [])) ∙ picture_after-push (operations L) op
 
-pub rev-append : (xs ys : List Entry) → rev (xs ++ ys) ≡ rev xs + rev ys
+pub revision_at-append : (xs ys : List Entry) → revision_at (xs ++ ys) ≡ revision_at xs + revision_at ys
 unfolding revision_after
-rev-append xs ys = ap length (operations-append xs ys) ∙ length-append (operations xs) (operations ys)
+revision_at-append xs ys = ap length (operations-append xs ys) ∙ length-append (operations xs) (operations ys)
 
-pub rev-push : (L : List Entry) (n : ℕ) (op : Op) → rev (L ++ entry n (Operation op) ∷ []) ≡ rev L + 1
+pub revision_at-push : (L : List Entry) (n : ℕ) (op : Op) → revision_at (L ++ entry n (Operation op) ∷ []) ≡ revision_at L + 1
 unfolding revision_after
-rev-push L n op = rev-append L (entry n (Operation op) ∷ [])
+revision_at-push L n op = revision_at-append L (entry n (Operation op) ∷ [])
 
-pub pic-end : (L : List Entry) (n : ℕ) → pic (L ++ entry n End ∷ []) ≡ pic L
-pic-end L n = ap picture_after (operations-end L n)
+pub picture_at-end : (L : List Entry) (n : ℕ) → picture_at (L ++ entry n End ∷ []) ≡ picture_at L
+picture_at-end L n = ap picture_after (operations-end L n)
 
-pub rev-end : (L : List Entry) (n : ℕ) → rev (L ++ entry n End ∷ []) ≡ rev L
-rev-end L n = ap revision_after (operations-end L n)
+pub revision_at-end : (L : List Entry) (n : ℕ) → revision_at (L ++ entry n End ∷ []) ≡ revision_at L
+revision_at-end L n = ap revision_after (operations-end L n)
 
-pub rev-whole : (S L : List Entry) → IsWholePrefix S L → rev S ≤ rev L
-rev-whole S L whole =
-    let sum : rev L ≡ rev S + rev whole.rest = ap rev whole.whole ∙ rev-append S whole.rest in
+pub revision_at-whole : (S L : List Entry) → IsWholePrefix S L → revision_at S ≤ revision_at L
+revision_at-whole S L whole =
+    let sum : revision_at L ≡ revision_at S + revision_at whole.rest = ap revision_at whole.whole ∙ revision_at-append S whole.rest in
     omega arith
 
-pub unrefused-push : (L : List Entry) (n : ℕ) (op : Op) → IsUnrefused L → op_fault (pic L) op ≡ None → IsUnrefused (L ++ entry n (Operation op) ∷ [])
+pub unrefused-push : (L : List Entry) (n : ℕ) (op : Op) → IsUnrefused L → op_fault (picture_at L) op ≡ None → IsUnrefused (L ++ entry n (Operation op) ∷ [])
 unrefused-push L n op unrefused allowed = rw (operations-append L (entry n (Operation op) ∷ [])) (AreAccepted-push (operations L) op unrefused allowed)
 
 pub unrefused-end : (L : List Entry) (n : ℕ) → IsUnrefused L → IsUnrefused (L ++ entry n End ∷ [])
@@ -82,14 +83,14 @@ nothing_follows [] rest ends closed = cc
 nothing_follows (e ∷ S) rest ends closed =
     nothing_follows-step e.label e.change S rest ends closed (nothing_follows S rest)
 
-length-rev-step : (n : ℕ) (c : Change) (L : List Entry) → ends_last (entry n c ∷ L) ≡ true
-    → (ends_last L ≡ true → length L ≤ rev L + 1) → length (entry n c ∷ L) ≤ rev (entry n c ∷ L) + 1
+length-revision_at-step : (n : ℕ) (c : Change) (L : List Entry) → ends_last (entry n c ∷ L) ≡ true
+    → (ends_last L ≡ true → length L ≤ revision_at L + 1) → length (entry n c ∷ L) ≤ revision_at (entry n c ∷ L) + 1
 unfolding revision_after
-length-rev-step n (Operation op) L ends rest = let few : length L ≤ rev L + 1 = rest ends in omega arith
-length-rev-step n End [] ends rest = omega arith
-length-rev-step n End (e ∷ L) ends rest = cc
+length-revision_at-step n (Operation op) L ends rest = let few : length L ≤ revision_at L + 1 = rest ends in omega arith
+length-revision_at-step n End [] ends rest = omega arith
+length-revision_at-step n End (e ∷ L) ends rest = cc
 
 -- all entries but the end mark are operations
-pub length-rev : (L : List Entry) → ends_last L ≡ true → length L ≤ rev L + 1
-length-rev [] ends = omega arith
-length-rev (e ∷ L) ends = length-rev-step e.label e.change L ends (length-rev L)
+pub length-revision_at : (L : List Entry) → ends_last L ≡ true → length L ≤ revision_at L + 1
+length-revision_at [] ends = omega arith
+length-revision_at (e ∷ L) ends = length-revision_at-step e.label e.change L ends (length-revision_at L)

@@ -10,7 +10,7 @@ use Rattle.mf_live.specs.Entries.{Entry}
 use Rattle.mf_live.specs.Holders.{events, accepted_list, published_list, version}
 use Rattle.mf_live.specs.Rule.{events_of, history, version_list, with_event}
 use Rattle.mf_live.specs.World.{World, IsLawful, Happen, May, new_world, after_event, world_after, accepted_of, published_of}
-use Rattle.mf_live.proofs.EntryLists.{length-rev}
+use Rattle.mf_live.proofs.EntryLists.{length-revision_at}
 use Rattle.mf_live.proofs.Worlds.{world_after-push, Happen-push, lawful-after}
 
 pub lawful : (h : Holder) → IsLawful most_accepted (world_after new_world (events h))
@@ -18,7 +18,7 @@ lawful h = lawful-after most_accepted (events h) h.lawful
 
 -- at most `most_accepted` operations and the end mark were accepted
 pub few_entries : (h : Holder) → length (accepted_list h) ≤ most_accepted + 1
-few_entries h = omega (arith, length-rev (accepted_list h) (lawful h).ended, (lawful h).few)
+few_entries h = omega (arith, length-revision_at (accepted_list h) (lawful h).ended, (lawful h).few)
 
 -- the shown version knows of at most two events for each entry
 pub few_events : (h : Holder) → length (events_of (version h)) ≤ 2 * (most_accepted + 1)

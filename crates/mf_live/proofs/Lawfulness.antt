@@ -9,11 +9,11 @@ use Rattle.std.proofs.lemmas.List.{append_assoc, append-nil, length-append}
 use Rattle.std.proofs.lemmas.List.Elements.{All-nil, All-head, All-tail, All-push, All-weaker}
 use Rattle.mf_live.specs.declared.event.Event.{Event}
 use Rattle.mf_live.specs.declared.event.Event.TheVariants.{Accept, Refuse, Close, Publish, Discard, Look, Tell, Learn}
-use Rattle.mf_live.specs.Entries.{Change, Operation, End, Entry, entry, rev, next, next_after, is_closed, IsUnrefused}
+use Rattle.mf_live.specs.Entries.{Change, Operation, End, Entry, entry, revision_at, next, next_after, is_closed, IsUnrefused}
 use Rattle.mf_live.specs.Prefixes.{IsWholePrefix, IsCutAmong, labels, longer}
 use Rattle.mf_live.specs.World.{World, new_world, May, after_event, notice_at, put, IsPending, IsLawful, ShowsMore}
-use Rattle.mf_live.proofs.Blank.{rev-none}
-use Rattle.mf_live.proofs.EntryLists.{rev-push, rev-end, unrefused-push, unrefused-end, ends_last-push}
+use Rattle.mf_live.proofs.Blank.{revision_at-none}
+use Rattle.mf_live.proofs.EntryLists.{revision_at-push, revision_at-end, unrefused-push, unrefused-end, ends_last-push}
 use Rattle.mf_live.proofs.WholePrefixes.{labels-append, length-labels, whole-self, whole-nil, whole-trans, whole-longer}
 
 -- the next label is one more than the last
@@ -74,7 +74,7 @@ put-whole seen i L P each more j = cond_both (j == i) L (seen j) (λ S. IsWholeP
 pub lawful_start : (max_ops : ℕ) → IsLawful max_ops new_world
 lawful_start max_ops = record {
   unrefused = record { steps = tt };
-  few = rw rev-none zero-le;
+  few = rw revision_at-none zero-le;
   whole = whole-nil [];
   pending = none_pending [];
   each_seen = λ i. whole-nil [];
@@ -87,7 +87,7 @@ with_change w c = w.accepted ++ entry (next w.published) c ∷ []
 
 -- the writer accepts one more change
 accepts : (max_ops : ℕ) (w : World) (c : Change) → IsLawful max_ops w → IsUnrefused (with_change w c)
-    → rev (with_change w c) ≤ max_ops → is_closed w.accepted ≡ false → IsLawful max_ops (record w { accepted = with_change w c })
+    → revision_at (with_change w c) ≤ max_ops → is_closed w.accepted ≡ false → IsLawful max_ops (record w { accepted = with_change w c })
 accepts max_ops w c lawful unrefused few not_closed = record {
   unrefused = unrefused;
   few = few;
@@ -134,11 +134,11 @@ sees max_ops w i L lawful more =
 pub lawful_event : (max_ops : ℕ) (w : World) (e : Event) → IsLawful max_ops w → May max_ops w e → IsLawful max_ops (after_event w e)
 lawful_event max_ops w (Accept op) lawful may =
     let unrefused = unrefused-push w.accepted (next w.published) op lawful.unrefused may.3 in
-    accepts max_ops w (Operation op) lawful unrefused (omega (arith, rev-push w.accepted (next w.published) op)) may.1
+    accepts max_ops w (Operation op) lawful unrefused (omega (arith, revision_at-push w.accepted (next w.published) op)) may.1
 lawful_event max_ops w Refuse lawful may = lawful
 lawful_event max_ops w Close lawful may =
     let unrefused = unrefused-end w.accepted (next w.published) lawful.unrefused in
-    accepts max_ops w End lawful unrefused (omega (arith, lawful.few, rev-end w.accepted (next w.published))) may.1
+    accepts max_ops w End lawful unrefused (omega (arith, lawful.few, revision_at-end w.accepted (next w.published))) may.1
 lawful_event max_ops w Publish lawful may = publishes_all max_ops w w.dropped lawful
 lawful_event max_ops w (Discard true) lawful may = publishes_all max_ops w true lawful
 lawful_event max_ops w (Discard false) lawful may = leaves_list max_ops w w.seen w.notices true lawful lawful.each_seen lawful.each_notice

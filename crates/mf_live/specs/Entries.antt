@@ -29,12 +29,12 @@ operations [] = []
 operations (e ∷ es) = operation_of e.change ++ operations es
 
 -- the picture of a list, by its operations alone
-abbrev pub pic : List Entry → List Dot
-pic L = picture_after (operations L)
+abbrev pub picture_at : List Entry → List Dot
+picture_at L = picture_after (operations L)
 
 -- its revision: how many operations it has
-abbrev pub rev : List Entry → ℕ
-rev L = revision_after (operations L)
+abbrev pub revision_at : List Entry → ℕ
+revision_at L = revision_after (operations L)
 
 -- no operation of a list is refused on the picture of those before it
 abbrev pub IsUnrefused : List Entry → Type 0

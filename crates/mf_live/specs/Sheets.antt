@@ -5,7 +5,7 @@ use Rattle.mf_live.specs.declared.sheet.Sheet.{Sheet}
 use Rattle.mf_live.specs.declared.sheet.SheetFault.{SheetFault}
 use Rattle.mf_live.specs.declared.sheet.SheetFault.TheVariants.{NoLook, OutOfMemory}
 use Rattle.mf_live.specs.declared.viewer.Viewer.{Viewer}
-use Rattle.mf_live.specs.Entries.{Entry, ends_last, pic, rev}
+use Rattle.mf_live.specs.Entries.{Entry, ends_last, picture_at, revision_at}
 use Rattle.mf_live.specs.Prefixes.{IsWholePrefix, longer}
 use Rattle.mf_live.specs.Viewers.{Extends, IsPublished, SeesTheSame, learnt_list, looked_at_list, looked_at_events, seen_list}
 
@@ -28,8 +28,8 @@ pub record HasLooked (before after : Viewer) : Type 0 where
 -- a sheet has what its look showed
 pub record IsTaken (before after : Viewer) (sheet : Sheet) : Type 0 where
   pub look : HasLooked before after
-  pub picture : sheet_picture sheet ≡ pic (looked_at_list after)
-  pub revision : sheet_revision sheet ≡ rev (looked_at_list after)
+  pub picture : sheet_picture sheet ≡ picture_at (looked_at_list after)
+  pub revision : sheet_revision sheet ≡ revision_at (looked_at_list after)
 
 -- where there is no sheet, the viewer has not looked, or an allocation failed after it had
 abbrev pub IsNotTaken : Viewer → Viewer → SheetFault → Type 0

@@ -3,7 +3,7 @@ use Rattle.std.specs.Prelude.{◌≡◌, ◌<◌, ◌≤◌, ◌++◌, ◌==◌,
 use Rattle.mf_ops.specs.Step.{op_fault}
 use Rattle.mf_live.specs.declared.event.Event.{Event}
 use Rattle.mf_live.specs.declared.event.Event.TheVariants.{Accept, Refuse, Close, Publish, Discard, Look, Tell, Learn}
-use Rattle.mf_live.specs.Entries.{Operation, End, Entry, entry, pic, rev, next, is_closed, ends_last, IsUnrefused}
+use Rattle.mf_live.specs.Entries.{Operation, End, Entry, entry, picture_at, revision_at, next, is_closed, ends_last, IsUnrefused}
 use Rattle.mf_live.specs.Prefixes.{IsWholePrefix, longer}
 
 -- what the writer has accepted, what of that is published, what viewers have seen, and what notices say
@@ -32,7 +32,8 @@ put seen i L j = if j == i then L else seen j
 
 -- when an event may happen, where at most max_ops operations may be accepted
 abbrev pub May : ℕ → World → Event → Type 0
-May max_ops w (Accept op) = (w.dropped ≡ false) × (is_closed w.accepted ≡ false) × (rev w.accepted < max_ops) × (op_fault (pic w.accepted) op ≡ None)
+May max_ops w (Accept op) =
+  (w.dropped ≡ false) × (is_closed w.accepted ≡ false) × (revision_at w.accepted < max_ops) × (op_fault (picture_at w.accepted) op ≡ None)
 May max_ops w Refuse = Unit {0}
 May max_ops w Close = (w.dropped ≡ false) × (is_closed w.accepted ≡ false)
 May max_ops w Publish = w.dropped ≡ false
@@ -73,7 +74,7 @@ pub record IsPending (published accepted : List Entry) : Type 0 where
 -- published; and nothing follows the end mark
 pub record IsLawful (max_ops : ℕ) (w : World) : Type 0 where
   pub unrefused : IsUnrefused w.accepted
-  pub few : rev w.accepted ≤ max_ops
+  pub few : revision_at w.accepted ≤ max_ops
   pub whole : IsWholePrefix w.published w.accepted
   pub pending : IsPending w.published w.accepted
   pub each_seen : (i : ℕ) → IsWholePrefix (w.seen i) w.published

@@ -2,7 +2,7 @@
 ghost use Rattle.std.specs.Prelude.{◌≡◌, ◌+◌, ◌*◌, ◌≤◌, false, length};
 ghost use Rattle.left_right.specs.Sides.{view};
 ghost use Rattle.mf_live.specs.Books.{most_accepted, counter_of};
-ghost use Rattle.mf_live.specs.Entries.{pic, rev};
+ghost use Rattle.mf_live.specs.Entries.{picture_at, revision_at};
 ghost use Rattle.mf_live.specs.Happening.{Happen-prop};
 ghost use Rattle.mf_live.specs.Rule.{book_of, events_of, version_list, history};
 ghost use Rattle.mf_live.specs.World.{Happen, new_world, world_after, accepted_of, published_of};
@@ -32,8 +32,8 @@ pub struct Holder {
     ghost lawful: { Happen most_accepted new_world (history swap.desk.shown.value (view swap.desk.place)) } by { Happen-prop most_accepted new_world _ },
     ghost alive: { (world_after new_world (history swap.desk.shown.value (view swap.desk.place))).dropped ≡ false },
     ghost counted: { unwritten ≡ length (view swap.desk.place).unwritten },
-    ghost pictured: { working ≡ pic (accepted_of (history swap.desk.shown.value (view swap.desk.place))) },
-    ghost numbered: { revision ≡ rev (accepted_of (history swap.desk.shown.value (view swap.desk.place))) },
+    ghost pictured: { working ≡ picture_at (accepted_of (history swap.desk.shown.value (view swap.desk.place))) },
+    ghost numbered: { revision ≡ revision_at (accepted_of (history swap.desk.shown.value (view swap.desk.place))) },
     // There are at most two events for each published entry, so their number stays far below 2^64.
     ghost since: { unwritten + length (version_list swap.desk.shown.value) ≡ length (accepted_of (history swap.desk.shown.value (view swap.desk.place))) },
     ghost short: { length (events_of swap.desk.shown.value) ≤ 2 * length (version_list swap.desk.shown.value) },

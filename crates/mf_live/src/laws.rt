@@ -4,7 +4,7 @@ ghost use mathlib.Core.List.{IsPrefix};
 ghost use Rattle.std.specs.Prelude.{◌≡◌, ◌⊎◌, ◌≤◌, true, false, List, ◌++◌, IfErr, IfOk, MatchResult, OnOk};
 ghost use Rattle.mf_live.specs.declared.event.Event.{Event};
 ghost use Rattle.mf_live.specs.Books.{most_accepted};
-ghost use Rattle.mf_live.specs.Entries.{Entry, rev, is_closed, pic, IsUnrefused};
+ghost use Rattle.mf_live.specs.Entries.{Entry, revision_at, is_closed, picture_at, IsUnrefused};
 ghost use Rattle.mf_live.specs.Prefixes.{IsWholePrefix, HasWholePublishes};
 ghost use Rattle.mf_live.specs.Sheets.{HasLearnt, HasLookedAt, IsLastNotTaken, sheet_picture, sheet_revision};
 ghost use Rattle.mf_live.specs.Viewers as viewers;
@@ -34,7 +34,7 @@ pub fn looks_never_go_back(max_ops: u32)
     ensures prefix { (before between : List Event) → Happen max_ops new_world (before ++ between)
         → IsWholePrefix (published_of before) (published_of (before ++ between)) }
     ensures revision { (before between : List Event) → Happen max_ops new_world (before ++ between)
-        → rev (published_of before) ≤ rev (published_of (before ++ between)) }
+        → revision_at (published_of before) ≤ revision_at (published_of (before ++ between)) }
 {}
 
 /// A whole prefix of what is published has, of each publish, nothing or all of it. So has what was published earlier, and in a list
@@ -50,7 +50,7 @@ pub fn looks_show_whole_publishes(max_ops: u32)
 /// publish. And the end mark is not set, since setting it makes something else of the writer.
 pub fn writer_is_lawful(writer: &Writer)
     ensures unrefused { IsUnrefused (writers.accepted_list writer.now) }
-    ensures few { rev (writers.accepted_list writer.now) ≤ writers.max_ops writer.now }
+    ensures few { revision_at (writers.accepted_list writer.now) ≤ writers.max_ops writer.now }
     ensures whole { IsWholePrefix (writers.published_list writer.now) (writers.accepted_list writer.now) }
     ensures pending { IsPending (writers.published_list writer.now) (writers.accepted_list writer.now) }
     ensures running { is_closed (writers.accepted_list writer.now) ≡ false }
@@ -118,8 +118,8 @@ pub fn last_sheet(viewer: &mut Viewer, alloc: Global, notice: Notice) -> Result<
     requires identity { viewers.notice_identity notice ≡ viewers.identity viewer.old }
     requires closed { is_closed (viewers.told_list notice) ≡ true }
     ensures identity { viewers.identity viewer.new ≡ viewers.identity viewer.old }
-    ensures picture { IfOk result (λ sheet. sheet_picture sheet ≡ pic (viewers.told_list notice)) }
-    ensures revision { IfOk result (λ sheet. sheet_revision sheet ≡ rev (viewers.told_list notice)) }
+    ensures picture { IfOk result (λ sheet. sheet_picture sheet ≡ picture_at (viewers.told_list notice)) }
+    ensures revision { IfOk result (λ sheet. sheet_revision sheet ≡ revision_at (viewers.told_list notice)) }
     ensures extends { OnOk result (viewers.Extends viewer.old (viewers.told_list notice)) }
     ensures looked { OnOk result (HasLookedAt (viewers.told_list notice) viewer.new) }
     ensures not_taken { IfErr result (IsLastNotTaken viewer.old (viewers.told_list notice) viewer.new) }

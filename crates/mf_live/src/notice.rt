@@ -1,6 +1,6 @@
 //! Notices, from which viewers learn of a publish.
 ghost use Rattle.std.specs.Prelude.{◌≡◌};
-ghost use Rattle.mf_live.specs.Entries.{rev};
+ghost use Rattle.mf_live.specs.Entries.{revision_at};
 ghost use Rattle.mf_live.specs.World.{accepted_of, published_of};
 
 use crate::history::Prefix;
@@ -14,5 +14,5 @@ pub struct Notice {
     pub(crate) number: u32,
     // The type keeps this, since `tell` and `learn` of `left_right` cannot carry it.
     ghost whole: { accepted_of prefix.knowledge.seen.log ≡ published_of prefix.knowledge.seen.log },
-    ghost numbered: { number ≡ rev (published_of prefix.knowledge.seen.log) },
+    ghost numbered: { number ≡ revision_at (published_of prefix.knowledge.seen.log) },
 }

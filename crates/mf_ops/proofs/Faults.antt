@@ -23,7 +23,7 @@ use Rattle.mf_rows.proofs.WeightsLemmas.{IsDotOf, weight_at-picture_of, lawful_p
 use Rattle.mf_ops.specs.Faults.{sum_fault}
 use Rattle.mf_ops.specs.Sides.{FillsWith}
 use Rattle.mf_ops.specs.Step.{is_too_large, step_at, next_picture, leaves, MayLeave, StaysInField}
-use Rattle.mf_ops.specs.Step.{TurnsLawfully, weight_fault, pixel_fault, turn_fault, op_fault}
+use Rattle.mf_ops.specs.Step.{TurnsLawfully, weight_fault, pixel_fault, cycle_fault, op_fault}
 use Rattle.mf_ops.specs.declared.op.Op.{Op}
 use Rattle.mf_ops.specs.declared.op.Op.TheVariants as ops
 use Rattle.mf_ops.specs.declared.op.Op.TheVariants.{Contour}
@@ -68,7 +68,7 @@ next_picture-from_weights ds op new picture has = picture_of-from_weights new (s
 -- ---- how the cycle turns
 
 -- a fault in how a cycle turns comes before all others
-pub op_fault-turn : (ds : List Dot) (op : Op) (fault : OpFault) → turn_fault op ≡ Some fault → op_fault ds op ≡ Some fault
+pub op_fault-turn : (ds : List Dot) (op : Op) (fault : OpFault) → cycle_fault op ≡ Some fault → op_fault ds op ≡ Some fault
 unfolding op_fault
 op_fault-turn ds op fault found = ap (λ (turn : Option OpFault). option_or turn (pixel_fault ds op)) found
 
@@ -79,7 +79,7 @@ op_fault-pixels ds op turns = ap (λ (turn : Option OpFault). option_or turn (pi
 
 -- a cycle passes its turning check or has a fault
 TurnsOrFails : Op → Type 0
-TurnsOrFails op = TurnsLawfully op ⊎ ((f : CycleFault) × (turn_fault op ≡ Some (Cycle f)))
+TurnsOrFails op = TurnsLawfully op ⊎ ((f : CycleFault) × (cycle_fault op ≡ Some (Cycle f)))
 
 cycle_turns_or_fails : (ps : List Point) (w : ℤ) (found : Option CycleFault) → turning_fault ps ≡ found → TurnsOrFails (Contour ps w On)
 unfolding TurnsOrFails
@@ -124,7 +124,7 @@ pub turning_fault-refused : (ds : List Dot) (ps : List Point) (w : ℤ) (fault :
 turning_fault-refused ds ps w fault refused = refused_from ds ps w fault (turning_fault ps) refl refused
 
 -- a contour that passes its check is filled with the weight that the check gives it
-pub FillsWith-checked : (ps : List Point) (w : ℤ) (check : Check) → turn_fault (Contour ps w check) ≡ None
+pub FillsWith-checked : (ps : List Point) (w : ℤ) (check : Check) → cycle_fault (Contour ps w check) ≡ None
     → FillsWith (Contour ps w check) ps (filling_weight check ps w)
 unfolding next_picture contour
 FillsWith-checked ps w check turns =
@@ -183,7 +183,7 @@ stays_everywhere : (ds : List Dot) (op : Op) → TurnsLawfully op → list_any (
 stays_everywhere ds op turns none = record { turns = turns; stays = record { none_leaves = none } }
 
 -- so where they do not turn, only the weights decide
-pub stays_anyway : (ds : List Dot) (op : Op) → turn_fault op ≡ None → (leaves op ≡ (λ d. false)) → IsForWeights ds op
+pub stays_anyway : (ds : List Dot) (op : Op) → cycle_fault op ≡ None → (leaves op ≡ (λ d. false)) → IsForWeights ds op
 stays_anyway ds op none leaves_none = stays_everywhere ds op (record { none = none }) (ap (λ test. list_any test ds) leaves_none ∙ never ds)
 
 -- so they are not refused with OutOfField

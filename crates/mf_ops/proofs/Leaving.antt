@@ -16,7 +16,7 @@ use Rattle.mf_rows.specs.Dots.{Dot, IsPicture, start_of_field}
 use Rattle.mf_edges.specs.Axes.{PlaceStaysInside, target_of}
 use Rattle.mf_rows.specs.Moves.{PixelsStayInside}
 use Rattle.mf_edges.proofs.Sources.{mul-le}
-use Rattle.mf_ops.specs.Moves.{Factors, IsInAxis, scale_by, shift_by, stays_inside}
+use Rattle.mf_ops.specs.Moves.{Factors, IsColumnOrRow, scale_by, shift_by, stays_inside}
 use Rattle.mf_ops.proofs.Faults.{IsForWeights}
 use Rattle.mf_ops.specs.declared.op.Op.TheVariants.{Shift, Scale}
 
@@ -121,21 +121,21 @@ sides_from_StayInside columns rows ds b box inside =
 
 -- the sides of the least box of a picture are columns and rows of the field
 pub record AreSidesInField (b : Box4) : Type 0 where
-  pub left : IsInAxis b.min_x
-  pub right : IsInAxis b.max_x
-  pub bottom : IsInAxis b.min_y
-  pub top : IsInAxis b.max_y
+  pub left : IsColumnOrRow b.min_x
+  pub right : IsColumnOrRow b.max_x
+  pub bottom : IsColumnOrRow b.min_y
+  pub top : IsColumnOrRow b.max_y
 
 sides_in_field : (ds : List Dot) (b : Box4) → IsPicture ds → IsLeastBox ds b → AreSidesInField b
 sides_in_field ds b picture box =
     let dots = dots_from-lawful start_of_field ds picture.dots in
-    let columns : All (λ d. IsInAxis d.x) ds = λ k d lt. let dot = dots k d lt in record { least = dot.in_field.left; greatest = dot.in_field.right } in
-    let rows : All (λ d. IsInAxis d.y) ds = λ k d lt. let dot = dots k d lt in record { least = dot.in_field.bottom; greatest = dot.in_field.top } in
+    let columns : All (λ d. IsColumnOrRow d.x) ds = λ k d lt. let dot = dots k d lt in record { least = dot.in_field.left; greatest = dot.in_field.right } in
+    let rows : All (λ d. IsColumnOrRow d.y) ds = λ k d lt. let dot = dots k d lt in record { least = dot.in_field.bottom; greatest = dot.in_field.top } in
     record {
-      left = at_side IsInAxis (λ d. d.x) ds b.min_x columns box.left;
-      right = at_side IsInAxis (λ d. d.x) ds b.max_x columns box.right;
-      bottom = at_side IsInAxis (λ d. d.y) ds b.min_y rows box.bottom;
-      top = at_side IsInAxis (λ d. d.y) ds b.max_y rows box.top;
+      left = at_side IsColumnOrRow (λ d. d.x) ds b.min_x columns box.left;
+      right = at_side IsColumnOrRow (λ d. d.x) ds b.max_x columns box.right;
+      bottom = at_side IsColumnOrRow (λ d. d.y) ds b.min_y rows box.bottom;
+      top = at_side IsColumnOrRow (λ d. d.y) ds b.max_y rows box.top;
     }
 
 -- so the 32-bit integers of the code represent them exactly
@@ -147,7 +147,7 @@ read_back b = record {
   max_y = to_z w32 (of_z w32 b.max_y);
 }
 
-read_back-place : (p : ℤ) → IsInAxis p → to_z w32 (of_z w32 p) ≡ p
+read_back-place : (p : ℤ) → IsColumnOrRow p → to_z w32 (of_z w32 p) ≡ p
 read_back-place p place = omega (arith, ints, place.least, place.greatest)
 
 pub IsLeastBox-read_back : (ds : List Dot) (b : Box4) → IsPicture ds → IsLeastBox ds b → IsLeastBox ds (read_back b)

@@ -17,7 +17,7 @@ use Rattle.mf_rows.specs.Dots.{Dot, IsDot, IsPicture, start_of_field, weight_at}
 use Rattle.mf_edges.specs.Axes.{opposite, PlaceStaysInside}
 use Rattle.mf_rows.proofs.DotsLemmas.{IsAt, weight_at-dot, dots_from-lawful, weight_at-outside}
 use Rattle.mf_ops.specs.Cull.{IsLawfulCull, culled_weight}
-use Rattle.mf_ops.specs.Moves.{Factors, AreFactors, IsFactor, IsInAxis, HasPlace, scale_by, scale_source, shift_by, stays_inside, turn_once, turn_by}
+use Rattle.mf_ops.specs.Moves.{Factors, AreFactors, IsFactor, IsColumnOrRow, HasPlace, scale_by, scale_source, shift_by, stays_inside, turn_once, turn_by}
 use Rattle.mf_ops.specs.Step.{step_at, leaves, op_fault, LiesOutside, TurnsLawfully}
 use Rattle.mf_ops.specs.declared.cull.CullRule.{CullRule}
 use Rattle.mf_ops.specs.declared.cull.CullRule.TheVariants.{Keeping, Dropping}
@@ -65,21 +65,21 @@ some_dot_leaves ds op picture refused =
 
 -- ---- axes
 
-in_field : (x y : ℤ) → IsInAxis x → IsInAxis y → IsInField x y
+in_field : (x y : ℤ) → IsColumnOrRow x → IsColumnOrRow y → IsInField x y
 in_field x y column row = record { left = column.least; right = column.greatest; bottom = row.least; top = row.greatest }
 
-column_inside : (x y : ℤ) → IsInField x y → IsInAxis x
+column_inside : (x y : ℤ) → IsInField x y → IsColumnOrRow x
 column_inside x y field = record { least = field.left; greatest = field.right }
 
-row_inside : (x y : ℤ) → IsInField x y → IsInAxis y
+row_inside : (x y : ℤ) → IsInField x y → IsColumnOrRow y
 row_inside x y field = record { least = field.bottom; greatest = field.top }
 
-shifted_inside : (d p : ℤ) → stays_inside (shift_by d) p ≡ true → IsInAxis (p +ℤ d)
+shifted_inside : (d p : ℤ) → stays_inside (shift_by d) p ≡ true → IsColumnOrRow (p +ℤ d)
 shifted_inside d p stays =
     let ends = (stays_inside-true (shift_by d) p).0 stays in
     record { least = let least = ends.start.least in omega (arith, ints); greatest = let greatest = ends.end.greatest in omega (arith, ints) }
 
-stays-inside : (d p : ℤ) → IsInAxis (p +ℤ d) → stays_inside (shift_by d) p ≡ true
+stays-inside : (d p : ℤ) → IsColumnOrRow (p +ℤ d) → stays_inside (shift_by d) p ≡ true
 stays-inside d p inside =
     let least = inside.least in
     let greatest = inside.greatest in
@@ -89,7 +89,7 @@ stays-inside d p inside =
     }
 
 -- where column p stays inside, so do all columns of its part of the axis
-place_inside : (f p q : ℤ) → HasPlace f p q → stays_inside (scale_by f) p ≡ true → IsInAxis q
+place_inside : (f p q : ℤ) → HasPlace f p q → stays_inside (scale_by f) p ≡ true → IsColumnOrRow q
 place_inside f p q has stays =
     let ends = (stays_inside-true (scale_by f) p).0 stays in
     let start = ends.start in
@@ -100,7 +100,7 @@ place_inside f p q has stays =
 record HasOutside (f p : ℤ) : Type 0 where
   pub q : ℤ
   pub has : HasPlace f p q
-  pub outside : IsInAxis q → ⊥
+  pub outside : IsColumnOrRow q → ⊥
 
 some_outside : (f p : ℤ) → IsFactor f → stays_inside (scale_by f) p ≡ false → HasOutside f p
 some_outside f p factor leaves =
@@ -190,7 +190,7 @@ scale-outside ds s factors at =
 
 -- ---- turns
 
-opposite_inside : (p : ℤ) → IsInAxis (opposite p) → IsInAxis p
+opposite_inside : (p : ℤ) → IsColumnOrRow (opposite p) → IsColumnOrRow p
 opposite_inside p inside =
     let least = inside.least in
     let greatest = inside.greatest in

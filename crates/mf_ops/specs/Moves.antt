@@ -15,7 +15,7 @@ pub record Factors : Type 0 where
   pub y : ℤ
 
 -- a column, or row, of the field
-pub record IsInAxis (p : ℤ) : Type 0 where
+pub record IsColumnOrRow (p : ℤ) : Type 0 where
   pub least : least_coordinate ≤ℤ p
   pub greatest : p ≤ℤ last_in_field
 

@@ -62,9 +62,9 @@ abbrev pub pixel_fault : List Dot → Op → Option OpFault
 pixel_fault ds op = if list_any (leaves op) ds then Some OutOfField else weight_fault (next_picture ds op)
 
 -- the refusal of an operation for the way its cycle turns, if there is one: only contours under the turning check are refused so
-abbrev pub turn_fault : Op → Option OpFault
-turn_fault (Contour ps w On) = option_map OpFault.Cycle (turning_fault ps)
-turn_fault op = None
+abbrev pub cycle_fault : Op → Option OpFault
+cycle_fault (Contour ps w On) = option_map OpFault.Cycle (turning_fault ps)
+cycle_fault op = None
 
 -- the operation is a contour under the turning check
 abbrev pub IsChecked : Op → Type 0
@@ -73,11 +73,11 @@ IsChecked op = ⊥
 
 -- the operation is not a contour, or its cycle passes its turning check
 pub record TurnsLawfully (op : Op) : Type 0 where
-  pub none : turn_fault op ≡ None
+  pub none : cycle_fault op ≡ None
 
 -- the refusal of an operation on the picture ds, if there is one: how its cycle turns is decided before any pixel
 unfoldable pub op_fault : List Dot → Op → Option OpFault
-op_fault ds op = option_or (turn_fault op) (pixel_fault ds op)
+op_fault ds op = option_or (cycle_fault op) (pixel_fault ds op)
 
 -- the weights f are not 0 at some pixel outside the field
 pub record LiesOutside (f : ℤ → ℤ → ℤ) : Type 0 where

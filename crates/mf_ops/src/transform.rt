@@ -5,7 +5,7 @@ ghost use Rattle.mf_rows.specs.Dots.{IsPicture};
 ghost use Rattle.mf_edges.specs.Axes.{PlaceStaysInside, target_of};
 ghost use Rattle.mf_rows.specs.Moves.{PixelsStayInside};
 ghost use Rattle.mf_rows.specs.Sums.{HasWeights};
-ghost use Rattle.mf_ops.specs.Moves.{IsInAxis};
+ghost use Rattle.mf_ops.specs.Moves.{IsColumnOrRow};
 ghost use Rattle.mf_ops.specs.Reflections.{reflection_at};
 ghost use Rattle.mf_ops.specs.Step.{next_picture, op_fault};
 ghost use Rattle.mf_ops.specs.declared.op.Op.TheVariants as ops;
@@ -129,7 +129,7 @@ fn pixels_stay_inside(picture: &Picture, columns: &Stretch, rows: &Stretch) -> b
 
 /// Whether both ends of a column, or row, lie in -4095..=4095 after a stretch.
 fn lies_inside(stretch: &Stretch, place: i32) -> bool
-    requires { IsInAxis place }
+    requires { IsColumnOrRow place }
     ensures { IsTrue result ↔ PlaceStaysInside stretch.now place }
 {
     stays_in_range(stretch, place) && stays_in_range(stretch, place + 1)

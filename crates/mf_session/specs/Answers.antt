@@ -12,7 +12,7 @@ use Rattle.mf_text.specs.declared.command.Command.TheVariants.{Nothing, Turning,
 use Rattle.mf_text.specs.declared.command.Command.TheVariants.{Total, Show, Proof, Ship, Publish}
 use Rattle.mf_text.specs.declared.fault.TextFault.{TextFault}
 use Rattle.mf_text.specs.declared.fault.TextFault.TheVariants.{OutOfMemory}
-use Rattle.mf_session.specs.Changes.{OpOn, all_published, on, operated, printed_by, published_line}
+use Rattle.mf_session.specs.Changes.{OpOn, all_published, on, next_pictures, printed_by, published_line}
 use Rattle.mf_session.specs.Pictures.{source_picture}
 use Rattle.mf_session.specs.Refusals.{refusal_line}
 use Rattle.mf_session.specs.Shipments.{Ships}
@@ -26,7 +26,7 @@ Prints s line a = a ≡ answer_with line s
 -- what an operation on a picture answers
 abbrev pub Operates : Limits → State → OpOn → Answer → Type 0
 Operates limits s o a =
-    a ≡ answer_with (printed_by limits.max_ops s.pictures o) (record s { pictures = operated limits.max_ops s.pictures o })
+    a ≡ answer_with (printed_by limits.max_ops s.pictures o) (record s { pictures = next_pictures limits.max_ops s.pictures o })
 
 -- the line that shows a total weight
 abbrev pub total_line : List Dot → List ℕ

@@ -1,6 +1,6 @@
 -- What commands do with pictures: what they print, and the pictures after them.
 use Rattle.std.specs.Prelude.{◌<◌, ◌==◌, ℕ, List, [], ◌++◌, Option, None, Some, option_map, codes, decimal, slice_index_or, slice_set, if◌then◌else◌}
-use Rattle.mf_live.specs.Entries.{pic, rev, Operation}
+use Rattle.mf_live.specs.Entries.{picture_at, revision_at, Operation}
 use Rattle.mf_live.specs.declared.fault.Fault.{Fault}
 use Rattle.mf_live.specs.declared.fault.Fault.TheVariants.{TooManyOperations, Refused}
 use Rattle.mf_ops.specs.Step.{next_picture, op_fault}
@@ -14,12 +14,12 @@ use Rattle.mf_session.specs.declared.refusal.Refusal.TheVariants.{Operation as R
 -- the refusal of an operation on a picture, if there is one: `currentpicture` accepts up to max_ops operations, a register any
 -- number
 abbrev pub refusal_of : ℕ → Pictures → Name → Op → Option Fault
-refusal_of max_ops s Current op = if rev s.accepted == max_ops then Some TooManyOperations else option_map Refused (op_fault (pic s.accepted) op)
+refusal_of max_ops s Current op = if revision_at s.accepted == max_ops then Some TooManyOperations else option_map Refused (op_fault (picture_at s.accepted) op)
 refusal_of max_ops s (Register number) op = option_map Refused (op_fault (slice_index_or s.registers number []) op)
 
 -- a clear of a picture is accepted: always for a register, and for `currentpicture` while it accepts operations
 abbrev pub IsClearable : ℕ → Pictures → Name → Type 0
-IsClearable max_ops s Current = rev s.accepted < max_ops
+IsClearable max_ops s Current = revision_at s.accepted < max_ops
 IsClearable max_ops s (Register number) = Unit {0}
 
 -- the pictures after an operation on one of them
@@ -51,12 +51,12 @@ abbrev pub printed_by : ℕ → Pictures → OpOn → List ℕ
 printed_by max_ops s o = operation_line (refusal_of max_ops s o.name o.op)
 
 -- the pictures after it
-abbrev pub operated : ℕ → Pictures → OpOn → Pictures
-operated max_ops s o = unless_refused (refusal_of max_ops s o.name o.op) s (pictures_after s o.name o.op)
+abbrev pub next_pictures : ℕ → Pictures → OpOn → Pictures
+next_pictures max_ops s o = unless_refused (refusal_of max_ops s o.name o.op) s (pictures_after s o.name o.op)
 
 -- the line that tells the revision of a publish
 abbrev pub published_line : Pictures → List ℕ
-published_line s = codes "published " ++ decimal (rev s.accepted) ++ codes "\n"
+published_line s = codes "published " ++ decimal (revision_at s.accepted) ++ codes "\n"
 
 -- the pictures once everything that was accepted is published
 abbrev pub all_published : Pictures → Pictures

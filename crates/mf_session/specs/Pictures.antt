@@ -1,6 +1,6 @@
 -- The pictures of a script: the live picture `currentpicture`, and those in the registers.
 use Rattle.std.specs.Prelude.{List, [], ◌∷◌, ◌++◌, replicate, slice_index_or}
-use Rattle.mf_live.specs.Entries.{Change, Entry, entry, next, pic}
+use Rattle.mf_live.specs.Entries.{Change, Entry, entry, next, picture_at}
 use Rattle.mf_rows.specs.Dots.{Dot}
 use Rattle.mf_text.specs.declared.command.Name.{Name}
 use Rattle.mf_text.specs.declared.command.Name.TheVariants.{Current, Register}
@@ -24,7 +24,7 @@ accepted_with s change = s.accepted ++ entry (next s.published) change ∷ []
 
 -- the picture with this name
 abbrev pub picture : Pictures → Name → List Dot
-picture s Current = pic s.accepted
+picture s Current = picture_at s.accepted
 picture s (Register number) = slice_index_or s.registers number []
 
 -- the picture that a command reads

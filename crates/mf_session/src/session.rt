@@ -33,7 +33,7 @@ impl Session {
     ghost use Rattle.std.specs.Prelude.{◌≡◌, ◌⊎◌, ◌<◌, ◌≤◌, ◌↔◌, Err, IfErr, IfOk, IsOk, OnErr};
     ghost use Rattle.mf_geom.specs.declared.check.Check.{Check};
     ghost use Rattle.mf_live.specs.Desks.{desk_identity, most_places, remaining_viewers};
-    ghost use Rattle.mf_live.specs.Entries.{rev};
+    ghost use Rattle.mf_live.specs.Entries.{revision_at};
     ghost use Rattle.mf_text.specs.Lines.{Gives};
     ghost use Rattle.mf_text.specs.Registers.{IsName};
     ghost use Rattle.mf_text.specs.declared.command.Command.TheVariants as commands;
@@ -86,7 +86,7 @@ impl Session {
     /// The revision of `currentpicture`: how many operations it has accepted, published or not. After a line that publishes, it
     /// is the revision that viewers see.
     pub fn revision(&self) -> u32
-        ensures { (s : State) → StandsFor self.now s → result ≡ rev s.pictures.accepted }
+        ensures { (s : State) → StandsFor self.now s → result ≡ revision_at s.pictures.accepted }
     {
         self.variables.revision()
     }

@@ -26,7 +26,7 @@ pub struct Variables {
 impl Variables {
     ghost use Rattle.std.specs.Prelude.{◌≡◌, ◌<◌, ◌≤◌, IfOk, IsOk, OnErr};
     ghost use Rattle.mf_live.specs.Desks.{desk_identity, most_places, remaining_viewers};
-    ghost use Rattle.mf_live.specs.Entries.{rev};
+    ghost use Rattle.mf_live.specs.Entries.{revision_at};
     ghost use Rattle.mf_ops.specs.declared.op.Op.TheVariants as ops;
     ghost use Rattle.mf_text.specs.Registers.{IsName, IsSource, register_count};
     ghost use Rattle.mf_text.specs.declared.command.Name.TheVariants as names;
@@ -71,7 +71,7 @@ impl Variables {
 
     /// The revision of `currentpicture`: how many operations it has accepted.
     pub fn revision(&self) -> u32
-        ensures { result ≡ rev (pictures self.now).accepted }
+        ensures { result ≡ revision_at (pictures self.now).accepted }
     {
         self.writer.revision()
     }

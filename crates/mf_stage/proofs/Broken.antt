@@ -8,7 +8,7 @@ use Rattle.std.specs.Prelude.{IsSome, IsSomeAnd}
 use Rattle.std.specs.Str.Lines.{lines}
 use Rattle.mf_base.specs.Messages.{GetsMessage}
 use Rattle.mf_image.specs.Boxes.{IsTooLargeForImage}
-use Rattle.mf_live.specs.Entries.{Entry, pic, rev}
+use Rattle.mf_live.specs.Entries.{Entry, picture_at, revision_at}
 use Rattle.mf_session.proofs.Performing.{Perform-append, Perform-one}
 use Rattle.mf_session.specs.Answers.{Answers}
 use Rattle.mf_session.specs.States.{Limits, State, answer_with}
@@ -191,7 +191,7 @@ line-first limits s next line text answer =
 tells-published : (d : Due) (next : State) (fault : StageFault) (text : List ℕ) → IsFirstText d next text
     → next.pictures.published ≡ next.pictures.accepted → IsOfPlate next.pictures.published fault → TellsOfScript d next fault text
 tells-published d next fault text first all is =
-    let published : IsPublishedAs (rev next.pictures.published) next = record { all = all; revision_is = refl } in
+    let published : IsPublishedAs (revision_at next.pictures.published) next = record { all = all; revision_is = refl } in
     ⊎_elim (⊎_elim (λ memory. subst (λ f. TellsOfScript d next f text) (sym memory) first)
     (λ large. subst (λ f. TellsOfScript d next f text) (sym large.0) (first, published, large.1)))
     (λ plate. subst (λ f. TellsOfScript d next f text) (sym plate.0) (first, published, plate.1)) is
@@ -212,7 +212,7 @@ line-published act s next line text fault answer stands out all is some = record
 
 -- a picture with a plate is not too large for an image
 pub plate-fits : (wanted : Option Plates) (shown : List Entry) (made : Option Plate) → IsPlateWhere wanted shown made → IsSome made
-    → IsTooLargeForImage (pic shown) → ⊥
+    → IsTooLargeForImage (picture_at shown) → ⊥
 plate-fits None shown made none some large = absurd (false≢true (sym (ap is_some none) ∙ some))
 plate-fits (Some plates) shown made (plate, is, it) some large = it.svg.fits large
 

@@ -1,7 +1,7 @@
 -- What a line makes.
 use Rattle.std.proofs.Common.{◌≡◌, ◌↔◌, Bool, true, ℕ, List, Option, Some, inl, inr, refl, sym, ap, subst, ◌∙◌}
 use Rattle.std.specs.Io.KnownBytes.{Appends}
-use Rattle.mf_live.specs.Entries.{Entry, pic, rev}
+use Rattle.mf_live.specs.Entries.{Entry, picture_at, revision_at}
 use Rattle.mf_rows.specs.Dots.{Dot}
 use Rattle.mf_session.specs.Answers.{Answers, AnswersTo}
 use Rattle.mf_session.specs.Sessions.{HasAnswered, limits}
@@ -20,11 +20,11 @@ use Rattle.mf_text.specs.declared.command.Command.TheVariants.{Publish}
 
 -- the plate of a picture is that of the list that it is the picture of
 pub plate_where : (wanted : Option Plates) (plates : Plates) (shown : List Entry) (revision : ℕ) (ds : List Dot) (made : Plate)
-    → wanted ≡ Some plates → revision ≡ rev shown → ds ≡ pic shown
+    → wanted ≡ Some plates → revision ≡ revision_at shown → ds ≡ picture_at shown
     → IsPlate plates revision ds made → IsPlateWhere wanted shown (Some made)
 plate_where wanted plates shown revision ds made is number picture plate =
     subst (λ w. IsPlateWhere w shown (Some made)) (sym is)
-    (made, refl, subst (λ n. IsPlate plates n (pic shown) made) number (subst (λ e. IsPlate plates revision e made) picture plate))
+    (made, refl, subst (λ n. IsPlate plates n (picture_at shown) made) number (subst (λ e. IsPlate plates revision e made) picture plate))
 
 -- after a line that publishes, everything that was accepted is published
 pub published-all : (limits : Limits) (s : State) (line : List ℕ) (a : Answer) → Answers limits s line a

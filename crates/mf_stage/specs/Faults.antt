@@ -3,7 +3,7 @@ use Rattle.std.specs.Prelude.{◌≡◌, ◌⊎◌, ℕ, IfSome, IsSome, List, �
 use Rattle.std.specs.Io.KnownBytes.{Appends}
 use Rattle.std.specs.Str.Lines.{lines}
 use Rattle.mf_image.specs.Boxes.{IsTooLargeForImage}
-use Rattle.mf_live.specs.Entries.{Entry, pic, rev}
+use Rattle.mf_live.specs.Entries.{Entry, picture_at, revision_at}
 use Rattle.mf_rows.specs.Dots.{Dot}
 use Rattle.mf_session.specs.Answers.{Answers}
 use Rattle.mf_session.specs.States.{State, answer_with}
@@ -31,7 +31,7 @@ pub record IsCutText (d : Due) (last : State) (written : List ℕ) : Type 0 wher
 -- in this state all that was accepted is published, with this revision
 pub record IsPublishedAs (revision : ℕ) (s : State) : Type 0 where
   pub all : s.pictures.published ≡ s.pictures.accepted
-  pub revision_is : rev s.pictures.published ≡ revision
+  pub revision_is : revision_at s.pictures.published ≡ revision
 
 -- what a fault says of these lines, the first of which have led to this state, and of what was written: after `WriteFault` the text of
 -- the last line that was performed may be cut, and after each other fault the texts of all of them have been written; after the faults
@@ -43,9 +43,9 @@ TellsOfScript d last FileTooLong written = ⊥
 TellsOfScript d last ReadFault written = IsFirstText d last written
 TellsOfScript d last WriteFault written = IsCutText d last written
 TellsOfScript d last (ImageTooLarge revision) written =
-    IsFirstText d last written × IsPublishedAs revision last × IsTooLargeForImage (pic last.pictures.published)
+    IsFirstText d last written × IsPublishedAs revision last × IsTooLargeForImage (picture_at last.pictures.published)
 TellsOfScript d last (PlateFault revision) written =
-    IsFirstText d last written × IsPublishedAs revision last × (IsTooLargeForImage (pic last.pictures.published) → ⊥)
+    IsFirstText d last written × IsPublishedAs revision last × (IsTooLargeForImage (picture_at last.pictures.published) → ⊥)
 
 -- the fault is one of a plate
 abbrev pub ConcernsPlate : StageFault → Type 0
@@ -88,4 +88,4 @@ IsOfImage revision ds fault = (fault ≡ OutOfMemory) ⊎ ((fault ≡ ImageTooLa
 -- with this fault the plate of what this list shows is not written
 abbrev pub IsOfPlate : List Entry → StageFault → Type 0
 IsOfPlate shown fault =
-    IsOfImage (rev shown) (pic shown) fault ⊎ ((fault ≡ PlateFault (rev shown)) × (IsTooLargeForImage (pic shown) → ⊥))
+    IsOfImage (revision_at shown) (picture_at shown) fault ⊎ ((fault ≡ PlateFault (revision_at shown)) × (IsTooLargeForImage (picture_at shown) → ⊥))

@@ -1,6 +1,6 @@
 -- What is made of a publish.
 use Rattle.std.specs.Prelude.{◌≡◌, ℕ, List, Option, None, Some}
-use Rattle.mf_live.specs.Entries.{Entry, pic, rev}
+use Rattle.mf_live.specs.Entries.{Entry, picture_at, revision_at}
 use Rattle.mf_stage.specs.Plates.{IsPlate}
 use Rattle.mf_stage.specs.declared.plate.Plate.{Plate}
 use Rattle.mf_stage.specs.declared.plate.Plates.{Plates}
@@ -11,11 +11,11 @@ use Rattle.mf_text.specs.declared.command.Command.TheVariants.{Publish}
 -- the plate of the picture of a list where plates are asked for, and else none
 abbrev pub IsPlateWhere : Option Plates → List Entry → Option Plate → Type 0
 IsPlateWhere None shown made = made ≡ None
-IsPlateWhere (Some plates) shown made = (plate : Plate) × (made ≡ Some plate) × IsPlate plates (rev shown) (pic shown) plate
+IsPlateWhere (Some plates) shown made = (plate : Plate) × (made ≡ Some plate) × IsPlate plates (revision_at shown) (picture_at shown) plate
 
 -- what is made where this list is published
 pub record IsPublication (plates : Option Plates) (shown : List Entry) (made : Publication) : Type 0 where
-  pub revision : made.revision ≡ rev shown
+  pub revision : made.revision ≡ revision_at shown
   pub plate : IsPlateWhere plates shown made.plate
 
 -- what is made of a line after which this list is published: its publication where the line gives the command to publish, and else

@@ -2,7 +2,7 @@
 ghost use Rattle.std.specs.Prelude.{◌≡◌, ◌⊎◌, ◌<◌, ◌≤◌, ◌↔◌, ◌∷◌, [], Err, IfErr, IfOk, IsOk, IsSome, IsSomeAnd, None, OnOk};
 ghost use Rattle.mf_live.specs.Desks.{desk_identity, remaining_viewers};
 ghost use Rattle.mf_session.specs.Endings.{HasEnded};
-ghost use Rattle.mf_live.specs.Entries.{pic, rev};
+ghost use Rattle.mf_live.specs.Entries.{picture_at, revision_at};
 ghost use Rattle.mf_session.specs.States.{State, least_bytes, limits_of, start};
 ghost use Rattle.mf_stage.specs.Faults.{BreaksLines, BreaksScript, ConcernsPlate, IsOfImage, IsOfPlate, NeedsNoFile};
 ghost use Rattle.mf_stage.specs.Publications.{IsPlateWhere, IsPublication};
@@ -178,7 +178,7 @@ impl Stage {
         ensures plate { IfOk result (λ made. IsSome made.plate → IsSome (plates_of self.now)) }
         ensures asked { IfErr result (λ _. IsSome (plates_of self.now)) }
         ensures fault { IfErr result (λ fault. (s : State) → StandsFor self.now s
-            → IsOfImage (rev s.pictures.accepted) (pic s.pictures.accepted) fault) }
+            → IsOfImage (revision_at s.pictures.accepted) (picture_at s.pictures.accepted) fault) }
         ensures possible { IfErr result NeedsNoFile }
     {
         let revision = self.session.revision();
@@ -192,7 +192,7 @@ impl Stage {
         ensures plate { IfOk result (λ made. IsSome made → IsSome (plates_of self.now)) }
         ensures asked { IfErr result (λ _. IsSome (plates_of self.now)) }
         ensures fault { IfErr result (λ fault. (s : State) → StandsFor self.now s
-            → IsOfImage (rev s.pictures.accepted) (pic s.pictures.accepted) fault) }
+            → IsOfImage (revision_at s.pictures.accepted) (picture_at s.pictures.accepted) fault) }
         ensures possible { IfErr result NeedsNoFile }
     {
         let Some(plates) = &self.plates else {

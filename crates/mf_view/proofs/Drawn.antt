@@ -10,10 +10,10 @@ use Rattle.mf_frame.specs.Frames.{frame_text}
 use Rattle.mf_easel.specs.declared.easel.Easel.{Easel}
 use Rattle.mf_ops.specs.Operations.{picture_after, revision_after}
 use Rattle.mf_ops.specs.declared.op.Op.{Op}
-use Rattle.mf_live.specs.Entries.{Entry, operations, pic, rev}
+use Rattle.mf_live.specs.Entries.{Entry, operations, picture_at, revision_at}
 use Rattle.mf_live.specs.Prefixes.{IsWholePrefix}
 use Rattle.mf_live.specs.Sheets.{HasLooked}
-use Rattle.mf_live.proofs.EntryLists.{operations-append, rev-append}
+use Rattle.mf_live.proofs.EntryLists.{operations-append, revision_at-append}
 use Rattle.mf_live.proofs.WholePrefixes.{whole-self, whole-trans}
 use Rattle.mf_view.specs.Drawings.{HasDrawn, IsSeenOf, Rise, ShowsLast, drawing, frames, last_revision}
 
@@ -39,15 +39,16 @@ in-manner held holds before after lists same text = subst (λ m. Appends held ho
 -- what a look draws goes after what was drawn
 drawn-after : (held then holds : Option (List ℕ)) (m : Manner) (drawn : Option ℕ) (lists : List (List Entry)) (L : List Entry)
     → Appends held then (frames m lists) → drawn ≡ last_revision lists
-    → Appends then holds (over m.style m.canvas drawn ++ frame_text m.style m.canvas (rev L) (pic L)) → Appends held holds (frames m (L ∷ lists))
+    → Appends then holds (over m.style m.canvas drawn ++ frame_text m.style m.canvas (revision_at L) (picture_at L)) → Appends held holds (frames m (L ∷ lists))
 drawn-after held then holds m drawn lists L was last gets =
     Appends-trans held then holds (frames m lists) (drawing m lists L) was
-    (subst (λ d. Appends then holds (over m.style m.canvas d ++ frame_text m.style m.canvas (rev L) (pic L))) last gets)
+    (subst (λ d. Appends then holds (over m.style m.canvas d ++ frame_text m.style m.canvas (revision_at L) (picture_at L))) last gets)
 
 -- a look draws its own list after what was drawn, or what was drawn last has its revision
 pub drawn-look : {W : Type 0} (contents : W → Option (List ℕ)) (held : Option (List ℕ)) (s t : W) (before after : Easel) (shown : Option ℕ)
-    → HasLooked (viewer_of before) (viewer_of after) → HasSameManner before after → shown ≡ new_revision (revision_of before) (rev (looked_at_list after))
-    → revision_of after ≡ Some (rev (looked_at_list after))
+    → HasLooked (viewer_of before) (viewer_of after) → HasSameManner before after
+    → shown ≡ new_revision (revision_of before) (revision_at (looked_at_list after))
+    → revision_of after ≡ Some (revision_at (looked_at_list after))
     → GetsFrame (screen_of contents s t) (drawing_of before (looked_at_list after)) shown → IfSome shown (IsAbove (revision_of before))
     → HasDrawn before held (contents s) → HasDrawn after held (contents t)
 drawn-look contents held s t before after None look manner answer drawn same rising was = record {
@@ -55,10 +56,10 @@ drawn-look contents held s t before after None look manner answer drawn same ris
   text = rw same (in-manner held (contents s) before after was.lists manner was.text);
   rise = was.rise;
   seen = seen-more (looked_at_list before) (looked_at_list after) was.lists look.extends.looked was.seen;
-  last = drawn ∙ (sym (new-none (revision_of before) (rev (looked_at_list after)) (sym answer)) ∙ was.last);
+  last = drawn ∙ (sym (new-none (revision_of before) (revision_at (looked_at_list after)) (sym answer)) ∙ was.last);
 }
 drawn-look contents held s t before after (Some shown) look manner answer drawn gets rising was =
-    let revision = new-some (revision_of before) (rev (looked_at_list after)) shown (sym answer) in
+    let revision = new-some (revision_of before) (revision_at (looked_at_list after)) shown (sym answer) in
     record {
       lists = looked_at_list after ∷ was.lists;
       text = in-manner held (contents t) before after (looked_at_list after ∷ was.lists) manner
@@ -74,22 +75,22 @@ no-operation [] none = refl
 no-operation (op ∷ ops) none = cc
 
 -- a whole prefix with the revision of the list has its picture
-same-picture : (L whole : List Entry) → IsWholePrefix L whole → rev L ≡ rev whole → pic L ≡ pic whole
+same-picture : (L whole : List Entry) → IsWholePrefix L whole → revision_at L ≡ revision_at whole → picture_at L ≡ picture_at whole
 unfolding revision_after
 same-picture L whole part same =
-    let sum : rev whole ≡ rev L + rev part.rest = ap rev part.whole ∙ rev-append L part.rest in
+    let sum : revision_at whole ≡ revision_at L + revision_at part.rest = ap revision_at part.whole ∙ revision_at-append L part.rest in
     let none : length (operations part.rest) ≡ 0 = omega arith in
     let rest : operations part.rest ≡ [] = no-operation (operations part.rest) none in
-    sym (ap pic part.whole
+    sym (ap picture_at part.whole
     ∙ (ap picture_after (operations-append L part.rest) ∙ ap picture_after (ap (λ ops. operations L ++ ops) rest ∙ append-nil (operations L))))
 
 -- the last picture was drawn before
 shown-before : (easel : Easel) (whole : List Entry) (held holds : Option (List ℕ)) (lists : List (List Entry))
-    → Appends held holds (frames (manner_of easel) lists) → Rise lists → All (IsSeenOf whole) lists → last_revision lists ≡ Some (rev whole)
+    → Appends held holds (frames (manner_of easel) lists) → Rise lists → All (IsSeenOf whole) lists → last_revision lists ≡ Some (revision_at whole)
     → ShowsLast (manner_of easel) whole held holds
 shown-before easel whole held holds [] text rise seen last = cc
 shown-before easel whole held holds (L ∷ earlier) text rise seen last =
-    let revision : rev L ≡ rev whole = cc in
+    let revision : revision_at L ≡ revision_at whole = cc in
     record {
       last = L;
       earlier = earlier;
@@ -102,15 +103,15 @@ shown-before easel whole held holds (L ∷ earlier) text rise seen last =
 
 -- the last look leaves the last picture on the screen
 pub shown-last : {W : Type 0} (contents : W → Option (List ℕ)) (held : Option (List ℕ)) (s t : W) (before after : Easel) (whole : List Entry) (shown : Option ℕ)
-    → HasLookedLast (viewer_of before) whole (viewer_of after) → shown ≡ new_revision (revision_of before) (rev whole)
+    → HasLookedLast (viewer_of before) whole (viewer_of after) → shown ≡ new_revision (revision_of before) (revision_at whole)
     → GetsFrame (screen_of contents s t) (drawing_of before whole) shown → IfSome shown (IsAbove (revision_of before))
     → HasDrawn before held (contents s) → ShowsLast (manner_of before) whole held (contents t)
 shown-last contents held s t before after whole None look answer same rising was =
-    let again = sym was.last ∙ new-none (revision_of before) (rev whole) (sym answer) in
+    let again = sym was.last ∙ new-none (revision_of before) (revision_at whole) (sym answer) in
     let seen = seen-more (looked_at_list before) whole was.lists look.0.looked was.seen in
     rw same (shown-before before whole held (contents s) was.lists was.text was.rise seen again)
 shown-last contents held s t before after whole (Some shown) look answer gets rising was =
-    let revision = new-some (revision_of before) (rev whole) shown (sym answer) in
+    let revision = new-some (revision_of before) (revision_at whole) shown (sym answer) in
     record {
       last = whole;
       earlier = was.lists;

@@ -3,7 +3,7 @@ use Rattle.std.specs.Prelude.{◌≡◌, ◌⊎◌, ℕ, IfSome, List, [], Optio
 use Rattle.std.specs.Io.KnownBytes.{Appends}
 use Rattle.std.specs.Str.Lines.{lines}
 use Rattle.mf_image.specs.Boxes.{IsTooLargeForImage}
-use Rattle.mf_live.specs.Entries.{Entry, pic, rev}
+use Rattle.mf_live.specs.Entries.{Entry, picture_at, revision_at}
 use Rattle.mf_session.specs.States.{State, answer_with, start}
 use Rattle.mf_session.specs.Transcript.{Due, Perform, due}
 use Rattle.mf_stage.specs.Faults.{TellsOfScript}
@@ -18,8 +18,8 @@ abbrev pub IsOfEnd : List Entry → ProgramFault → Type 0
 IsOfEnd last OutOfMemory = Unit {0}
 IsOfEnd last NoLook = Unit {0}
 IsOfEnd last WriteFault = Unit {0}
-IsOfEnd last (ImageTooLarge revision) = (rev last ≡ revision) × IsTooLargeForImage (pic last)
-IsOfEnd last (PlateFault revision) = (rev last ≡ revision) × (IsTooLargeForImage (pic last) → ⊥)
+IsOfEnd last (ImageTooLarge revision) = (revision_at last ≡ revision) × IsTooLargeForImage (picture_at last)
+IsOfEnd last (PlateFault revision) = (revision_at last ≡ revision) × (IsTooLargeForImage (picture_at last) → ⊥)
 IsOfEnd last _ = ⊥
 
 -- what a fault says of the lines of a script, the first of which have led to this state, and of what was written of their transcript: what

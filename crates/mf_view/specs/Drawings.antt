@@ -6,17 +6,17 @@ use Rattle.mf_easel.specs.Screens.{IsAbove, over}
 use Rattle.mf_easel.specs.declared.easel.Easel.{Easel}
 use Rattle.mf_easel.specs.declared.fault.EaselFault.{EaselFault}
 use Rattle.mf_frame.specs.Frames.{frame_text}
-use Rattle.mf_live.specs.Entries.{Entry, pic, rev}
+use Rattle.mf_live.specs.Entries.{Entry, picture_at, revision_at}
 use Rattle.mf_live.specs.Prefixes.{IsWholePrefix}
 
 -- the revision of the last of these lists, which are given from the last to the first
 abbrev pub last_revision : List (List Entry) → Option ℕ
 last_revision [] = None
-last_revision (L ∷ earlier) = Some (rev L)
+last_revision (L ∷ earlier) = Some (revision_at L)
 
 -- the frame of the picture of a list, drawn over that of the last of the earlier lists
 abbrev pub drawing : Manner → List (List Entry) → List Entry → List ℕ
-drawing m earlier L = over m.style m.canvas (last_revision earlier) ++ frame_text m.style m.canvas (rev L) (pic L)
+drawing m earlier L = over m.style m.canvas (last_revision earlier) ++ frame_text m.style m.canvas (revision_at L) (picture_at L)
 
 -- the frames of the pictures of these lists, each drawn over the one before it
 abbrev pub frames : Manner → List (List Entry) → List ℕ
@@ -26,7 +26,7 @@ frames m (L ∷ earlier) = frames m earlier ++ drawing m earlier L
 -- the revision of each of these lists is above that of the one before it
 abbrev pub Rise : List (List Entry) → Type 0
 Rise [] = Unit {0}
-Rise (L ∷ earlier) = IsAbove (last_revision earlier) (rev L) × Rise earlier
+Rise (L ∷ earlier) = IsAbove (last_revision earlier) (revision_at L) × Rise earlier
 
 -- this is a whole prefix of the list
 abbrev pub IsSeenOf : List Entry → List Entry → Type 0
@@ -51,8 +51,8 @@ pub record ShowsLast (manner : Manner) (whole : List Entry) (held holds : Option
   pub text : Appends held holds (frames manner (last ∷ earlier))
   pub rise : Rise (last ∷ earlier)
   pub seen : All (IsSeenOf whole) (last ∷ earlier)
-  pub revision : rev last ≡ rev whole
-  pub picture : pic last ≡ pic whole
+  pub revision : revision_at last ≡ revision_at whole
+  pub picture : picture_at last ≡ picture_at whole
 
 -- the last picture, which is that of this list, is shown, whatever the easel had drawn before; its screen, which held some bytes, now
 -- holds others

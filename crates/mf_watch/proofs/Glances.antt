@@ -2,18 +2,18 @@
 use Rattle.std.proofs.Common.{◌≡◌, ◌≤◌, ◌+◌, ℕ, List, [], ◌∷◌, ◌++◌, All, refl, ap, ◌∙◌, arith, length-append}
 use Rattle.std.proofs.lemmas.List.Elements.{All-head, All-tail, All-push, All-nil, All-weaker}
 use Rattle.mf_live.specs.declared.event.Event.{Event}
-use Rattle.mf_live.specs.Entries.{Entry, pic, rev}
+use Rattle.mf_live.specs.Entries.{Entry, picture_at, revision_at}
 use Rattle.mf_live.specs.Prefixes.{IsWholePrefix}
 use Rattle.mf_live.specs.Viewers.{IsPublished}
-use Rattle.mf_live.proofs.EntryLists.{rev-whole}
+use Rattle.mf_live.proofs.EntryLists.{revision_at-whole}
 use Rattle.mf_live.proofs.WholePrefixes.{whole-self, whole-trans}
 use Rattle.mf_rows.specs.Dots.{Dot, total_of}
 use Rattle.mf_watch.specs.declared.glance.Glance.{Glance}
 use Rattle.mf_watch.specs.Watchers.{AreGlances, HasSeen, IsGlance, NeverFall, glance_at}
 
 -- the glance at the picture of a list
-pub glance-of : (L : List Entry) (revision : ℕ) (picture : List Dot) → revision ≡ rev L
-    → picture ≡ pic L → record { revision = revision; total = total_of picture } ≡ glance_at L
+pub glance-of : (L : List Entry) (revision : ℕ) (picture : List Dot) → revision ≡ revision_at L
+    → picture ≡ picture_at L → record { revision = revision; total = total_of picture } ≡ glance_at L
 glance-of L revision picture number shown = rw (number, shown) refl
 
 -- nothing is seen before the first look
@@ -31,8 +31,8 @@ IsGlance-more S L g more seen = record {
 }
 
 -- the revision of a glance is no greater than that of the list
-revision-le : (L : List Entry) (g : Glance) → IsGlance L g → g.revision ≤ rev L
-revision-le L g seen = rw (ap (λ g. g.revision) seen.is) (rev-whole seen.list L seen.prefix)
+revision-le : (L : List Entry) (g : Glance) → IsGlance L g → g.revision ≤ revision_at L
+revision-le L g seen = rw (ap (λ g. g.revision) seen.is) (revision_at-whole seen.list L seen.prefix)
 
 NeverFall-push : (low : ℕ) (gs : List Glance) (g : Glance) → low ≤ g.revision
     → All (λ (e : Glance). e.revision ≤ g.revision) gs → NeverFall low gs → NeverFall low (gs ++ g ∷ [])
@@ -50,7 +50,7 @@ AreGlances-push S L events looks gs published more glances =
       counted = length-append gs (glance_at L ∷ []) ∙ ap (λ n. n + 1) glances.counted;
       each = All-push (IsGlance L) gs (glance_at L) each (record { list = L; events = events; published = published; prefix = whole-self L; is = refl });
       never_fall = NeverFall-push 0 gs (glance_at L) (omega arith)
-          (All-weaker (IsGlance L) (λ (x : Glance). x.revision ≤ rev L) (λ g seen. revision-le L g seen) gs each) glances.never_fall;
+          (All-weaker (IsGlance L) (λ (x : Glance). x.revision ≤ revision_at L) (λ g seen. revision-le L g seen) gs each) glances.never_fall;
     }
 
 -- the last look

@@ -3,7 +3,7 @@ use Rattle.std.specs.Prelude.{◌≡◌, ◌⊎◌, ◌≤◌, ◌+◌, ℕ, All
 use Rattle.std.specs.declared.alloc.Global.{Global}
 use Rattle.logbook.specs.Pages.{Book}
 use Rattle.mf_live.specs.declared.event.Event.{Event}
-use Rattle.mf_live.specs.Entries.{Entry, pic, rev}
+use Rattle.mf_live.specs.Entries.{Entry, picture_at, revision_at}
 use Rattle.mf_live.specs.Prefixes.{IsWholePrefix}
 use Rattle.mf_live.specs.Viewers as viewers
 use Rattle.mf_live.specs.declared.viewer.Viewer.{Viewer}
@@ -13,7 +13,7 @@ use Rattle.mf_watch.specs.declared.watcher.Watcher.{Watcher}
 
 -- the glance that a look at a list gives
 abbrev pub glance_at : List Entry → Glance
-glance_at L = record { revision = rev L; total = total_of (pic L) }
+glance_at L = record { revision = revision_at L; total = total_of (picture_at L) }
 
 -- the glance is at a list that some events had published, and that is a whole prefix of the other list
 pub record IsGlance (whole : List Entry) (g : Glance) : Type 0 where
@@ -61,13 +61,13 @@ abbrev pub HasRoomFor : ℕ → Watcher → Type 0
 HasRoomFor more w = length (record_of w).items + more ≤ vec_capacity (record_of w)
 
 -- the last of these glances, if there is one, is at this list
-abbrev pub EndWith : List Entry → List Glance → Type 0
-EndWith list glances = (glances ≡ []) ⊎ ((earlier : List Glance) × (glances ≡ earlier ++ glance_at list ∷ []))
+abbrev pub IsLastIn : List Entry → List Glance → Type 0
+IsLastIn list glances = (glances ≡ []) ⊎ ((earlier : List Glance) × (glances ≡ earlier ++ glance_at list ∷ []))
 
 -- a viewer of this picture, with the record of this many looks, the last of which is its last answered look, and with room for
 -- more
 pub record IsWatcher (picture : Book) (looks more : ℕ) (w : Watcher) : Type 0 where
   pub identity_is : identity w ≡ picture
   pub record_is : IsRecord looks w
-  pub last_is : EndWith (viewers.looked_at_list (viewer_of w)) (record_of w).items
+  pub last_is : IsLastIn (viewers.looked_at_list (viewer_of w)) (record_of w).items
   pub room : HasRoomFor more w

@@ -1,6 +1,6 @@
 //! Looking and drawing.
 ghost use Rattle.std.specs.Prelude.{◌≡◌, ◌⊎◌, None, Some, true, IfErr, IfOk, IfSome, MatchResult, OnOk};
-ghost use Rattle.mf_live.specs.Entries.{is_closed, pic, rev};
+ghost use Rattle.mf_live.specs.Entries.{is_closed, picture_at, revision_at};
 ghost use Rattle.mf_live.specs.Sheets.{HasLooked, sheet_picture, sheet_revision};
 ghost use Rattle.mf_live.specs.Viewers as viewers;
 ghost use Rattle.mf_easel.specs.Easels.{HasLookedLast, HasSameManner, IsLastNotDrawn, IsNotDrawn, drawing_of, drawing_with};
@@ -51,8 +51,8 @@ impl Easel {
         ensures manner { HasSameManner self.old self.new }
         ensures looked { OnOk result (HasLooked (viewer_of self.old) (viewer_of self.new)) }
         ensures missed { IfErr result (IsNotDrawn (viewer_of self.old) (viewer_of self.new)) }
-        ensures answer { IfOk result (λ shown. shown ≡ new_revision (revision_of self.old) (rev (looked_at_list self.new))) }
-        ensures drawn { MatchResult result (λ _. revision_of self.new ≡ Some (rev (looked_at_list self.new)))
+        ensures answer { IfOk result (λ shown. shown ≡ new_revision (revision_of self.old) (revision_at (looked_at_list self.new))) }
+        ensures drawn { MatchResult result (λ _. revision_of self.new ≡ Some (revision_at (looked_at_list self.new)))
             (λ _. revision_of self.new ≡ revision_of self.old) }
         ensures screen { IfOk result (GetsFrame (screen_of W.contents screen.old screen.new) (drawing_of self.old (looked_at_list self.new))) }
         ensures cut { IfErr result (GetsNoMore (screen_of W.contents screen.old screen.new) (drawing_of self.old (looked_at_list self.new))) }
@@ -77,8 +77,8 @@ impl Easel {
         ensures manner { HasSameManner self.old self.new }
         ensures looked { OnOk result (HasLookedLast (viewer_of self.old) (viewers.told_list notice) (viewer_of self.new)) }
         ensures missed { IfErr result (IsLastNotDrawn (viewer_of self.old) (viewers.told_list notice) (viewer_of self.new)) }
-        ensures answer { IfOk result (λ shown. shown ≡ new_revision (revision_of self.old) (rev (viewers.told_list notice))) }
-        ensures drawn { MatchResult result (λ _. revision_of self.new ≡ Some (rev (viewers.told_list notice)))
+        ensures answer { IfOk result (λ shown. shown ≡ new_revision (revision_of self.old) (revision_at (viewers.told_list notice))) }
+        ensures drawn { MatchResult result (λ _. revision_of self.new ≡ Some (revision_at (viewers.told_list notice)))
             (λ _. revision_of self.new ≡ revision_of self.old) }
         ensures screen { IfOk result (GetsFrame (screen_of W.contents screen.old screen.new) (drawing_of self.old (viewers.told_list notice))) }
         ensures cut { IfErr result (GetsNoMore (screen_of W.contents screen.old screen.new) (drawing_of self.old (viewers.told_list notice))) }
@@ -95,12 +95,12 @@ impl Easel {
         screen: &mut W,
         sheet: &Sheet,
     ) -> Result<Option<u32>, EaselFault>
-        requires picture { sheet_picture sheet.now ≡ pic (looked_at_list self.old) }
-        requires revision { sheet_revision sheet.now ≡ rev (looked_at_list self.old) }
+        requires picture { sheet_picture sheet.now ≡ picture_at (looked_at_list self.old) }
+        requires revision { sheet_revision sheet.now ≡ revision_at (looked_at_list self.old) }
         ensures viewer { viewer_of self.new ≡ viewer_of self.old }
         ensures manner { HasSameManner self.old self.new }
-        ensures answer { IfOk result (λ shown. shown ≡ new_revision (revision_of self.old) (rev (looked_at_list self.old))) }
-        ensures drawn { MatchResult result (λ _. revision_of self.new ≡ Some (rev (looked_at_list self.old)))
+        ensures answer { IfOk result (λ shown. shown ≡ new_revision (revision_of self.old) (revision_at (looked_at_list self.old))) }
+        ensures drawn { MatchResult result (λ _. revision_of self.new ≡ Some (revision_at (looked_at_list self.old)))
             (λ _. revision_of self.new ≡ revision_of self.old) }
         ensures screen { IfOk result (GetsFrame (screen_of W.contents screen.old screen.new) (drawing_of self.old (looked_at_list self.old))) }
         ensures cut { IfErr result (GetsNoMore (screen_of W.contents screen.old screen.new) (drawing_of self.old (looked_at_list self.old))) }

@@ -5,7 +5,7 @@ ghost use Rattle.mf_geom.specs.declared.cycle.CycleFault.{CycleFault};
 ghost use Rattle.mf_ops.specs.Step.{op_fault};
 ghost use Rattle.mf_ops.specs.declared.op.Op.TheVariants.{Clear};
 ghost use Rattle.mf_live.specs.Books.{most_accepted};
-ghost use Rattle.mf_live.specs.Entries.{entry, pic, rev, next, is_closed, Operation, End};
+ghost use Rattle.mf_live.specs.Entries.{entry, picture_at, revision_at, next, is_closed, Operation, End};
 ghost use Rattle.mf_live.specs.Holders.{identity, accepted_list, knowledge, published_list};
 ghost use Rattle.mf_live.specs.Rule.{view_knowing, knowledge_of, with_event};
 ghost use Rattle.mf_live.specs.declared.event.Event.TheVariants.{Accept};
@@ -78,17 +78,17 @@ impl Holder {
     /// Accepts an operation, which changes the working picture. A refusal changes nothing.
     pub(crate) fn accept(&mut self, alloc: Global, op: &Op) -> Result<(), OpFault>
         requires open { is_closed (accepted_list self.old) ≡ false }
-        requires few { rev (accepted_list self.old) < most_accepted }
+        requires few { revision_at (accepted_list self.old) < most_accepted }
         ensures identity { identity self.new ≡ identity self.old }
         ensures accepted { MatchResult result
             (λ _. accepted_list self.new ≡ accepted_list self.old ++ entry (next (published_list self.old)) (Operation op.now) ∷ [])
             (λ _. accepted_list self.new ≡ accepted_list self.old) }
         ensures published { published_list self.new ≡ published_list self.old }
-        ensures allowed { OnOk result (op_fault (pic (accepted_list self.old)) op.now ≡ None) }
-        ensures refused { IfErr result (λ fault. fault ≢ OpFault.OutOfMemory → op_fault (pic (accepted_list self.old)) op.now ≡ Some fault) }
-        ensures turning { (fault : CycleFault) → op_fault (pic (accepted_list self.old)) op.now ≡ Some (OpFault.Cycle fault)
+        ensures allowed { OnOk result (op_fault (picture_at (accepted_list self.old)) op.now ≡ None) }
+        ensures refused { IfErr result (λ fault. fault ≢ OpFault.OutOfMemory → op_fault (picture_at (accepted_list self.old)) op.now ≡ Some fault) }
+        ensures turning { (fault : CycleFault) → op_fault (picture_at (accepted_list self.old)) op.now ≡ Some (OpFault.Cycle fault)
             → result ≡ Err (OpFault.Cycle fault) }
-        ensures out_of_field { op_fault (pic (accepted_list self.old)) op.now ≡ Some OpFault.OutOfField → result ≡ Err OpFault.OutOfField }
+        ensures out_of_field { op_fault (picture_at (accepted_list self.old)) op.now ≡ Some OpFault.OutOfField → result ≡ Err OpFault.OutOfField }
         ensures clears { op.now ≡ Clear → IsOk result }
     {
         apply(alloc, &mut self.working, op)?;

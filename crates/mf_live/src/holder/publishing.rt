@@ -4,7 +4,7 @@ ghost use Rattle.std.specs.Prelude.{◌≡◌, ◌+◌, ◌<◌, ◌^◌, ◌++�
 ghost use Rattle.crossbeam_utils.specs.Register.{TurnsAt};
 ghost use Rattle.left_right.specs.Sides.{view};
 ghost use Rattle.mf_live.specs.Books.{most_accepted, counter_of};
-ghost use Rattle.mf_live.specs.Entries.{pic};
+ghost use Rattle.mf_live.specs.Entries.{picture_at};
 ghost use Rattle.mf_live.specs.Holders.{identity, accepted_list, published_list};
 ghost use Rattle.mf_live.specs.Rule.{EachSeatKnows, IsShow, book_of, events_of, view_knowing, publish_events, knowledge_of};
 ghost use Rattle.mf_live.specs.World.{Happen, new_world, world_after};
@@ -86,7 +86,7 @@ impl Holder {
 
     /// Publishes everything that was accepted. `picture` is the picture of that.
     pub(crate) fn publish_picture<R: Wait>(&mut self, rt: &R, picture: Picture)
-        requires picture { picture ≡ pic (accepted_list self.old) }
+        requires picture { picture ≡ picture_at (accepted_list self.old) }
         requires waits { 0 < self.old.unwritten }
         ensures identity { identity self.new ≡ identity self.old }
         ensures accepted { accepted_list self.new ≡ accepted_list self.old }

@@ -1,6 +1,6 @@
 //! What a look shows, and its end.
 ghost use Rattle.std.specs.Prelude.{◌≡◌};
-ghost use Rattle.mf_live.specs.Entries.{pic, rev};
+ghost use Rattle.mf_live.specs.Entries.{picture_at, revision_at};
 ghost use Rattle.mf_live.specs.Viewers.{identity, looked_at_list, looked_at_events, learnt_list, seen_list, look_events};
 ghost use Rattle.mf_live.specs.Viewers.{look_learnt_list, look_identity, shown_list};
 
@@ -11,14 +11,14 @@ use mf_rows::Picture;
 impl Look {
     /// The picture of all operations that were published by some moment.
     pub fn picture(&self) -> &Picture
-        ensures { result.now ≡ pic (shown_list self.now) }
+        ensures { result.now ≡ picture_at (shown_list self.now) }
     {
         &self.reading.get().picture
     }
 
     /// Its revision: the number of those operations.
     pub fn revision(&self) -> u32
-        ensures { result ≡ rev (shown_list self.now) }
+        ensures { result ≡ revision_at (shown_list self.now) }
     {
         self.reading.get().notice.number
     }

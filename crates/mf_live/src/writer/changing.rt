@@ -3,7 +3,7 @@ ghost use Rattle.std.specs.Prelude.{◌≡◌, ◌≢◌, ◌-◌, ◌<◌, [], 
 ghost use Rattle.mf_geom.specs.declared.cycle.CycleFault.{CycleFault};
 ghost use Rattle.mf_ops.specs.Step.{op_fault};
 ghost use Rattle.mf_ops.specs.declared.op.Op.TheVariants.{Clear};
-ghost use Rattle.mf_live.specs.Entries.{entry, pic, rev, next, Operation};
+ghost use Rattle.mf_live.specs.Entries.{entry, picture_at, revision_at, next, Operation};
 ghost use Rattle.mf_live.specs.Viewers.{notice_identity, told_list};
 ghost use Rattle.mf_live.specs.Writers.{identity, accepted_list, published_list, max_ops, IsSameWriter};
 
@@ -30,16 +30,16 @@ impl Writer {
         ensures accepted { MatchResult result
             (λ _. accepted_list self.new ≡ accepted_list self.old ++ entry (next (published_list self.old)) (Operation op) ∷ [])
             (λ _. accepted_list self.new ≡ accepted_list self.old) }
-        ensures allowed { OnOk result ((rev (accepted_list self.old) < max_ops self.old) × (op_fault (pic (accepted_list self.old)) op ≡ None)) }
+        ensures allowed { OnOk result ((revision_at (accepted_list self.old) < max_ops self.old) × (op_fault (picture_at (accepted_list self.old)) op ≡ None)) }
         ensures handed_back { IfErr result (λ refused. refused.0 ≡ op) }
-        ensures too_many { (rev (accepted_list self.old) ≡ max_ops self.old) ↔ (result ≡ Err (op, Fault.TooManyOperations)) }
-        ensures clears { op ≡ Clear → rev (accepted_list self.old) < max_ops self.old → IsOk result }
-        ensures turning { (fault : CycleFault) → rev (accepted_list self.old) < max_ops self.old
-            → op_fault (pic (accepted_list self.old)) op ≡ Some (OpFault.Cycle fault) → result ≡ Err (op, Fault.Refused (OpFault.Cycle fault)) }
-        ensures out_of_field { rev (accepted_list self.old) < max_ops self.old
-            → op_fault (pic (accepted_list self.old)) op ≡ Some OpFault.OutOfField → result ≡ Err (op, Fault.Refused OpFault.OutOfField) }
+        ensures too_many { (revision_at (accepted_list self.old) ≡ max_ops self.old) ↔ (result ≡ Err (op, Fault.TooManyOperations)) }
+        ensures clears { op ≡ Clear → revision_at (accepted_list self.old) < max_ops self.old → IsOk result }
+        ensures turning { (fault : CycleFault) → revision_at (accepted_list self.old) < max_ops self.old
+            → op_fault (picture_at (accepted_list self.old)) op ≡ Some (OpFault.Cycle fault) → result ≡ Err (op, Fault.Refused (OpFault.Cycle fault)) }
+        ensures out_of_field { revision_at (accepted_list self.old) < max_ops self.old
+            → op_fault (picture_at (accepted_list self.old)) op ≡ Some OpFault.OutOfField → result ≡ Err (op, Fault.Refused OpFault.OutOfField) }
         ensures refused { IfErr result (λ refused. (fault : OpFault) → refused.1 ≡ Fault.Refused fault
-            → fault ≢ OpFault.OutOfMemory → op_fault (pic (accepted_list self.old)) op ≡ Some fault) }
+            → fault ≢ OpFault.OutOfMemory → op_fault (picture_at (accepted_list self.old)) op ≡ Some fault) }
     {
         if self.holder.revision == self.max_ops {
             return Err((op, Fault::TooManyOperations));
@@ -52,21 +52,21 @@ impl Writer {
 
     /// The working picture: that of all accepted operations, which viewers see from the next publish on.
     pub fn working(&self) -> &Picture
-        ensures { result.now ≡ pic (accepted_list self.now) }
+        ensures { result.now ≡ picture_at (accepted_list self.now) }
     {
         &self.holder.working
     }
 
     /// Its revision: how many operations were accepted.
     pub fn revision(&self) -> u32
-        ensures { result ≡ rev (accepted_list self.now) }
+        ensures { result ≡ revision_at (accepted_list self.now) }
     {
         self.holder.revision
     }
 
     /// How many accepted operations are not published yet.
     pub fn pending(&self) -> u32
-        ensures { result ≡ rev (accepted_list self.now) - rev (published_list self.now) }
+        ensures { result ≡ revision_at (accepted_list self.now) - revision_at (published_list self.now) }
     {
         self.holder.revision - self.holder.swap.published().notice.number
     }

@@ -3,7 +3,7 @@ use Rattle.mf_live.specs.declared.sheet.Sheet.{Sheet}
 use Rattle.mf_live.specs.declared.sheet.SheetFault.{SheetFault}
 use Rattle.mf_live.specs.declared.sheet.SheetFault.TheVariants.{NoLook, OutOfMemory as NoMemory}
 use Rattle.mf_live.specs.declared.viewer.Viewer.{Viewer}
-use Rattle.mf_live.specs.Entries.{Entry, is_closed, pic, rev}
+use Rattle.mf_live.specs.Entries.{Entry, is_closed, picture_at, revision_at}
 use Rattle.mf_live.specs.Prefixes.{IsWholePrefix, longer}
 use Rattle.mf_live.specs.Sheets.{HasLooked, HasLookedAt, IsLastNotTaken, IsNotTaken, IsTaken}
 use Rattle.mf_live.specs.Viewers.{Extends, IsPublished, learnt_list, looked_at_list, looked_at_events, seen_list}
@@ -25,12 +25,14 @@ module _ {E : Type 0} (Q : E → Type 0) (before after : Viewer) (told : List En
   extends_last : (first : Viewer) → ((L : List Entry) → Extends before L → Extends first L) → HasLooked before after → Extends first told
   extends_last first earlier look = earlier told (subst (λ L. Extends before L) (looked_last before after told includes closed look) look.extends)
 
-  sheet_picture : (answer : Result Sheet E) → MatchResult answer (λ sheet. IsTaken before after sheet) Q → IfOk answer (λ sheet. sheet.picture ≡ pic told)
-  sheet_picture (Ok sheet) taken = taken.picture ∙ ap pic (looked_last before after told includes closed taken.look)
+  sheet_picture : (answer : Result Sheet E)
+    → MatchResult answer (λ sheet. IsTaken before after sheet) Q → IfOk answer (λ sheet. sheet.picture ≡ picture_at told)
+  sheet_picture (Ok sheet) taken = taken.picture ∙ ap picture_at (looked_last before after told includes closed taken.look)
   sheet_picture (Err fault) taken = tt
 
-  sheet_revision : (answer : Result Sheet E) → MatchResult answer (λ sheet. IsTaken before after sheet) Q → IfOk answer (λ sheet. sheet.revision ≡ rev told)
-  sheet_revision (Ok sheet) taken = taken.revision ∙ ap rev (looked_last before after told includes closed taken.look)
+  sheet_revision : (answer : Result Sheet E)
+    → MatchResult answer (λ sheet. IsTaken before after sheet) Q → IfOk answer (λ sheet. sheet.revision ≡ revision_at told)
+  sheet_revision (Ok sheet) taken = taken.revision ∙ ap revision_at (looked_last before after told includes closed taken.look)
   sheet_revision (Err fault) taken = tt
 
   sheet_extends : (first : Viewer) → ((L : List Entry) → Extends before L → Extends first L) → (answer : Result Sheet E)

@@ -4,10 +4,10 @@ use Rattle.mf_live.specs.declared.event.Event.TheVariants.{Close}
 use Rattle.mf_live.specs.declared.holder.Holder.{Holder}
 use Rattle.mf_live.specs.declared.version.Version.{Version}
 use Rattle.mf_live.specs.declared.view.View.{View}
-use Rattle.mf_live.specs.Entries.{Entry, entry, pic, rev, next, is_closed, End}
+use Rattle.mf_live.specs.Entries.{Entry, entry, picture_at, revision_at, next, is_closed, End}
 use Rattle.mf_live.specs.Holders.{accepted_list, published_list, version}
 use Rattle.mf_live.specs.Rule.{newcomer, with_event}
-use Rattle.mf_live.proofs.EntryLists.{pic-end, rev-end}
+use Rattle.mf_live.proofs.EntryLists.{picture_at-end, revision_at-end}
 use Rattle.mf_live.proofs.Histories.{few_unwritten, HasOneMore, one_more}
 use Rattle.mf_live.proofs.Seats.{forks}
 use Rattle.mf_live.proofs.holder.Holder.end.Goals as goal
@@ -38,8 +38,8 @@ invariant_of-self c =
       lawful = more.lawful;
       alive = more.alive;
       counted = more.counted;
-      pictured = h.pictured ∙ sym (ap pic more.accepted ∙ pic-end (accepted_list h) (next (published_list h)));
-      numbered = omega (arith, h.numbered, ap rev more.accepted, rev-end (accepted_list h) (next (published_list h)));
+      pictured = h.pictured ∙ sym (ap picture_at more.accepted ∙ picture_at-end (accepted_list h) (next (published_list h)));
+      numbered = omega (arith, h.numbered, ap revision_at more.accepted, revision_at-end (accepted_list h) (next (published_list h)));
       since = more.since;
       short = search rules;
     }

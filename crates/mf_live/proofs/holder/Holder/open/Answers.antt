@@ -6,7 +6,7 @@ use Rattle.mf_live.specs.declared.view.View.{View}
 use Rattle.mf_live.specs.Books.{most_accepted, counter_of}
 use Rattle.mf_live.specs.Rule.{events_of, history, knowledge_of}
 use Rattle.mf_live.specs.World.{Happen, new_world, world_after, accepted_of, published_of}
-use Rattle.mf_live.proofs.Blank.{pic-blank, rev-blank}
+use Rattle.mf_live.proofs.Blank.{picture_at-blank, revision_at-blank}
 use Rattle.mf_live.proofs.holder.Holder.open.Goals as goal
 
 pub invariant_of-result : goal.invariant_of-result
@@ -23,8 +23,8 @@ invariant_of-result g c =
       lawful = subst (Happen most_accepted new_world) (sym happened) tt;
       alive = ap (λ (es : List Event). (world_after new_world es).dropped) happened;
       counted = sym (ap length written);
-      pictured = c.blank-2.ensures ∙ sym (pic-blank _ (ap accepted_of happened));
-      numbered = sym (rev-blank _ (ap accepted_of happened));
+      pictured = c.blank-2.ensures ∙ sym (picture_at-blank _ (ap accepted_of happened));
+      numbered = sym (revision_at-blank _ (ap accepted_of happened));
       since = omega (arith, ap length (ap published_of shows), ap length (ap accepted_of happened));
       short = subst (λ (es : List Event). length es ≤ 2 * length (published_of es)) (sym shows) (le_refl 0);
     }

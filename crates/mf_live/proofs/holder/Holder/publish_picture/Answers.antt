@@ -5,7 +5,7 @@ use Rattle.mf_live.specs.declared.event.Event.{Event}
 use Rattle.mf_live.specs.declared.history.Knowledge.{Knowledge}
 use Rattle.mf_live.specs.declared.view.View.{View}
 use Rattle.mf_live.specs.Books.{most_accepted, counter_of}
-use Rattle.mf_live.specs.Entries.{pic, rev}
+use Rattle.mf_live.specs.Entries.{picture_at, revision_at}
 use Rattle.mf_live.specs.Holders.{accepted_list, version}
 use Rattle.mf_live.specs.Rule.{book_of, events_of, history, version_list, knowledge_of}
 use Rattle.mf_live.specs.World.{Happen, new_world, world_after, accepted_of, published_of}
@@ -44,12 +44,12 @@ invariant_of-notice g c =
     let h = c.args.self.now in
     let log = log g (goal.at.invariant_of-notice g c).After-write_publish in
     let all = ap published_of log ∙ published-publish h in
-    record { whole = ap accepted_of log ∙ accepted-publish h ∙ sym all; numbered = h.numbered ∙ ap rev (sym all) }
+    record { whole = ap accepted_of log ∙ accepted-publish h ∙ sym all; numbered = h.numbered ∙ ap revision_at (sym all) }
 
 pub invariant_of-show : goal.invariant_of-show
 invariant_of-show g c =
     let log = log g (goal.at.invariant_of-show g c).After-write_publish in
-    record { pictured = c.requires.picture ∙ ap pic (sym (ap published_of log ∙ published-publish c.args.self.now)) }
+    record { pictured = c.requires.picture ∙ ap picture_at (sym (ap published_of log ∙ published-publish c.args.self.now)) }
 
 happened : (g : _) (c : After-show g) → c.write_publish.new.prefix.knowledge.seen.log ≡ all_written c.args.self.now
     → (events_of c.show.new.swap.desk.shown.value ≡ all_written c.args.self.now)
@@ -76,8 +76,8 @@ invariant_of-self g c =
       lawful = subst (Happen most_accepted new_world) (sym happened) (Happen-publish h);
       alive = ap (λ (es : List Event). (world_after new_world es).dropped) happened ∙ alive-publish h;
       counted = sym (ap (λ (v : View). length v.unwritten) c.show.ensures.view);
-      pictured = h.pictured ∙ ap pic (sym accepts);
-      numbered = h.numbered ∙ ap rev (sym accepts);
+      pictured = h.pictured ∙ ap picture_at (sym accepts);
+      numbered = h.numbered ∙ ap revision_at (sym accepts);
       since = omega (arith, ap length accepts, ap length tells);
       short = omega (arith, ap length shows, ap length tells, length-publish h c.requires.waits);
     }

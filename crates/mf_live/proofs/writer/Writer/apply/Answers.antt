@@ -3,7 +3,7 @@ use Rattle.std.specs.Result.{MatchResult}
 use Rattle.mf_ops.specs.declared.op.Op.{Op}
 use Rattle.mf_ops.specs.declared.op.OpFault.{OpFault}
 use Rattle.mf_live.specs.declared.holder.Holder.{Holder}
-use Rattle.mf_live.specs.Entries.{entry, rev, next, is_closed, Operation}
+use Rattle.mf_live.specs.Entries.{entry, revision_at, next, is_closed, Operation}
 use Rattle.mf_live.specs.Holders.{accepted_list}
 use Rattle.mf_live.specs.Writers.{published_list}
 use Rattle.mf_live.proofs.Ending.{open-push, revision-push}
@@ -14,7 +14,7 @@ stays : (old new : Holder) (n : ℕ) (op : Op) (limit : ℕ) (r : Result (Unit {
     → MatchResult r (λ _. accepted_list new ≡ accepted_list old ++ entry n (Operation op) ∷ []) (λ _. accepted_list new ≡ accepted_list old)
     → is_closed (accepted_list old) ≡ false → old.revision < limit → (is_closed (accepted_list new) ≡ false) × (new.revision ≤ limit)
 stays old new n op limit (Ok done) more is_open room = (open-push old new n op more is_open, omega (arith, revision-push old new n op more))
-stays old new n op limit (Err fault) same is_open room = (ap is_closed same ∙ is_open, omega (arith, new.numbered, old.numbered, ap rev same))
+stays old new n op limit (Err fault) same is_open room = (ap is_closed same ∙ is_open, omega (arith, new.numbered, old.numbered, ap revision_at same))
 
 pub invariant_of-self : goal.invariant_of-self
 invariant_of-self c =
