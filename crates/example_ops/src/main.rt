@@ -3,8 +3,8 @@
 
 use anyhow::Result;
 use mf_geom::{Check, Cycle, Point};
-use mf_ops::{Cull, Op, Sign, Weight, after, apply};
-use mf_rows::Picture;
+use mf_ops::{Cull, Op, Weight, after, apply};
+use mf_rows::{Picture, Sign};
 use std::alloc::Global;
 
 fn main(rt: HostRuntime) -> Result<()> {

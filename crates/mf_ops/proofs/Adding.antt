@@ -1,6 +1,7 @@
 -- Pictures with the weights of sums, differences and culls.
 use Rattle.std.proofs.Common.{◌≡◌, ℤ, pos, List, [], refl}
 use Rattle.mf_edges.specs.declared.weight_map.WeightMap.{WeightMap}
+use Rattle.mf_rows.specs.declared.sign.Sign.TheVariants.{Plus, Minus}
 use Rattle.mf_rows.specs.Dots.{Dot, IsPicture, weight_at}
 use Rattle.mf_rows.specs.Sums.{HasWeights, difference_at, sum_at}
 use Rattle.mf_edges.specs.WeightMaps.{mapped_weight}
@@ -9,7 +10,6 @@ use Rattle.mf_ops.specs.Cull.{culled_weight}
 use Rattle.mf_ops.specs.Step.{step_at}
 use Rattle.mf_ops.specs.declared.cull.CullRule.{CullRule}
 use Rattle.mf_ops.specs.declared.op.Op.TheVariants.{Also, Cull}
-use Rattle.mf_ops.specs.declared.sign.Sign.TheVariants.{Plus, Minus}
 
 pub sum_at-plus : (ds es : List Dot) (x y : ℤ) → sum_at ds es x y ≡ step_at ds (Also es Plus) x y
 unfolding sum_at

@@ -13,6 +13,8 @@ use Rattle.mf_geom.specs.declared.check.Check.{Check}
 use Rattle.mf_geom.specs.declared.point.Point.{Point}
 use Rattle.mf_geom.specs.Field.{IsInField}
 use Rattle.mf_geom.specs.Winding.{contour, winding}
+use Rattle.mf_rows.specs.declared.sign.Sign.{Sign}
+use Rattle.mf_rows.specs.declared.sign.Sign.TheVariants.{Plus, Minus}
 use Rattle.mf_rows.specs.Dots.{Dot, IsDot, IsPicture, start_of_field, weight_at}
 use Rattle.mf_edges.specs.Axes.{opposite, PlaceStaysInside}
 use Rattle.mf_rows.proofs.DotsLemmas.{IsAt, weight_at-dot, dots_from-lawful, weight_at-outside}
@@ -27,8 +29,6 @@ use Rattle.mf_ops.specs.declared.op.Op.TheVariants.{Contour, Also, Cull, Shift, 
 use Rattle.mf_ops.specs.declared.op.OpFault.TheVariants.{OutOfField}
 use Rattle.mf_ops.specs.declared.quarter.Quarter.{Quarter}
 use Rattle.mf_ops.specs.declared.quarter.Quarter.TheVariants.{Once, Twice, Thrice}
-use Rattle.mf_ops.specs.declared.sign.Sign.{Sign}
-use Rattle.mf_ops.specs.declared.sign.Sign.TheVariants.{Plus, Minus}
 use Rattle.mf_ops.proofs.Faults.{leaves-refused, op_fault-leaves}
 use Rattle.mf_ops.proofs.Leaving.{stays_inside-true}
 use Rattle.mf_ops.proofs.Places.{scale_source-covered, scale_source-only, HasPlace-first, HasPlace-last}

@@ -8,6 +8,7 @@ use Rattle.mf_geom.specs.declared.check.Check.TheVariants.{On}
 use Rattle.mf_geom.specs.Faults.{turning_fault}
 use Rattle.mf_geom.specs.Field.{IsInField}
 use Rattle.mf_geom.specs.Winding.{contour}
+use Rattle.mf_rows.specs.declared.sign.Sign.TheVariants.{Plus, Minus}
 use Rattle.mf_rows.specs.Dots.{Dot, weight_at}
 use Rattle.mf_rows.specs.Weights.{picture_of}
 use Rattle.mf_ops.specs.Cull.{culled_weight}
@@ -16,7 +17,6 @@ use Rattle.mf_ops.specs.declared.op.Op.{Op}
 use Rattle.mf_ops.specs.declared.op.Op.TheVariants.{Contour, Also, Cull, Shift, Scale, Quarter, Clear}
 use Rattle.mf_ops.specs.declared.op.OpFault.{OpFault}
 use Rattle.mf_ops.specs.declared.op.OpFault.TheVariants.{OutOfField, WeightTooLarge}
-use Rattle.mf_ops.specs.declared.sign.Sign.TheVariants.{Plus, Minus}
 
 -- the weight of the pixel (x, y) after an operation on the picture ds
 abbrev pub step_at : List Dot → Op → ℤ → ℤ → ℤ

@@ -4,8 +4,7 @@ ghost use Rattle.mf_ops.specs.Step.{next_picture, op_fault};
 ghost use Rattle.mf_ops.specs.declared.op.Op.TheVariants.{Also};
 
 use crate::op::OpFault;
-use crate::sign::Sign;
-use mf_rows::Picture;
+use mf_rows::{Picture, Sign};
 use std::alloc::Global;
 
 /// Adds another picture to a picture, or subtracts it. A refusal leaves the picture as it was; adding or subtracting a blank

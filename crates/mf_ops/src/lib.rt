@@ -12,7 +12,6 @@ pub mod laws;
 mod op;
 mod quarter;
 mod scale;
-mod sign;
 mod transform;
 mod weight;
 
@@ -20,5 +19,4 @@ pub use cull::{BadCull, Cull};
 pub use op::{Op, OpFault, after, apply};
 pub use quarter::{BadTurn, Quarter};
 pub use scale::{BadScale, Scale};
-pub use sign::Sign;
 pub use weight::{BadWeight, Weight};

@@ -1,23 +1,22 @@
 //! Operations on pictures, and what they do to a picture.
 ghost use Rattle.std.specs.Prelude.{◌≡◌, ◌≢◌, [], None, Some, Err, IsOk, IfOk, IfErr, OnOk, OnErr};
 ghost use Rattle.mf_geom.specs.declared.cycle.CycleFault.{CycleFault};
+ghost use Rattle.mf_rows.specs.declared.sign.Sign.{Sign};
 ghost use Rattle.mf_ops.specs.Operations.{HoldsNoList};
 ghost use Rattle.mf_ops.specs.Step.{next_picture, op_fault};
 ghost use Rattle.mf_ops.specs.declared.cull.CullRule.{CullRule};
 ghost use Rattle.mf_ops.specs.declared.op.Op.TheVariants as ops;
-ghost use Rattle.mf_ops.specs.declared.sign.Sign.{Sign};
 
 use crate::add::add;
 use crate::cull::Cull;
 use crate::fill::{fill, filling_weight};
 use crate::quarter::Quarter;
 use crate::scale::Scale;
-use crate::sign::Sign;
 use crate::transform::{scale, shift, turn};
 use crate::weight::Weight;
 use mf_base::OutOfMemory;
 use mf_geom::{Check, Cycle, CycleFault};
-use mf_rows::{AddFault, Picture};
+use mf_rows::{AddFault, Picture, Sign};
 use std::alloc::Global;
 use std::error::Error;
 use std::fmt;

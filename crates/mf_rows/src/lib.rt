@@ -42,3 +42,4 @@ pub use fault::AddFault;
 pub use picture::Picture;
 pub use run::Run;
 pub use runs::Runs;
+pub use sign::Sign;

@@ -1,8 +1,10 @@
-//! Signs of what is added.
+//! The sign with which a picture is added to another.
 
-/// Whether rows are added or subtracted.
-#[derive(Clone, Copy, Debug)]
-pub(crate) enum Sign {
+/// Whether a picture is added or subtracted: METAFONT's `also p` and `also -p`.
+#[derive(Clone, Copy, Debug, PartialEq, Eq)]
+pub enum Sign {
+    /// It is added.
     Plus,
+    /// It is subtracted.
     Minus,
 }

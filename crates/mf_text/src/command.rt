@@ -1,6 +1,7 @@
 //! The commands of the language.
 use mf_geom::{Check, Cycle};
-use mf_ops::{Cull, Quarter, Scale, Sign, Weight};
+use mf_ops::{Cull, Quarter, Scale, Weight};
+use mf_rows::Sign;
 
 /// The picture that a command names.
 #[derive(Clone, Copy, Debug, PartialEq, Eq)]

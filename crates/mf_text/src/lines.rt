@@ -15,7 +15,7 @@ use crate::tokens::Tokens;
 use crate::value::{
     check, contour_command, drop_command, keep_command, scale_command, turn_command,
 };
-use mf_ops::Sign;
+use mf_rows::Sign;
 use std::alloc::Global;
 
 /// The greatest number of bytes of a line.

@@ -7,8 +7,8 @@ use super::{
 use crate::tests::assertions::assert_same;
 use mf_geom::Check;
 use mf_live::{CloseFault, Closing, Desk, Ended, Fault, SheetFault, Viewer, Writer, open_picture};
-use mf_ops::{Op, OpFault, Sign};
-use mf_rows::Picture;
+use mf_ops::{Op, OpFault};
+use mf_rows::{Picture, Sign};
 use std::alloc::Global;
 use std::process::Abort;
 use std::sync::Wait;

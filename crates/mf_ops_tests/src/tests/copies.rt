@@ -4,8 +4,8 @@ use super::{
     CLOCKWISE, RECTANGLE, accepted, assert_equal, assert_total, contour, copy_of, dropping, filled,
     keeping, scale, turn, unchecked,
 };
-use mf_ops::{Op, Sign, apply};
-use mf_rows::Picture;
+use mf_ops::{Op, apply};
+use mf_rows::{Picture, Sign};
 use std::process::Abort;
 
 /// The rectangle, with weight 2.

@@ -3,7 +3,8 @@
 use super::{dropping, keeping, read};
 use crate::tests::assertions::{assert_holds, assert_same};
 use mf_geom::Check;
-use mf_ops::{Cull, Quarter, Scale, Sign};
+use mf_ops::{Cull, Quarter, Scale};
+use mf_rows::Sign;
 use mf_text::{Command, Name, Source};
 use std::alloc::Global;
 use std::process::Abort;

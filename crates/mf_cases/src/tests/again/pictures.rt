@@ -4,8 +4,8 @@ use super::TRIES;
 use crate::tests::assertions::{assert_holds, assert_same};
 use mf_base::OutOfMemory;
 use mf_geom::{Check, Cycle, Point};
-use mf_ops::{Cull, Op, OpFault, Quarter, Scale, Sign, Weight, after};
-use mf_rows::{Picture, RowBuilder, Run};
+use mf_ops::{Cull, Op, OpFault, Quarter, Scale, Weight, after};
+use mf_rows::{Picture, RowBuilder, Run, Sign};
 use std::alloc::Global;
 use std::process::Abort;
 

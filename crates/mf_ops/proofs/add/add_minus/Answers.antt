@@ -1,7 +1,7 @@
 use Rattle.std.proofs.Common.{refl}
 use Rattle.std.proofs.lemmas.Result.{err_from_is_err_and}
+use Rattle.mf_rows.specs.declared.sign.Sign.TheVariants.{Minus}
 use Rattle.mf_ops.specs.declared.op.Op.TheVariants.{Also}
-use Rattle.mf_ops.specs.declared.sign.Sign.TheVariants.{Minus}
 use Rattle.mf_ops.proofs.Adding.{difference_at-minus}
 use Rattle.mf_ops.proofs.Faults.{HasWeights-same, IsUnlawfulSomewhere-same, made-from_weights, op_fault-sum_fault, stays_anyway}
 use Rattle.mf_ops.proofs.add.add_minus.Goals as goal

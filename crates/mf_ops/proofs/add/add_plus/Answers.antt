@@ -1,7 +1,7 @@
 use Rattle.std.proofs.Common.{refl}
 use Rattle.std.proofs.lemmas.Result.{err_from_is_err_and}
+use Rattle.mf_rows.specs.declared.sign.Sign.TheVariants.{Plus}
 use Rattle.mf_ops.specs.declared.op.Op.TheVariants.{Also}
-use Rattle.mf_ops.specs.declared.sign.Sign.TheVariants.{Plus}
 use Rattle.mf_ops.proofs.Adding.{sum_at-plus}
 use Rattle.mf_ops.proofs.Faults.{HasWeights-same, IsUnlawfulSomewhere-same, made-from_weights, op_fault-sum_fault, stays_anyway}
 use Rattle.mf_ops.proofs.add.add_plus.Goals as goal

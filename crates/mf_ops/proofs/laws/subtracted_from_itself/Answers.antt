@@ -1,8 +1,8 @@
 use Rattle.std.proofs.Common.{[], sym, arith}
 use Rattle.std.proofs.lemmas.Int.{ints}
+use Rattle.mf_rows.specs.declared.sign.Sign.TheVariants.{Minus}
 use Rattle.mf_rows.specs.Dots.{weight_at}
 use Rattle.mf_ops.specs.declared.op.Op.TheVariants.{Also}
-use Rattle.mf_ops.specs.declared.sign.Sign.TheVariants.{Minus}
 use Rattle.mf_ops.proofs.Adding.{IsPicture-blank}
 use Rattle.mf_ops.proofs.Faults.{next_picture-from_weights}
 use Rattle.mf_ops.proofs.laws.subtracted_from_itself.Goals as goal

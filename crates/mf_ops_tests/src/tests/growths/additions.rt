@@ -4,8 +4,7 @@ use super::plan::Plan;
 use super::{APART, assert_applies, assert_makes};
 use crate::tests::{CLOCKWISE, Corners, RECTANGLE};
 use mf_geom::Check;
-use mf_ops::Sign;
-use mf_rows::Run;
+use mf_rows::{Run, Sign};
 
 /// The rows after the rectangle is filled with weight 2.
 const FILLED: &[Run] = &[

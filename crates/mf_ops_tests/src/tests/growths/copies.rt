@@ -4,8 +4,7 @@ use super::APART;
 use super::plan::Plan;
 use crate::tests::RECTANGLE;
 use mf_geom::Check;
-use mf_ops::Sign;
-use mf_rows::Picture;
+use mf_rows::{Picture, Sign};
 use mf_testing::{grow_again, refuse_growths};
 use std::process::Abort;
 

@@ -7,8 +7,8 @@ use crate::tests::contours::built;
 use crate::tests::turning::{EIGHT, SPIKE};
 use crate::tests::{RECTANGLE, assert_refused, assert_runs};
 use mf_geom::{Check, CycleFault};
-use mf_ops::{Op, OpFault, Sign, after};
-use mf_rows::{Picture, Run};
+use mf_ops::{Op, OpFault, after};
+use mf_rows::{Picture, Run, Sign};
 use mf_testing::{grow_again, refuse_all_growths};
 use std::process::Abort;
 

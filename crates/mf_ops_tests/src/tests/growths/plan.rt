@@ -6,8 +6,8 @@ use crate::tests::{
     Corners, assert_runs, copy_of, cycle, dropping, keeping, scale, turn, walk, weight,
 };
 use mf_geom::Check;
-use mf_ops::{Op, Sign};
-use mf_rows::{Picture, Run};
+use mf_ops::Op;
+use mf_rows::{Picture, Run, Sign};
 use std::process::Abort;
 
 /// An operation, given by its parts: corners, runs and numbers.
