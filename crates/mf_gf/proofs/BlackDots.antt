@@ -4,15 +4,16 @@ use Rattle.std.specs.Prelude.{int_lt}
 use Rattle.std.specs.List.{All, flat_map}
 use Rattle.std.proofs.lemmas.Bool.{cond-true, cond-false, cond_both}
 use Rattle.std.proofs.lemmas.Int.{ints}
-use Rattle.std.proofs.lemmas.List.Elements.{All-nil, All-cons, All-head, All-tail}
+use Rattle.std.proofs.lemmas.List.Elements.{All-nil, All-cons}
 use Rattle.mf_rows.specs.declared.run.Run.{Run}
 use Rattle.mf_edges.specs.LawfulWeights.{IsLawfulWeight}
 use Rattle.mf_rows.specs.Dots.{Dot, IsPicture, AreDotsFrom, place, start_of_field}
-use Rattle.mf_rows.specs.Order.{IsRun}
+use Rattle.mf_rows.specs.Order.{IsRun, AreRunsFrom}
 use Rattle.mf_rows.specs.Runs.{equal_dots, dots_of, runs_of}
 use Rattle.mf_rows.proofs.DotsLemmas.{dots_from-lower}
 use Rattle.mf_rows.proofs.RunsLemmas.{dots_of-runs_of}
-use Rattle.mf_rows.proofs.PassedRuns.{lawful_runs_of}
+use Rattle.mf_rows.proofs.PassedRuns.{ordered_runs_of}
+use Rattle.mf_rows.proofs.RunDots.{runs_from-lower}
 use Rattle.mf_gf.specs.Ahead.{blacks, AreBlackRuns}
 use Rattle.mf_gf.specs.Pixels.{black}
 
@@ -81,15 +82,15 @@ as_black r run = record {
   nonzero = λ none. omega (arith, ints);
 }
 
-blacks-lawful : (rs : List Run) → All IsRun rs → All IsRun (blacks rs)
-unfolding blacks
-blacks-lawful [] runs = All-nil IsRun
-blacks-lawful (r ∷ rs) runs =
-    let others = blacks-lawful rs (All-tail IsRun r rs runs) in
-    let first : Run = record { y = r.y; x = r.x; len = r.len; weight = pos 1 } in
-    cond_both (int_lt (pos 0) r.weight) (first ∷ blacks rs) (blacks rs) (All IsRun)
-    (λ yes. All-cons IsRun first (blacks rs) (as_black r (All-head IsRun r rs runs)) others)
-    (λ no. others)
+blacks-from : (low : ℤ) (rs : List Run) → AreRunsFrom low rs → AreRunsFrom low (blacks rs)
+unfolding blacks place
+blacks-from low [] runs = tt
+blacks-from low (r ∷ rs) runs =
+    let end = place (r.x +ℤ pos r.len) r.y in
+    let others = blacks-from end rs runs.2 in
+    cond_both (int_lt (pos 0) r.weight) (record { y = r.y; x = r.x; len = r.len; weight = pos 1 } ∷ blacks rs) (blacks rs) (AreRunsFrom low)
+    (λ yes. (as_black r runs.0, runs.1, others))
+    (λ no. runs_from-lower low end (blacks rs) (omega (arith, ints, runs.1)) others)
 
 blacks-ones : (rs : List Run) → All IsBlack (blacks rs)
 unfolding blacks
@@ -102,10 +103,8 @@ blacks-ones (r ∷ rs) =
 
 pub blacks_in_order : (ds : List Dot) → IsPicture ds → AreBlackRuns (blacks (runs_of ds))
 blacks_in_order ds picture = record {
-  runs = blacks-lawful (runs_of ds) (lawful_runs_of ds picture);
+  order = record { runs = blacks-from start_of_field (runs_of ds) (ordered_runs_of ds picture).runs };
   ones = blacks-ones (runs_of ds);
-  low = start_of_field;
-  dots = rw (black-blacks ds) (black_picture ds picture).dots;
 }
 
 -- ---- the runs of an iterator, passed one after another

@@ -1,36 +1,30 @@
 -- Stretches that are lengthened by the runs that continue them.
 use Rattle.std.proofs.Common.{◌≡◌, ℕ, zero, suc, ◌+◌, ◌≤◌, ℤ, pos, ◌+ℤ◌, Option, None, Some, List, [], ◌∷◌, ◌++◌, refl, sym, ap, ◌∙◌, subst, arith}
-use Rattle.std.specs.List.{All, flat_map}
-use Rattle.std.proofs.lemmas.Bool.{cond_both}
+use Rattle.std.specs.List.{flat_map}
 use Rattle.std.proofs.lemmas.Int.{ints}
 use Rattle.std.proofs.lemmas.List.{append_assoc}
-use Rattle.std.proofs.lemmas.List.Elements.{All-nil, All-cons, All-head, All-tail}
+use Rattle.std.proofs.lemmas.List.Elements.{All-cons, All-head, All-tail, All-weaker}
 use Rattle.mf_rows.specs.declared.run.Run.{Run}
-use Rattle.mf_rows.specs.Dots.{Dot, AreDotsFrom, place}
-use Rattle.mf_rows.specs.Order.{IsRun}
-use Rattle.mf_rows.specs.Runs.{equal_dots, dots_of, continues, run_from, with_dot, runs_of, IsFollowedBy, AreMaximal}
+use Rattle.mf_rows.specs.Dots.{Dot, place}
+use Rattle.mf_rows.specs.Order.{IsRun, AreRunsFrom}
+use Rattle.mf_rows.specs.Runs.{equal_dots, dots_of, run_from, runs_of, with_next, IsFollowedBy, AreMaximal}
 use Rattle.mf_rows.proofs.MaximalRuns.{runs_of-dots_of}
-use Rattle.mf_rows.proofs.RunsLemmas.{dots_of-runs_of, maximal_runs_of, runs_of-first}
-use Rattle.mf_gf.specs.Ahead.{AreBlackRuns, with_next}
+use Rattle.mf_rows.proofs.PassedRuns.{lawful_runs_of}
+use Rattle.mf_rows.proofs.RunDots.{picture-runs, runs-rest}
+use Rattle.mf_rows.proofs.RunsLemmas.{dots_of-runs_of, maximal_runs_of, runs_of-first, with_next-some}
+use Rattle.mf_gf.specs.Ahead.{AreBlackRuns}
 use Rattle.mf_gf.proofs.BlackDots.{IsBlack}
 
 -- ---- runs in order
 
--- dots that come after others are in order, too
-dots_behind : (low : ℤ) (ds es : List Dot) → AreDotsFrom low (ds ++ es) → (p : ℤ) × AreDotsFrom p es
-dots_behind low [] es dots = (low, dots)
-dots_behind low (d ∷ ds) es dots = dots_behind (place d.x d.y +ℤ pos 1) ds es dots.2
-
-pub order_behind : (r : Run) (rs : List Run) → AreBlackRuns (r ∷ rs) → AreBlackRuns rs
-order_behind r rs ordered =
-    let behind = dots_behind ordered.low (dots_of r) (flat_map dots_of rs) ordered.dots in
-    record { runs = All-tail IsRun r rs ordered.runs; ones = All-tail IsBlack r rs ordered.ones; low = behind.0; dots = behind.1 }
+pub blacks-rest : (r : Run) (rs : List Run) → AreBlackRuns (r ∷ rs) → AreBlackRuns rs
+blacks-rest r rs blacks = record { order = runs-rest r rs blacks.order; ones = All-tail IsBlack r rs blacks.ones }
 
 -- ---- a stretch so far
 
 -- a stretch and the runs ahead together have the dots of all these runs
 pub record IsBegun (all : List Run) (r : Run) (rs : List Run) : Type 0 where
-  pub order : AreBlackRuns (r ∷ rs)
+  pub blacks : AreBlackRuns (r ∷ rs)
   pub same : flat_map dots_of (r ∷ rs) ≡ flat_map dots_of all
 
 -- two stretches side by side are one
@@ -70,48 +64,33 @@ lengthened_run r s run further next = record {
 
 -- such a run lengthens the stretch
 pub lengthened : (all : List Run) (r s : Run) (rs : List Run) → IsAdjacent r s → IsBegun all r (s ∷ rs) → IsBegun all (with_more r s) rs
+unfolding place
 lengthened all r s rs next so_far =
-    let ordered = so_far.order in
-    let behind = order_behind r (s ∷ rs) ordered in
-    let one = All-head IsBlack r (s ∷ rs) ordered.ones in
-    let joined = dots_of-joined r s (one ∙ sym (All-head IsBlack s rs behind.ones)) next in
+    let runs = so_far.blacks.order.runs in
+    let one = All-head IsBlack r (s ∷ rs) so_far.blacks.ones in
+    let ones = All-tail IsBlack r (s ∷ rs) so_far.blacks.ones in
+    let joined = dots_of-joined r s (one ∙ sym (All-head IsBlack s rs ones)) next in
     let dots : flat_map dots_of (with_more r s ∷ rs) ≡ flat_map dots_of (r ∷ s ∷ rs) =
     ap (λ first. first ++ flat_map dots_of rs) joined ∙ append_assoc (dots_of r) (dots_of s) (flat_map dots_of rs) in
-    let run = lengthened_run r s (All-head IsRun r (s ∷ rs) ordered.runs) (All-head IsRun s rs behind.runs) next in
+    let end : place (s.x +ℤ pos s.len) s.y ≡ place (r.x +ℤ pos (r.len + s.len)) r.y = rw (next.row, next.column) (omega (arith, ints)) in
+    let others = subst (λ low. AreRunsFrom low rs) end runs.2.2 in
     record {
-      order = record {
-        runs = All-cons IsRun (with_more r s) rs run (All-tail IsRun s rs behind.runs);
-        ones = All-cons IsBlack (with_more r s) rs one (All-tail IsBlack s rs behind.ones);
-        low = ordered.low;
-        dots = subst (AreDotsFrom ordered.low) (sym dots) ordered.dots;
+      blacks = record {
+        order = record { runs = (lengthened_run r s runs.0 runs.2.0 next, runs.1, others) };
+        ones = All-cons IsBlack (with_more r s) rs one (All-tail IsBlack s rs ones);
       };
       same = dots ∙ so_far.same;
     }
 
 -- ---- a stretch that nothing continues
 
-abbrev HasLength : Run → Type 0
-HasLength r = 1 ≤ r.len
-
-some_with_dot : (d : Dot) (rs : List Run) → All HasLength rs → All HasLength (with_dot d rs)
-unfolding with_dot run_from
-some_with_dot d [] some = All-cons HasLength (run_from d 0) [] (omega arith) some
-some_with_dot d (r ∷ rs) some =
-    cond_both (continues d r) (run_from d r.len ∷ rs) (run_from d 0 ∷ r ∷ rs) (All HasLength)
-    (λ yes. All-cons HasLength (run_from d r.len) rs (omega arith) (All-tail HasLength r rs some))
-    (λ no. All-cons HasLength (run_from d 0) (r ∷ rs) (omega arith) some)
-
-some_of_runs : (ds : List Dot) → All HasLength (runs_of ds)
-unfolding runs_of
-some_of_runs [] = All-nil HasLength
-some_of_runs (d ∷ ds) = some_with_dot d (runs_of ds) (some_of_runs ds)
-
 -- a stretch is the first of the runs where the next run does not continue it
 stretch_first : (all : List Run) (r : Run) (rs : List Run) → AreMaximal (r ∷ runs_of (flat_map dots_of rs)) → IsBegun all r rs
     → runs_of (flat_map dots_of all) ≡ r ∷ runs_of (flat_map dots_of rs)
 stretch_first all r rs maximal so_far =
     let dots = flat_map dots_of rs in
-    let some = All-cons HasLength r (runs_of dots) (All-head IsRun r rs so_far.order.runs).some (some_of_runs dots) in
+    let lawful = All-cons IsRun r (runs_of dots) so_far.blacks.order.runs.0 (lawful_runs_of dots (picture-runs rs (runs-rest r rs so_far.blacks.order))) in
+    let some = All-weaker IsRun (λ run. 1 ≤ run.len) (λ run is_run. is_run.some) (r ∷ runs_of dots) lawful in
     ap runs_of (sym so_far.same ∙ ap (λ others. dots_of r ++ others) (sym (dots_of-runs_of dots)))
     ∙ runs_of-dots_of (r ∷ runs_of dots) some maximal
 
@@ -135,37 +114,32 @@ ended_before : (all : List Run) (r s : Run) (rs : List Run) → (IsAdjacent r s 
     → runs_of (flat_map dots_of all) ≡ r ∷ runs_of (flat_map dots_of (s ∷ rs))
 unfolding dots_of
 ended_before all r s rs apart so_far =
-    let behind = All-head IsRun s rs (order_behind r (s ∷ rs) so_far.order).runs in
     let maximal =
-    maximal_apart r s.y s.x s.weight s.len (flat_map dots_of rs) behind.some
+    maximal_apart r s.y s.x s.weight s.len (flat_map dots_of rs) so_far.blacks.order.runs.2.0.some
     (λ followed. apart (record { row = sym followed.row; column = sym followed.column })) in
     stretch_first all r (s ∷ rs) maximal so_far
 
 -- ---- a stretch before the next black run of an iterator
-
-next_first : (o : Option Run) (s : Run) (rs : List Run) → o ≡ Some s → with_next o rs ≡ s ∷ rs
-next_first o s rs some = rw some refl
 
 pub begun_before : (all : List Run) (r : Run) (o : Option Run) (rs others : List Run) → rs ≡ with_next o others → IsBegun all r rs
     → IsBegun all r (with_next o others)
 begun_before all r o rs others ahead so_far = subst (IsBegun all r) ahead so_far
 
 pub next_is_run : (all : List Run) (r s : Run) (o : Option Run) (rs : List Run) → o ≡ Some s → IsBegun all r (with_next o rs) → IsRun s
-next_is_run all r s o rs some so_far =
-    All-head IsRun s rs (subst (All IsRun) (next_first o s rs some) (order_behind r (with_next o rs) so_far.order).runs)
+next_is_run all r s o rs some so_far = (subst (IsBegun all r) (with_next-some o s rs some) so_far).blacks.order.runs.2.0
 
 pub first_is_run : (all : List Run) (r : Run) (rs : List Run) → IsBegun all r rs → IsRun r
-first_is_run all r rs so_far = All-head IsRun r rs so_far.order.runs
+first_is_run all r rs so_far = so_far.blacks.order.runs.0
 
 pub one_more_joined : (all : List Run) (r s : Run) (o : Option Run) (rs : List Run) → o ≡ Some s → IsAdjacent r s
     → IsBegun all r (with_next o rs) → IsBegun all (with_more r s) rs
-one_more_joined all r s o rs some next so_far = lengthened all r s rs next (subst (IsBegun all r) (next_first o s rs some) so_far)
+one_more_joined all r s o rs some next so_far = lengthened all r s rs next (subst (IsBegun all r) (with_next-some o s rs some) so_far)
 
 -- the stretch ends where the next run does not continue it
 pub ended_at_run : (all : List Run) (r s : Run) (o : Option Run) (rs : List Run) → o ≡ Some s → (IsAdjacent r s → ⊥) → IsBegun all r (with_next o rs)
     → runs_of (flat_map dots_of all) ≡ r ∷ runs_of (flat_map dots_of (with_next o rs))
 ended_at_run all r s o rs some apart so_far =
-    let first = next_first o s rs some in
+    let first = with_next-some o s rs some in
     rw first (ended_before all r s rs apart (subst (IsBegun all r) first so_far))
 
 -- the stretch also ends where there is no next run

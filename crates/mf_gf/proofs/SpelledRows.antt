@@ -6,11 +6,9 @@ use Rattle.std.proofs.lemmas.List.{append-nil}
 use Rattle.std.proofs.lemmas.List.Elements.{All-head, All-same, All-rest}
 use Rattle.mf_geom.specs.Coordinates.{IsCoordinate}
 use Rattle.mf_rows.specs.declared.run.Run.{Run}
-use Rattle.mf_rows.specs.Dots.{Dot, IsPicture, AreDotsFrom}
+use Rattle.mf_rows.specs.Dots.{Dot}
 use Rattle.mf_rows.specs.Order.{IsRun}
 use Rattle.mf_rows.specs.Runs.{runs_of}
-use Rattle.mf_rows.proofs.PlacesLemmas.{start_of_field-le}
-use Rattle.mf_rows.proofs.PassedRuns.{lawful_runs_of}
 use Rattle.mf_gf.specs.declared.boxes.CharacterBox.{CharacterBox}
 use Rattle.mf_gf.specs.declared.spelling.Spelling.{Spelling}
 use Rattle.mf_gf.specs.Boxes.{box_of_pixels}
@@ -18,15 +16,6 @@ use Rattle.mf_gf.specs.Format as gf
 use Rattle.mf_gf.specs.Spelling.{approach, begin, paint, spell, stretches_text}
 use Rattle.mf_gf.specs.Spellings.{Holds}
 use Rattle.mf_gf.proofs.Writing.{Writes, write_both, write_same}
-
--- lawful dots in reading order are a picture, wherever they start
-pub picture_from : (low : ℤ) (ds : List Dot) → AreDotsFrom low ds → IsPicture ds
-picture_from low [] dots = record { dots = tt }
-picture_from low (d ∷ ds) dots = record { dots = (dots.0, start_of_field-le d.x d.y dots.0.in_field, dots.2) }
-
--- each stretch of a picture is a run
-pub stretches_are_runs : (ds : List Dot) → IsPicture ds → All IsRun (runs_of ds)
-stretches_are_runs ds picture = lawful_runs_of ds picture
 
 -- the stretches still to come, from a position of the machine and in a box with this left end
 pub record Coming : Type 0 where

@@ -1,9 +1,8 @@
 -- What an iterator over stretches of black pixels still has ahead.
-use Rattle.std.specs.Prelude.{◌≡◌, pos, ℤ, int_lt, All, List, [], ◌∷◌, flat_map, Option, None, Some, if◌then◌else◌}
+use Rattle.std.specs.Prelude.{◌≡◌, pos, int_lt, All, List, [], ◌∷◌, flat_map, if◌then◌else◌}
 use Rattle.mf_rows.specs.declared.run.Run.{Run}
-use Rattle.mf_rows.specs.Dots.{AreDotsFrom}
-use Rattle.mf_rows.specs.Order.{IsRun}
-use Rattle.mf_rows.specs.Runs.{dots_of, runs_of}
+use Rattle.mf_rows.specs.Order.{AreRuns}
+use Rattle.mf_rows.specs.Runs.{dots_of, runs_of, with_next}
 use Rattle.mf_gf.specs.declared.stretches.Stretches.{Stretches}
 
 -- the runs of positive weight among these, as runs of weight 1
@@ -11,16 +10,10 @@ unfoldable pub blacks : List Run → List Run
 blacks [] = []
 blacks (r ∷ rs) = if int_lt (pos 0) r.weight then record { y = r.y; x = r.x; len = r.len; weight = pos 1 } ∷ blacks rs else blacks rs
 
-abbrev pub with_next : Option Run → List Run → List Run
-with_next None rs = []
-with_next (Some r) rs = r ∷ rs
-
--- the runs are lawful, have weight 1 and are in reading order
+-- runs of weight 1 in reading order
 pub record AreBlackRuns (rs : List Run) : Type 0 where
-  pub runs : All IsRun rs
+  pub order : AreRuns rs
   pub ones : All (λ (r : Run). r.weight ≡ pos 1) rs
-  pub low : ℤ
-  pub dots : AreDotsFrom low (flat_map dots_of rs)
 
 -- the black runs that an iterator still has ahead
 abbrev pub blacks_ahead : Stretches → List Run

@@ -1,9 +1,9 @@
 //! The stretches of black pixels of a picture, one after another.
 ghost use Rattle.std.specs.Prelude.{◌≡◌, ◌∷◌, flat_map};
-ghost use Rattle.mf_gf.specs.Ahead.{AreBlackRuns, blacks, blacks_ahead, stretches_left, with_next};
+ghost use Rattle.mf_gf.specs.Ahead.{AreBlackRuns, blacks, blacks_ahead, stretches_left};
 ghost use Rattle.mf_gf.specs.Pixels.{black};
 ghost use Rattle.mf_rows.specs.Dots.{IsPicture};
-ghost use Rattle.mf_rows.specs.Runs.{dots_of, runs_of};
+ghost use Rattle.mf_rows.specs.Runs.{dots_of, runs_of, with_next};
 
 use mf_rows::{Picture, Run, Runs};
 

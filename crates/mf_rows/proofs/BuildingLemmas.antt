@@ -13,8 +13,7 @@ use Rattle.mf_rows.specs.Building.{open_row, open_rows, EndInRow, EndsBefore, Ha
 use Rattle.mf_rows.specs.Dots.{place, start_of_field}
 use Rattle.mf_edges.specs.Edges.{weight_in}
 use Rattle.mf_rows.specs.EdgeRows.{EdgeRow, IsEdgeRow, AreRows, weight_in_rows, picture_of_rows}
-use Rattle.mf_rows.specs.Order.{IsRun, Fits}
-use Rattle.mf_rows.specs.Places.{AreBefore}
+use Rattle.mf_rows.specs.Order.{AreBefore, IsRun, Fits}
 use Rattle.mf_rows.specs.Runs.{dots_of}
 use Rattle.mf_rows.proofs.DotsLemmas.{dots_from-lawful, weight_at-dot, weight_at-after}
 use Rattle.mf_rows.proofs.EdgeRowsLemmas.{weight_in_rows-append, weight_in_rows-here, weight_in_rows-elsewhere, weight_in_rows-above}
@@ -202,7 +201,7 @@ above_run (first ∷ others) r lawful fits not_there =
     let rows = first ∷ others in
     let last = get_or rows (length rows - 1) first in
     let is_last = last_is_last rows first (omega arith) in
-    let ends = ends_before_from_pixels (open_rows rows) is_last.front (open_row last) r is_last.all lawful fits.run fits.after in
+    let ends = ends_before_from_pixels (open_rows rows) is_last.front (open_row last) r is_last.all lawful fits.run fits.before in
     let apart : last.y ≢ r.y =
     λ same. not_there (record { some = omega arith; last = λ d. ap (λ row. row.y) (get_or_default rows (length rows - 1) d first (omega arith)) ∙ same }) in
     let below : r.y <ℤ last.y = by_lt_z r.y last.y (λ below. below) (λ no_below. let up = ends.row in absurd (apart (omega (arith, ints)))) in

@@ -8,7 +8,7 @@ use Rattle.std.proofs.lemmas.Int.{ints}
 use Rattle.std.proofs.lemmas.List.Elements.{All-head, All-tail, All-cons, All-nil, All-weaker}
 use Rattle.mf_geom.specs.Field.{IsInField}
 use Rattle.mf_rows.specs.Dots.{Dot, IsDot, IsPicture, AreDotsFrom, place, start_of_field, weight_at}
-use Rattle.mf_rows.specs.Places.{AreBefore}
+use Rattle.mf_rows.specs.Order.{AreBefore}
 
 -- a dot is at the pixel (x, y)
 pub record IsAt (d : Dot) (x y : ℤ) : Type 0 where

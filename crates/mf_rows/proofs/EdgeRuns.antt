@@ -12,12 +12,12 @@ use Rattle.mf_rows.specs.declared.run.Run.{Run}
 use Rattle.mf_edges.specs.LawfulWeights.{IsLawfulWeight}
 use Rattle.mf_rows.specs.Dots.{place, weight_at}
 use Rattle.mf_edges.specs.Edges.{AreEdges, weight_in, AreEdgesFrom}
-use Rattle.mf_rows.specs.Order.{IsRun}
+use Rattle.mf_rows.specs.Order.{IsRun, AreRunsFrom}
 use Rattle.mf_rows.specs.Rest.{IsRestOfRow}
 use Rattle.mf_rows.specs.Runs.{dots_of, AreMaximal}
 use Rattle.mf_rows.specs.Walk.{runs_of_edges}
 use Rattle.mf_edges.proofs.EdgesLemmas.{weight_in-left, weight_in-before, edges_from-lower}
-use Rattle.mf_rows.proofs.RunDots.{AreRunsFrom, runs_from-lower, weight_at-left_of, weight_at-on_first, weight_at-off_first, maximal-cons, place-le}
+use Rattle.mf_rows.proofs.RunDots.{runs_from-lower, weight_at-left_of, weight_at-on_first, weight_at-off_first, maximal-cons, place-le}
 
 -- ---- what is left of a row
 

@@ -6,11 +6,12 @@ use Rattle.std.proofs.lemmas.Int.{ints}
 use Rattle.std.proofs.lemmas.List.Elements.{All-head, All-tail, All-cons, All-nil}
 use Rattle.mf_rows.specs.declared.run.Run.{Run}
 use Rattle.mf_rows.specs.Dots.{Dot, IsPicture, place, start_of_field, weight_at}
+use Rattle.mf_rows.specs.Order.{AreRunsFrom}
 use Rattle.mf_rows.specs.Runs.{equal_dots, dots_of, continues, run_from, with_dot, runs_of, AreMaximal, IsFollowedBy, IsMaximalRun}
 use Rattle.mf_rows.proofs.RunsLemmas.{continued, dots_of-runs_of, maximal_runs_of}
 use Rattle.mf_rows.proofs.DotsLemmas.{weight_at-before}
-use Rattle.mf_rows.proofs.PassedRuns.{runs_from-runs_of}
-use Rattle.mf_rows.proofs.RunDots.{IsOnRun, AreRunsFrom, runs_from-lower, dots_from-runs, weight_at-left_of, weight_at-on_first, weight_at-off_first}
+use Rattle.mf_rows.proofs.PassedRuns.{ordered_runs_of}
+use Rattle.mf_rows.proofs.RunDots.{IsOnRun, runs_from-lower, dots_from-runs, weight_at-left_of, weight_at-on_first, weight_at-off_first}
 
 -- a dot that the first run does not follow is a run of its own
 with_dot-alone : (d : Dot) (rs : List Run) → AreMaximal (run_from d 0 ∷ rs) → with_dot d rs ≡ run_from d 0 ∷ rs
@@ -135,4 +136,4 @@ longest low (r ∷ rs) runs maximal =
 pub longest_runs : (ds : List Dot) → IsPicture ds → All (IsMaximalRun ds) (runs_of ds)
 longest_runs ds picture =
     subst (λ es. All (IsMaximalRun es) (runs_of ds)) (dots_of-runs_of ds)
-    (longest start_of_field (runs_of ds) (runs_from-runs_of start_of_field ds picture.dots) (maximal_runs_of ds))
+    (longest start_of_field (runs_of ds) (ordered_runs_of ds picture).runs (maximal_runs_of ds))

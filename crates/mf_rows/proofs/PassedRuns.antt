@@ -8,9 +8,9 @@ use Rattle.std.proofs.lemmas.List.Elements.{All-head, All-rest, All-same}
 use Rattle.mf_geom.specs.Coordinates.{greatest_coordinate}
 use Rattle.mf_rows.specs.declared.run.Run.{Run}
 use Rattle.mf_rows.specs.Dots.{Dot, IsDot, IsPicture, AreDotsFrom, place, start_of_field}
-use Rattle.mf_rows.specs.Order.{IsRun}
+use Rattle.mf_rows.specs.Order.{IsRun, AreRunsFrom, AreRuns}
 use Rattle.mf_rows.specs.Runs.{dots_of, continues, run_from, with_dot, runs_of}
-use Rattle.mf_rows.proofs.RunDots.{AreRunsFrom, runs_from-lower, runs_from-lawful}
+use Rattle.mf_rows.proofs.RunDots.{runs_from-lower, runs_from-lawful}
 use Rattle.mf_rows.proofs.RunsLemmas.{continued, dots_of-runs_of}
 
 -- a run that begins at a dot is lawful where it ends in the field
@@ -42,13 +42,16 @@ runs_from-with_dot low d (r ∷ rs) dot le runs =
     (run_from_dot d 0 dot (omega (arith, ints, dot.in_field.right)), le, others))
 
 -- the runs of dots in reading order are in reading order, lie in the field, and have lawful weights
-pub runs_from-runs_of : (low : ℤ) (ds : List Dot) → AreDotsFrom low ds → AreRunsFrom low (runs_of ds)
+runs_from-runs_of : (low : ℤ) (ds : List Dot) → AreDotsFrom low ds → AreRunsFrom low (runs_of ds)
 unfolding runs_of
 runs_from-runs_of low [] dots = tt
 runs_from-runs_of low (d ∷ ds) dots = runs_from-with_dot low d (runs_of ds) dots.0 dots.1 (runs_from-runs_of (place d.x d.y +ℤ pos 1) ds dots.2)
 
+pub ordered_runs_of : (ds : List Dot) → IsPicture ds → AreRuns (runs_of ds)
+ordered_runs_of ds picture = record { runs = runs_from-runs_of start_of_field ds picture.dots }
+
 pub lawful_runs_of : (ds : List Dot) → IsPicture ds → All IsRun (runs_of ds)
-lawful_runs_of ds picture = runs_from-lawful start_of_field (runs_of ds) (runs_from-runs_of start_of_field ds picture.dots)
+lawful_runs_of ds picture = runs_from-lawful start_of_field (runs_of ds) (ordered_runs_of ds picture).runs
 
 pub runs_are_lawful : (ds : List Dot) (rs : List Run) → IsPicture ds → rs ≡ runs_of ds → All IsRun rs
 runs_are_lawful ds rs picture all = rw all (lawful_runs_of ds picture)

@@ -4,10 +4,10 @@ use Rattle.std.specs.List.{flat_map}
 use Rattle.std.proofs.lemmas.Int.{ints}
 use Rattle.std.proofs.lemmas.List.Elements.{All-nil, All-cons, All-weaker}
 use Rattle.mf_geom.specs.Coordinates.{least_coordinate, greatest_coordinate, last_in_field}
-use Rattle.mf_rows.specs.Dots.{IsPicture, place, start_of_field, weight_at}
+use Rattle.mf_rows.specs.Dots.{place, start_of_field, weight_at}
 use Rattle.mf_edges.specs.Edges.{weight_in}
 use Rattle.mf_rows.specs.EdgeRows.{EdgeRow, IsEdgeRow, AreRowsFrom, AreRows, weight_in_rows, picture_of_rows}
-use Rattle.mf_rows.specs.Order.{IsRun}
+use Rattle.mf_rows.specs.Order.{IsRun, AreRunsFrom, AreRuns}
 use Rattle.mf_rows.specs.Rest.{AreEdgeRows}
 use Rattle.mf_rows.specs.Runs.{dots_of, runs_of, AreMaximal}
 use Rattle.mf_rows.specs.Sums.{HasWeights}
@@ -16,7 +16,7 @@ use Rattle.mf_rows.proofs.EdgeRuns.{runs_of_row}
 use Rattle.mf_rows.proofs.EdgeRowsLemmas.{weight_in_rows-here, weight_in_rows-elsewhere, weight_in_rows-below, rows_from-below, picture_of_rows-from_weights}
 use Rattle.mf_rows.proofs.MaximalRuns.{runs_of-dots_of}
 use Rattle.mf_rows.proofs.RowSums.{by_same}
-use Rattle.mf_rows.proofs.RunDots.{AreRunsFrom, runs_from-lower, runs_from-lawful, dots_from-runs}
+use Rattle.mf_rows.proofs.RunDots.{runs_from-lower, runs_from-lawful, picture-runs}
 
 -- each row is lawful
 pub edge_rows_from : (top : ℤ) (rs : List EdgeRow) → AreRowsFrom top rs → AreEdgeRows rs
@@ -52,9 +52,9 @@ unfolding start_of_field place
 runs_of-picture_of_rows rs rows =
     let runs = runs_of_rows rs in
     let all = runs_below greatest_coordinate rs rows.rows in
-    let from = runs_from-lower start_of_field (place greatest_coordinate greatest_coordinate) runs (omega (arith, ints)) all.from in
-    let picture : IsPicture (flat_map dots_of runs) = record { dots = dots_from-runs start_of_field runs from } in
+    let ordered : AreRuns runs =
+    record { runs = runs_from-lower start_of_field (place greatest_coordinate greatest_coordinate) runs (omega (arith, ints)) all.from } in
     let weights : HasWeights (weight_in_rows rs) (flat_map dots_of runs) = record { weights = λ x y inside. all.weights x y inside.left inside.right } in
-    let lawful = runs_from-lawful (place greatest_coordinate greatest_coordinate) runs all.from in
-    ap runs_of (sym (picture_of_rows-from_weights (flat_map dots_of runs) rs picture weights))
+    let lawful = runs_from-lawful start_of_field runs ordered.runs in
+    ap runs_of (sym (picture_of_rows-from_weights (flat_map dots_of runs) rs (picture-runs runs ordered) weights))
     ∙ runs_of-dots_of runs (All-weaker IsRun (λ r. 1 ≤ r.len) (λ r run. run.some) runs lawful) all.maximal

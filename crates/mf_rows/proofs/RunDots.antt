@@ -9,8 +9,7 @@ use Rattle.mf_geom.specs.Coordinates.{last_in_field}
 use Rattle.mf_rows.specs.declared.run.Run.{Run}
 use Rattle.mf_edges.specs.LawfulWeights.{IsLawfulWeight}
 use Rattle.mf_rows.specs.Dots.{Dot, IsPicture, AreDotsFrom, place, start_of_field, weight_at}
-use Rattle.mf_rows.specs.Order.{IsRun, Fits}
-use Rattle.mf_rows.specs.Places.{AreBefore}
+use Rattle.mf_rows.specs.Order.{AreBefore, IsRun, AreRunsFrom, AreRuns, Fits}
 use Rattle.mf_rows.specs.Runs.{equal_dots, dots_of, AreMaximal}
 use Rattle.mf_rows.proofs.DotsLemmas.{weight_at-here, weight_at-elsewhere, weight_at-before, not_at, dots_from-lower, dots_from-append}
 use Rattle.mf_rows.proofs.PlacesLemmas.{AreFieldColumns, first_column, next_columns, place-next, start_of_field-le}
@@ -32,7 +31,7 @@ picture-push ds r picture fits =
     let start = start_of_field-le r.x r.y (record { left = run.left; right = omega (arith, ints, run.right, run.some); bottom = run.bottom; top = run.top }) in
     let columns : AreFieldColumns r.x r.y r.len = record { left = run.left; right = run.right; bottom = run.bottom; top = run.top } in
     let own = equal_dots-from r.y r.x r.weight r.len columns run.lawful run.nonzero in
-    record { dots = dots_from-append start_of_field (place r.x r.y) ds (equal_dots r.y r.x r.weight r.len) start picture.dots fits.after own }
+    record { dots = dots_from-append start_of_field (place r.x r.y) ds (equal_dots r.y r.x r.weight r.len) start picture.dots fits.before own }
 
 -- a pixel of a run
 pub record IsOnRun (r : Run) (x y : ℤ) : Type 0 where
@@ -84,7 +83,7 @@ pub weight_at-on_run : (ds : List Dot) (r : Run) (x y : ℤ) → Fits ds r → I
 unfolding dots_of
 weight_at-on_run ds r x y fits on =
     let further = place-le r.x x r.y on.left in
-    let before = All-weaker (λ d. place d.x d.y <ℤ place r.x r.y) (λ d. place d.x d.y <ℤ place x r.y) (λ d lower. omega (arith, ints)) ds fits.after in
+    let before = All-weaker (λ d. place d.x d.y <ℤ place r.x r.y) (λ d. place d.x d.y <ℤ place x r.y) (λ d lower. omega (arith, ints)) ds fits.before in
     subst (λ v. weight_at (ds ++ equal_dots r.y r.x r.weight r.len) x v ≡ r.weight) on.row
     (weight_at-append_after ds (equal_dots r.y r.x r.weight r.len) x r.y before ∙ weight_at-equal_dots r.y r.x r.weight r.len x on.left on.right)
 
@@ -104,11 +103,6 @@ before_equal_dots-end y x w (suc n) p end =
 
 -- ---- runs in reading order
 
--- runs of the field, none of which begins before the one before it ends, the first of them from a place on
-abbrev pub AreRunsFrom : ℤ → List Run → Type 0
-AreRunsFrom low [] = Unit {0}
-AreRunsFrom low (r ∷ rs) = IsRun r × (low ≤ℤ place r.x r.y) × AreRunsFrom (place (r.x +ℤ pos r.len) r.y) rs
-
 pub runs_from-lower : (low high : ℤ) (rs : List Run) → low ≤ℤ high → AreRunsFrom high rs → AreRunsFrom low rs
 runs_from-lower low high [] le runs = tt
 runs_from-lower low high (r ∷ rs) le runs = let start : high ≤ℤ place r.x r.y = runs.1 in (runs.0, omega (arith, ints), runs.2)
@@ -117,7 +111,12 @@ pub runs_from-lawful : (low : ℤ) (rs : List Run) → AreRunsFrom low rs → Al
 runs_from-lawful low [] runs = All-nil IsRun
 runs_from-lawful low (r ∷ rs) runs = All-cons IsRun r rs runs.0 (runs_from-lawful (place (r.x +ℤ pos r.len) r.y) rs runs.2)
 
--- their dots are in reading order, too
+-- the runs after the first are in reading order, too
+pub runs-rest : (r : Run) (rs : List Run) → AreRuns (r ∷ rs) → AreRuns rs
+unfolding place
+runs-rest r rs ordered = record { runs = runs_from-lower start_of_field (place (r.x +ℤ pos r.len) r.y) rs (omega (arith, ints, ordered.runs.1)) ordered.runs.2 }
+
+-- and so are the dots of the runs
 pub dots_from-runs : (low : ℤ) (rs : List Run) → AreRunsFrom low rs → AreDotsFrom low (flat_map dots_of rs)
 unfolding dots_of
 dots_from-runs low [] runs = tt
@@ -132,6 +131,9 @@ dots_from-runs low (r ∷ rs) runs =
     (dots_from-lower low (place r.x r.y) (equal_dots r.y r.x r.weight r.len) start own)
     (before_equal_dots-end r.y r.x r.weight r.len end (omega (arith, ints)))
     (dots_from-runs end rs runs.2)
+
+pub picture-runs : (rs : List Run) → AreRuns rs → IsPicture (flat_map dots_of rs)
+picture-runs rs ordered = record { dots = dots_from-runs start_of_field rs ordered.runs }
 
 -- to the left of the first run of its row a pixel has weight 0
 pub weight_at-left_of : (x y u : ℤ) (rs : List Run) → AreRunsFrom (place x y) rs → u <ℤ x → weight_at (flat_map dots_of rs) u y ≡ pos 0

@@ -1,5 +1,5 @@
 -- The runs of dots.
-use Rattle.std.proofs.Common.{◌≡◌, ℕ, suc, Bool, true, false, if◌then◌else◌, pos, ◌+ℤ◌, List, [], ◌∷◌, ◌++◌, drop, refl, sym, ap, ◌∙◌, arith}
+use Rattle.std.proofs.Common.{◌≡◌, ℕ, suc, Bool, true, false, if◌then◌else◌, pos, ◌+ℤ◌, Option, Some, List, [], ◌∷◌, ◌++◌, drop, refl, sym, ap, ◌∙◌, arith}
 use Rattle.std.specs.Bool.{Decides}
 use Rattle.std.specs.List.{flat_map}
 use Rattle.std.proofs.lemmas.Bool.{false≢true, cond_both}
@@ -7,7 +7,7 @@ use Rattle.std.proofs.lemmas.Bool.Decides.{Decides-int_eq, Decides-and, Decides-
 use Rattle.std.proofs.lemmas.Int.{ints}
 use Rattle.mf_rows.specs.declared.run.Run.{Run}
 use Rattle.mf_rows.specs.Dots.{Dot}
-use Rattle.mf_rows.specs.Runs.{equal_dots, dots_of, continues, run_from, with_dot, runs_of, IsFollowedBy, AreMaximal}
+use Rattle.mf_rows.specs.Runs.{equal_dots, dots_of, continues, run_from, with_dot, runs_of, with_next, IsFollowedBy, AreMaximal}
 
 -- a dot continues a run exactly where the run follows that of the dot alone
 pub continued : (d : Dot) (r : Run) → Decides (continues d r) (IsFollowedBy (run_from d 0) r)
@@ -82,6 +82,10 @@ runs_of-first d [] = refl
 runs_of-first d (e ∷ es) =
     ap (with_dot d) (runs_of-first e es)
     ∙ first_split (continues d (run_from e 0)) d e es (run_from e (more_after e es)) (more_after e es) (sym (runs_of-first e es))
+
+-- the run that an iterator returned is the first
+pub with_next-some : (o : Option Run) (r : Run) (rs : List Run) → o ≡ Some r → with_next o rs ≡ r ∷ rs
+with_next-some o r rs some = rw some refl
 
 -- what `runs_are_maximal` says
 pub ruleset maximal_runs = (dots_of-runs_of, maximal_runs_of)

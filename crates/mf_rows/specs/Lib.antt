@@ -25,7 +25,6 @@ pub mod Order
 pub mod Owned
 pub mod PixelsOfRows
 pub mod Piles
-pub mod Places
 pub mod Rest
 pub mod RowChanges
 pub mod RowLists

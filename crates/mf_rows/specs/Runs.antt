@@ -1,5 +1,5 @@
 -- Runs: maximal stretches of pixels of one nonzero weight in one row.
-use Rattle.std.specs.Prelude.{◌≡◌, ◌≢◌, ◌<◌, ◌≤◌, ℕ, zero, suc, ◌&&◌, Bool, ℤ, pos, ◌+ℤ◌, ◌-ℤ◌, List, [], ◌∷◌, if◌then◌else◌}
+use Rattle.std.specs.Prelude.{◌≡◌, ◌≢◌, ◌<◌, ◌≤◌, ℕ, zero, suc, ◌&&◌, Bool, ℤ, pos, ◌+ℤ◌, ◌-ℤ◌, List, [], ◌∷◌, Option, None, Some, if◌then◌else◌}
 use Rattle.std.specs.Ordering.{int_eq}
 use Rattle.mf_rows.specs.declared.run.Run.{Run}
 use Rattle.mf_rows.specs.Dots.{Dot, weight_at}
@@ -30,6 +30,11 @@ with_dot d (r ∷ rs) = if continues d r then run_from d r.len ∷ rs else (run_
 unfoldable pub runs_of : List Dot → List Run
 runs_of [] = []
 runs_of (d ∷ ds) = with_dot d (runs_of ds)
+
+-- the run that an iterator returned, and the runs after it: there are none where it returned none
+abbrev pub with_next : Option Run → List Run → List Run
+with_next None rs = []
+with_next (Some r) rs = r ∷ rs
 
 -- a run is followed by another that would continue it: same row, same weight, from the column after its last
 pub record IsFollowedBy (r s : Run) : Type 0 where

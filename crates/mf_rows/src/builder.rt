@@ -5,8 +5,7 @@ ghost use Rattle.mf_rows.specs.Building.{open_row, open_rows, EndInRow, EndAt, E
 ghost use Rattle.mf_rows.specs.Dots.{place};
 ghost use Rattle.mf_edges.specs.Edges.{AreEdges};
 ghost use Rattle.mf_rows.specs.EdgeRows.{AreRows, picture_of_rows};
-ghost use Rattle.mf_rows.specs.Order.{IsRun, Fits};
-ghost use Rattle.mf_rows.specs.Places.{AreBefore};
+ghost use Rattle.mf_rows.specs.Order.{AreBefore, IsRun, Fits};
 ghost use Rattle.mf_rows.specs.Runs.{dots_of};
 
 use crate::picture::Picture;

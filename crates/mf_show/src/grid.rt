@@ -4,8 +4,9 @@ ghost use Rattle.mf_geom.specs.Coordinates.{least_coordinate, last_in_field};
 ghost use Rattle.mf_rows.specs.Bounds.{IsLeastBox};
 ghost use Rattle.mf_rows.specs.Boxes.{IsBoxOfField};
 ghost use Rattle.mf_rows.specs.Dots.{place};
+ghost use Rattle.mf_rows.specs.Order.{AreRuns};
 ghost use Rattle.mf_show.specs.Grid.{IsLargerThan, IsTooLargeForGrid, extent, grid_character, grid_text, row_text};
-ghost use Rattle.mf_show.specs.RunsAhead.{runs_ahead, dots_ahead, AreInOrder, AreSameFrom};
+ghost use Rattle.mf_show.specs.RunsAhead.{runs_ahead, dots_ahead, AreSameFrom};
 
 mod weights;
 
@@ -90,12 +91,12 @@ fn push_row(
     first: i32,
     last: i32,
 ) -> Result<(), OutOfMemory>
-    requires order { AreInOrder (runs_ahead weights.old) }
+    requires order { AreRuns (runs_ahead weights.old) }
     requires least { least_coordinate ≤ℤ first }
     requires greatest { last ≤ℤ last_in_field }
     requires columns { first ≤ℤ last }
     ensures text { IfOk result (λ _. text.new.items ≡ text.old.items ++ row_text (dots_ahead weights.old) y first (extent first last) ++ codes "\n") }
-    ensures order { IfOk result (λ _. AreInOrder (runs_ahead weights.new)) }
+    ensures order { IfOk result (λ _. AreRuns (runs_ahead weights.new)) }
     ensures later { IfOk result (λ _. AreSameFrom (place (last +ℤ pos 1) y) (dots_ahead weights.old) (dots_ahead weights.new)) }
 {
     for x in first..last + 1 {

@@ -2,9 +2,9 @@
 ghost use Rattle.std.specs.Prelude.{◌≡◌, ◌↔◌, IsTrue, IfSome, pos, ◌≤ℤ◌, ◌+ℤ◌};
 ghost use Rattle.mf_geom.specs.Coordinates.{least_coordinate, last_in_field};
 ghost use Rattle.mf_rows.specs.Dots.{IsPicture, place, weight_at};
-ghost use Rattle.mf_rows.specs.Order.{IsRun};
+ghost use Rattle.mf_rows.specs.Order.{AreRuns, IsRun};
 ghost use Rattle.mf_rows.specs.Runs.{dots_of, runs_of};
-ghost use Rattle.mf_show.specs.RunsAhead.{runs_ahead, dots_ahead, AreInOrder, AreSameFrom, IsNotBefore};
+ghost use Rattle.mf_show.specs.RunsAhead.{runs_ahead, dots_ahead, AreSameFrom, IsNotBefore};
 
 use mf_rows::{Picture, Run, Runs};
 
@@ -31,10 +31,10 @@ impl<'a> Weights<'a> {
     /// forgotten.
     #[tactic(auto, using(crate::proofs::PassedPixels::taken_is_lawful))]
     pub(crate) fn weight(&mut self, x: i32, y: i32) -> i32
-        requires order { AreInOrder (runs_ahead self.old) }
+        requires order { AreRuns (runs_ahead self.old) }
         requires left { least_coordinate ≤ℤ x }
         requires right { x ≤ℤ last_in_field }
-        ensures order { AreInOrder (runs_ahead self.new) }
+        ensures order { AreRuns (runs_ahead self.new) }
         ensures weight { result ≡ weight_at (dots_ahead self.old) x y }
         ensures later { AreSameFrom (place x y) (dots_ahead self.old) (dots_ahead self.new) }
     {
@@ -48,10 +48,10 @@ impl<'a> Weights<'a> {
     /// Passes the runs that end before a pixel.
     #[tactic(auto, using(crate::proofs::PassedPixels::none_passed, crate::proofs::PassedPixels::taken_is_lawful, crate::proofs::PassedPixels::fewer_ahead))]
     fn pass(&mut self, x: i32, y: i32)
-        requires order { AreInOrder (runs_ahead self.old) }
+        requires order { AreRuns (runs_ahead self.old) }
         requires left { least_coordinate ≤ℤ x }
         requires right { x ≤ℤ last_in_field }
-        ensures order { AreInOrder (runs_ahead self.new) }
+        ensures order { AreRuns (runs_ahead self.new) }
         ensures reach { IfSome self.new.run (IsNotBefore x y) }
         ensures later { AreSameFrom (place x y) (dots_ahead self.old) (dots_ahead self.new) }
     {

@@ -17,7 +17,7 @@ push_run-requires-clause-edges c =
 pub push_run-requires-clause-after : goal.push_run-requires-clause-after
 push_run-requires-clause-after c =
     let last = last_is_last c.args.rows.now c.index-rows-last.result c.requires.last.some in
-    (ends_before_from_pixels _ _ _ _ last.all c.requires.rows c.requires.fits.run c.requires.fits.after).columns
+    (ends_before_from_pixels _ _ _ _ last.all c.requires.rows c.requires.fits.run c.requires.fits.before).columns
     (c.requires.last.last c.index-rows-last.result)
 
 pushed : (c : After-push_run) → OnOk c.push_run.result
