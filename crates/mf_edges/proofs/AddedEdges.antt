@@ -57,17 +57,17 @@ edges_from-set low (f ∷ es) (suc at) e d from lt edge same = (from.0, from.1, 
 edges_from-insert : (low : ℤ) (es : List Edge) (at : ℕ) (e : Edge) → AreEdgesFrom low es → at ≤ length es → IsEdge e
     → low ≤ℤ e.x → ((k : ℕ) → k < at → (get_or es k e).x <ℤ e.x) → ((k : ℕ) → at ≤ k → k < length es → e.x <ℤ (get_or es k e).x)
     → AreEdgesFrom low (insert es at e)
-edges_from-insert low [] zero e from le edge right before behind = (edge, right, tt)
-edges_from-insert low [] (suc at) e from le edge right before behind = absurd (omega (arith, le))
-edges_from-insert low (f ∷ es) zero e from le edge right before behind =
-    let after = behind 0 (omega arith) (omega arith) in
-    (edge, right, (from.0, omega (arith, ints, after), from.2))
-edges_from-insert low (f ∷ es) (suc at) e from le edge right before behind =
+edges_from-insert low [] zero e from le edge right before after = (edge, right, tt)
+edges_from-insert low [] (suc at) e from le edge right before after = absurd (omega (arith, le))
+edges_from-insert low (f ∷ es) zero e from le edge right before after =
+    let next = after 0 (omega arith) (omega arith) in
+    (edge, right, (from.0, omega (arith, ints, next), from.2))
+edges_from-insert low (f ∷ es) (suc at) e from le edge right before after =
     let first = before 0 (omega arith) in (
       from.0,
       from.1,
       edges_from-insert (f.x +ℤ pos 1) es at e from.2 (omega arith) edge (omega (arith, ints, first))
-          (λ k lt. before (suc k) (omega arith)) (λ k ge lt. behind (suc k) (omega arith) (omega arith)),
+          (λ k lt. before (suc k) (omega arith)) (λ k ge lt. after (suc k) (omega arith) (omega arith)),
     )
 
 -- ---- the weight of an edge
@@ -164,8 +164,8 @@ pub none_there : (es : List Edge) (x : ℤ) (at : ℕ) → AreOpenEdges es → I
 none_there es x at edges parted k d lt same =
     let sides = parted (searchable_from_sorted int_cmp_total (λ (e : Edge). e.x) es x (columns_sorted es edges)) in
     let before : k < at → (get_or es k d).x <ℤ x = λ below. int_ranked _ x _ (sym (sides.0 k d (omega arith) below)) in
-    let behind : at ≤ k → x <ℤ (get_or es k d).x = λ over. int_ranked _ x _ (sym (sides.1 k d over lt)) in
-    grind (arith, ints, before, behind, same)
+    let after : at ≤ k → x <ℤ (get_or es k d).x = λ over. int_ranked _ x _ (sym (sides.1 k d over lt)) in
+    grind (arith, ints, before, after, same)
 
 -- a weight of 0 changes nothing
 pub nothing_added : (es : List Edge) (x : ℤ) → HaveWeights (with_edge_in es x (pos 0)) es

@@ -11,14 +11,14 @@ use Rattle.mf_edges.specs.declared.edge.Edge.{Edge}
 use Rattle.mf_edges.specs.Edges.{AreEdgesFrom, weight_in}
 use Rattle.mf_edges.specs.Totals.{edges_total}
 
--- an edge at or behind the last of these columns adds nothing to them
+-- an edge at or after the last of these columns adds nothing to them
 columns_before : (x w : ℤ) (n : ℕ) → (least_coordinate +ℤ pos n) ≤ℤ x → sum_below n (λ i. cond (int_le x (least_coordinate +ℤ pos i)) w (pos 0)) ≡ pos 0
 unfolding sum_below
-columns_before x w zero behind = refl
-columns_before x w (suc n) behind =
-    let left : int_le x (least_coordinate +ℤ pos n) ≡ false = grind (arith, ints, behind) in
+columns_before x w zero after = refl
+columns_before x w (suc n) after =
+    let left : int_le x (least_coordinate +ℤ pos n) ≡ false = grind (arith, ints, after) in
     let own = cond-false (int_le x (least_coordinate +ℤ pos n)) w (pos 0) left in
-    omega (arith, ints, own, columns_before x w n (omega (arith, ints, behind)))
+    omega (arith, ints, own, columns_before x w n (omega (arith, ints, after)))
 
 -- and elsewhere its weight to each column from its own on
 columns_from : (x w : ℤ) (n : ℕ) → least_coordinate ≤ℤ x → x ≤ℤ (least_coordinate +ℤ pos n)

@@ -19,27 +19,27 @@ use Rattle.mf_edges.proofs.Sources.{target_of-lt, source_of-reached, source_of-f
 -- ---- an edge among others
 
 -- an edge that comes after others
-edge_behind : (low : ℤ) (before : List Edge) (e : Edge) (behind : List Edge) → AreEdgesFrom low (before ++ e ∷ behind) → IsEdge e × (low ≤ℤ e.x)
-edge_behind low [] e behind edges = (edges.0, edges.1)
-edge_behind low (d ∷ before) e behind edges =
-    let next = edge_behind (d.x +ℤ pos 1) before e behind edges.2 in
+edge_after : (low : ℤ) (before : List Edge) (e : Edge) (after : List Edge) → AreEdgesFrom low (before ++ e ∷ after) → IsEdge e × (low ≤ℤ e.x)
+edge_after low [] e after edges = (edges.0, edges.1)
+edge_after low (d ∷ before) e after edges =
+    let next = edge_after (d.x +ℤ pos 1) before e after edges.2 in
     let start : low ≤ℤ d.x = edges.1 in
     (next.0, omega (arith, ints, next.1))
 
 -- an edge changes the weight at its column by its own weight
-weight_changes : (low : ℤ) (before : List Edge) (e : Edge) (behind : List Edge)
-    → AreEdgesFrom low (before ++ e ∷ behind) → weight_in (before ++ e ∷ behind) e.x ≡ weight_in (before ++ e ∷ behind) (e.x -ℤ pos 1) +ℤ e.weight
-weight_changes low [] e behind edges =
-    let here = weight_in-left e behind e.x (omega (arith, ints)) in
-    let none_here = weight_in-before (e.x +ℤ pos 1) behind e.x edges.2 (omega (arith, ints)) in
-    let left = weight_in-right e behind (e.x -ℤ pos 1) (omega (arith, ints)) in
-    let none_left = weight_in-before (e.x +ℤ pos 1) behind (e.x -ℤ pos 1) edges.2 (omega (arith, ints)) in
+weight_changes : (low : ℤ) (before : List Edge) (e : Edge) (after : List Edge)
+    → AreEdgesFrom low (before ++ e ∷ after) → weight_in (before ++ e ∷ after) e.x ≡ weight_in (before ++ e ∷ after) (e.x -ℤ pos 1) +ℤ e.weight
+weight_changes low [] e after edges =
+    let here = weight_in-left e after e.x (omega (arith, ints)) in
+    let none_here = weight_in-before (e.x +ℤ pos 1) after e.x edges.2 (omega (arith, ints)) in
+    let left = weight_in-right e after (e.x -ℤ pos 1) (omega (arith, ints)) in
+    let none_left = weight_in-before (e.x +ℤ pos 1) after (e.x -ℤ pos 1) edges.2 (omega (arith, ints)) in
     omega (arith, ints)
-weight_changes low (d ∷ before) e behind edges =
-    let next = edge_behind (d.x +ℤ pos 1) before e behind edges.2 in
-    let here = weight_in-left d (before ++ e ∷ behind) e.x (omega (arith, ints, next.1)) in
-    let left = weight_in-left d (before ++ e ∷ behind) (e.x -ℤ pos 1) (omega (arith, ints, next.1)) in
-    let change = weight_changes (d.x +ℤ pos 1) before e behind edges.2 in
+weight_changes low (d ∷ before) e after edges =
+    let next = edge_after (d.x +ℤ pos 1) before e after edges.2 in
+    let here = weight_in-left d (before ++ e ∷ after) e.x (omega (arith, ints, next.1)) in
+    let left = weight_in-left d (before ++ e ∷ after) (e.x -ℤ pos 1) (omega (arith, ints, next.1)) in
+    let change = weight_changes (d.x +ℤ pos 1) before e after edges.2 in
     omega (arith, ints)
 
 -- ---- columns that are reflected
@@ -115,7 +115,7 @@ module _ (es before left : List Edge) (e : Edge) (new : List Edge) (last : left 
   here = so_far.all ∙ (ap (λ t. t ++ so_far.passed) last ∙ append_assoc before (e ∷ []) so_far.passed)
 
   pub last_edge : AreEdges es → IsEdge e
-  last_edge edges = (edge_behind least_coordinate before e so_far.passed (subst (AreEdgesFrom least_coordinate) here edges.sorted)).0
+  last_edge edges = (edge_after least_coordinate before e so_far.passed (subst (AreEdgesFrom least_coordinate) here edges.sorted)).0
 
   -- its weight is the difference of two lawful weights
   pub last_weight : AreEdges es → IsChange e.weight
@@ -176,7 +176,7 @@ stretched-sorted s low new (e ∷ es) stretch right edges inside =
       record { left = in_range.least; right = in_range.greatest; nonzero = edges.0.nonzero },
       right e.x edges.1 in_range,
       stretched-sorted s (e.x +ℤ pos 1) (target_of s e.x +ℤ pos 1) es stretch
-          (λ x behind reached. let after = target_of-lt s e.x x stretch (omega (arith, ints)) in omega (arith, ints))
+          (λ x after reached. let target = target_of-lt s e.x x stretch (omega (arith, ints)) in omega (arith, ints))
           edges.2 (All-tail (λ e. IsCoordinate (target_of s e.x)) e es inside),
     )
 

@@ -14,7 +14,7 @@ use Rattle.mf_edges.specs.Merging.{unless_zero}
 use Rattle.mf_edges.specs.RowChanges.{image_in, AreChanged}
 use Rattle.mf_edges.specs.WeightMaps.{mapped_weight, IsWeightMap}
 use Rattle.mf_edges.proofs.EdgesLemmas.{weight_in-left, weight_in-right, weight_in-before}
-use Rattle.mf_edges.proofs.EdgeSums.{with_edge_in-before, with_edge_in-behind, weight_in-push, sorted_push, before_push, zero_lawful, IsColumnFrom}
+use Rattle.mf_edges.proofs.EdgeSums.{with_edge_in-before, with_edge_in-after, weight_in-push, sorted_push, before_push, zero_lawful, IsColumnFrom}
 
 -- to the left of a column, the new edges have the mapped weights of a row, the rest of whose edges are still to come;
 -- from the column on, the row without the rest has the running weight, and the new edges have its image
@@ -38,8 +38,8 @@ mapped_none m es row map = record {
   sorted = tt;
   before = All-nil (λ e. e.x <ℤ least_coordinate);
   weights = λ x before. sym (ap (mapped_weight m) (weight_in-before least_coordinate es x row.sorted before) ∙ map.zero);
-  sum = λ x behind. omega (arith, ints);
-  running = λ x behind. refl;
+  sum = λ x after. omega (arith, ints);
+  running = λ x after. refl;
   lawful = zero_lawful;
   image_is = sym map.zero;
 }
@@ -52,10 +52,10 @@ mapped_read m es mapped i d weight image inside so_far = subst (λ rest. IsMappe
 mapped_where_none : (m : WeightMap) (es mapped rest : List Edge) (weight image : ℤ)
     → IsMappedSoFar m es (mapped, image) (rest, weight) → (x : ℤ) → weight_in rest x ≡ pos 0 → weight_in mapped x ≡ mapped_weight m (weight_in es x)
 mapped_where_none m es mapped rest weight image so_far x none =
-    by_lt_z x so_far.low (so_far.weights x) (λ behind.
-    let sum = so_far.sum x behind in
+    by_lt_z x so_far.low (so_far.weights x) (λ after.
+    let sum = so_far.sum x after in
     let weight_is : weight ≡ weight_in es x = omega (arith, ints) in
-    so_far.running x behind ∙ (so_far.image_is ∙ ap (mapped_weight m) weight_is))
+    so_far.running x after ∙ (so_far.image_is ∙ ap (mapped_weight m) weight_is))
 
 module _ (m : WeightMap) (es mapped : List Edge) (e : Edge) (rest : List Edge) (weight image : ℤ)
     (so_far : IsMappedSoFar m es (mapped, image) (e ∷ rest, weight)) where
@@ -74,9 +74,9 @@ module _ (m : WeightMap) (es mapped : List Edge) (e : Edge) (rest : List Edge) (
 
   module _ (next : ℤ) (next_is : next ≡ mapped_weight m (weight +ℤ e.weight)) where
     running_more : (x : ℤ) → e.x ≤ℤ x → weight_in (mapped ++ unless_zero (record { x = e.x; weight = next -ℤ image })) x ≡ next
-    running_more x behind =
+    running_more x after =
         let old = so_far.running x (omega (arith, ints, reach.from)) in
-        let more = weight_in-push mapped e.x (next -ℤ image) x ∙ with_edge_in-behind mapped e.x (next -ℤ image) x behind in
+        let more = weight_in-push mapped e.x (next -ℤ image) x ∙ with_edge_in-after mapped e.x (next -ℤ image) x after in
         omega (arith, ints)
 
     weights_before : (x : ℤ) → x <ℤ e.x → weight_in (mapped ++ unless_zero (record { x = e.x; weight = next -ℤ image })) x ≡ mapped_weight m (weight_in es x)
@@ -95,12 +95,12 @@ module _ (m : WeightMap) (es mapped : List Edge) (e : Edge) (rest : List Edge) (
       rest = so_far.rest.2;
       sorted = sorted_push mapped so_far.low e.x (next -ℤ image) so_far.sorted so_far.before reach;
       before = before_push mapped so_far.low e.x (next -ℤ image) so_far.before reach.from;
-      weights = λ x before. by_lt_z x e.x (weights_before x) (λ behind. weights_here x (omega (arith, ints)));
-      sum = λ x behind.
+      weights = λ x before. by_lt_z x e.x (weights_before x) (λ after. weights_here x (omega (arith, ints)));
+      sum = λ x after.
           let old = so_far.sum x (omega (arith, ints, reach.from)) in
           let first = weight_in-left e rest x (omega (arith, ints)) in
           omega (arith, ints);
-      running = λ x behind. running_more x (omega (arith, ints));
+      running = λ x after. running_more x (omega (arith, ints));
       lawful = lawful_more row;
       image_is = next_is;
     }

@@ -28,15 +28,15 @@ with_edge_in-before es x w c left =
     let test : int_le x c ≡ false = grind (arith, ints) in
     rw (cond-false (int_le x c) w (pos 0) test) (omega (arith, ints))
 
-pub with_edge_in-behind : (es : List Edge) (x w c : ℤ) → x ≤ℤ c → with_edge_in es x w c ≡ weight_in es c +ℤ w
+pub with_edge_in-after : (es : List Edge) (x w c : ℤ) → x ≤ℤ c → with_edge_in es x w c ≡ weight_in es c +ℤ w
 unfolding with_edge_in
-with_edge_in-behind es x w c right =
+with_edge_in-after es x w c right =
     let test : int_le x c ≡ true = grind (arith, ints) in
     ap (λ w. weight_in es c +ℤ w) (cond-true (int_le x c) w (pos 0) test)
 
 with_edge_in-none : (es : List Edge) (x c : ℤ) → with_edge_in es x (pos 0) c ≡ weight_in es c
 with_edge_in-none es x c =
-    by_lt_z c x (with_edge_in-before es x (pos 0) c) (λ right. with_edge_in-behind es x (pos 0) c right ∙ omega (arith, ints))
+    by_lt_z c x (with_edge_in-before es x (pos 0) c) (λ right. with_edge_in-after es x (pos 0) c right ∙ omega (arith, ints))
 
 -- ---- the edges at a column
 
@@ -45,7 +45,7 @@ split_first e es x left here = record {
   weights = record {
     weights = λ c. by_lt_z c x
         (λ before. weight_in-right e es c (omega (arith, ints)) ∙ sym (with_edge_in-before es x e.weight c before))
-        (λ behind. let whole = weight_in-left e es c (omega (arith, ints)) in let split = with_edge_in-behind es x e.weight c behind in omega (arith, ints));
+        (λ after. let whole = weight_in-left e es c (omega (arith, ints)) in let split = with_edge_in-after es x e.weight c after in omega (arith, ints));
   };
   difference = All-head (λ e. IsDifference e.weight) e es left.differences;
   left = record { sorted = rw (← here) left.sorted.2; differences = All-tail (λ e. IsDifference e.weight) e es left.differences };
@@ -59,17 +59,17 @@ split_here es e others x left is here = rw is (split_first e others x (subst (Ar
 pub begins_elsewhere : (es : List Edge) (e : Edge) (others : List Edge) (x : ℤ) → es ≡ e ∷ others → e.x ≢ x → BeginAt x es → ⊥
 begins_elsewhere es e others x is apart here = apart (subst (BeginAt x) is here)
 
-begins_behind : (es : List Edge) (x : ℤ) → AreEdgesFrom x es → (BeginAt x es → ⊥) → AreEdgesFrom (x +ℤ pos 1) es
-begins_behind [] x sorted apart = tt
-begins_behind (e ∷ es) x sorted apart =
+begins_after : (es : List Edge) (x : ℤ) → AreEdgesFrom x es → (BeginAt x es → ⊥) → AreEdgesFrom (x +ℤ pos 1) es
+begins_after [] x sorted apart = tt
+begins_after (e ∷ es) x sorted apart =
     let start : x ≤ℤ e.x = sorted.1 in
     (sorted.0, by_lt_z x e.x (λ lt. omega (arith, ints)) (λ le. absurd (apart (omega (arith, ints)))), sorted.2)
 
-pub split_behind : (es : List Edge) (x : ℤ) → AreEdgesLeft x es → (BeginAt x es → ⊥) → IsSplitAt es x (pos 0) es
-split_behind es x left apart = record {
+pub split_after : (es : List Edge) (x : ℤ) → AreEdgesLeft x es → (BeginAt x es → ⊥) → IsSplitAt es x (pos 0) es
+split_after es x left apart = record {
   weights = record { weights = λ c. sym (with_edge_in-none es x c) };
   difference = record { least = omega (arith, ints); greatest = omega (arith, ints) };
-  left = record { sorted = begins_behind es x left.sorted apart; differences = left.differences };
+  left = record { sorted = begins_after es x left.sorted apart; differences = left.differences };
   no_longer = omega arith;
   shorter = λ here. absurd (apart here);
 }

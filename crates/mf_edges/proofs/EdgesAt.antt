@@ -23,19 +23,19 @@ weight_in-take low (e ∷ es) zero d x from lt left = sym (weight_in-before e.x 
 weight_in-take low (e ∷ es) (suc at) d x from lt left = omega (arith, ints, weight_in-take (e.x +ℤ pos 1) es at d x from.2 (omega arith) left)
 
 -- and from there on the weight just to the left of it
-pub weight_in-take_behind : (low : ℤ) (es : List Edge) (at : ℕ) (d : Edge) (x : ℤ) → AreEdgesFrom low es → at < length es
+pub weight_in-take_after : (low : ℤ) (es : List Edge) (at : ℕ) (d : Edge) (x : ℤ) → AreEdgesFrom low es → at < length es
     → (get_or es at d).x ≤ℤ x → weight_in (take at es) x ≡ weight_in es ((get_or es at d).x -ℤ pos 1)
 unfolding weight_in
-weight_in-take_behind low [] at d x from lt behind = absurd (omega (arith, lt))
-weight_in-take_behind low (e ∷ es) zero d x from lt behind =
+weight_in-take_after low [] at d x from lt after = absurd (omega (arith, lt))
+weight_in-take_after low (e ∷ es) zero d x from lt after =
     sym (weight_in-before e.x (e ∷ es) (e.x -ℤ pos 1) (from.0, omega (arith, ints), from.2) (omega (arith, ints)))
-weight_in-take_behind low (e ∷ es) (suc at) d x from lt behind =
+weight_in-take_after low (e ∷ es) (suc at) d x from lt after =
     let here = get_or es at d in
     let right = (edges_from-at (e.x +ℤ pos 1) es at d from.2 (omega arith)).1 in
     omega (
       arith,
       ints,
-      weight_in-take_behind (e.x +ℤ pos 1) es at d x from.2 (omega arith) behind,
+      weight_in-take_after (e.x +ℤ pos 1) es at d x from.2 (omega arith) after,
       weight_in-left e (take at es) x (omega (arith, ints, right)),
       weight_in-left e es (here.x -ℤ pos 1) (omega (arith, ints, right)),
     )
@@ -69,9 +69,9 @@ step_at_edge low (e ∷ es) (suc at) d from lt =
 pub weight_in-take_more : (es : List Edge) (at : ℕ) (d : Edge) (x : ℤ) → at < length es → (get_or es at d).x ≤ℤ x
     → weight_in (take (at + 1) es) x ≡ weight_in (take at es) x +ℤ (get_or es at d).weight
 unfolding weight_in
-weight_in-take_more es at d x lt behind =
+weight_in-take_more es at d x lt after =
     ap (λ es. weight_in es x) (take_more es at d lt) ∙ weight_in-append (take at es) (get_or es at d ∷ []) x
-    ∙ omega (arith, ints, weight_in-left (get_or es at d) [] x behind)
+    ∙ omega (arith, ints, weight_in-left (get_or es at d) [] x after)
 
 -- and to the left of it the same weights
 pub weight_in-take_same : (es : List Edge) (at : ℕ) (d : Edge) (x : ℤ) → at < length es → x <ℤ (get_or es at d).x

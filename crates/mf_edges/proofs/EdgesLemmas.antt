@@ -39,13 +39,13 @@ weight_in-before low (e ∷ es) x edges before =
     weight_in-right e es x (omega (arith, ints)) ∙ weight_in-before (e.x +ℤ pos 1) es x edges.2 (omega (arith, ints))
 
 -- to the right of the field the weight is that of column 4095
-pub weight_in-behind : (low : ℤ) (es : List Edge) (x : ℤ) → AreEdgesFrom low es → greatest_coordinate ≤ℤ x → weight_in es x ≡ weight_in es greatest_coordinate
+pub weight_in-after : (low : ℤ) (es : List Edge) (x : ℤ) → AreEdgesFrom low es → greatest_coordinate ≤ℤ x → weight_in es x ≡ weight_in es greatest_coordinate
 unfolding weight_in
-weight_in-behind low [] x edges behind = refl
-weight_in-behind low (e ∷ es) x edges behind =
+weight_in-after low [] x edges after = refl
+weight_in-after low (e ∷ es) x edges after =
     let last = edges.0.right in
     weight_in-left e es x (omega (arith, ints))
-    ∙ ap (λ w. e.weight +ℤ w) (weight_in-behind (e.x +ℤ pos 1) es x edges.2 behind)
+    ∙ ap (λ w. e.weight +ℤ w) (weight_in-after (e.x +ℤ pos 1) es x edges.2 after)
     ∙ sym (weight_in-left e es greatest_coordinate last)
 
 pub edges_from-lower : (low high : ℤ) (es : List Edge) → low ≤ℤ high → AreEdgesFrom high es → AreEdgesFrom low es
@@ -81,5 +81,5 @@ weight_in-outside es x edges outside =
     by_lt_z x least_coordinate
     (λ left. weight_in-before least_coordinate es x edges.sorted left)
     (λ no_left. by_lt_z last_in_field x
-    (λ right. weight_in-behind least_coordinate es x edges.sorted (omega (arith, ints)) ∙ edges.closed)
+    (λ right. weight_in-after least_coordinate es x edges.sorted (omega (arith, ints)) ∙ edges.closed)
     (λ no_right. absurd (outside no_left no_right)))

@@ -12,7 +12,7 @@ use Rattle.mf_edges.specs.Edges.{weight_in, AreEdges}
 use Rattle.mf_edges.specs.Merging.{AreChanges, IsChange, greatest_change}
 use Rattle.mf_edges.specs.Reaches.{IsLeastReach, StaysInReach}
 use Rattle.mf_edges.specs.Sums.{IsEdgeSum, IsUnlawfulColumn, weight_in_both}
-use Rattle.mf_edges.proofs.EdgesAt.{edges_from-at, step_at_edge, weight_in-take_behind, weight_in-take_more, weight_in-take_same}
+use Rattle.mf_edges.proofs.EdgesAt.{edges_from-at, step_at_edge, weight_in-take_after, weight_in-take_more, weight_in-take_same}
 use Rattle.mf_edges.proofs.EdgesLemmas.{weight_in-before}
 
 -- the greater of two numbers is one of them
@@ -36,7 +36,7 @@ ord_max_is a b most below_a below_b =
 
 -- ---- the least reach of edges, edge by edge
 
--- w is the weight behind the first edges, no weight of these exceeds a reach in absolute value, and a weight of all edges has it
+-- w is the weight after the first edges, no weight of these exceeds a reach in absolute value, and a weight of all edges has it
 pub record IsReachSoFar (es : List Edge) (count : ℕ) (w reach : ℤ) : Type 0 where
   pub weight : w ≡ weight_in (take count es) greatest_coordinate
   pub least : (x : ℤ) → pos 0 ≤ℤ (weight_in (take count es) x +ℤ reach)
@@ -54,10 +54,10 @@ reach_none es changes = record {
   here = ap (λ w. pos (nat_abs w)) (weight_in-before least_coordinate es (least_coordinate -ℤ pos 1) changes.sorted (omega (arith, ints)));
 }
 
--- the weights before and behind an edge, and the reach so far
+-- the weights before and after an edge, and the reach so far
 pub record AreChangesAt (w change reach : ℤ) : Type 0 where
   pub before : IsChange w
-  pub behind : IsChange (w +ℤ change)
+  pub after : IsChange (w +ℤ change)
   pub reached : IsChange reach
 
 module _ (es : List Edge) (count : ℕ) (d : Edge) (w reach : ℤ) (changes : AreChanges es) (inside : count < length es)
@@ -66,27 +66,27 @@ module _ (es : List Edge) (count : ℕ) (d : Edge) (w reach : ℤ) (changes : Ar
   e = get_or es count d
 
   before : (x : ℤ) → e.x ≤ℤ x → weight_in (take count es) x ≡ w
-  before x behind =
+  before x after =
       let right = (edges_from-at least_coordinate es count d changes.sorted inside).0.right in
-      weight_in-take_behind least_coordinate es count d x changes.sorted inside behind
-      ∙ sym (weight_in-take_behind least_coordinate es count d greatest_coordinate changes.sorted inside right) ∙ sym so_far.weight
+      weight_in-take_after least_coordinate es count d x changes.sorted inside after
+      ∙ sym (weight_in-take_after least_coordinate es count d greatest_coordinate changes.sorted inside right) ∙ sym so_far.weight
 
   at_edge : weight_in es e.x ≡ w +ℤ e.weight
   at_edge =
       let step = step_at_edge least_coordinate es count d changes.sorted inside in
-      let old = weight_in-take_behind least_coordinate es count d e.x changes.sorted inside (omega (arith, ints)) in
+      let old = weight_in-take_after least_coordinate es count d e.x changes.sorted inside (omega (arith, ints)) in
       let same = before e.x (omega (arith, ints)) in
       omega (arith, ints)
 
   pub changes_at : AreChangesAt w e.weight reach
   changes_at =
-      let old = weight_in-take_behind least_coordinate es count d e.x changes.sorted inside (omega (arith, ints)) in
+      let old = weight_in-take_after least_coordinate es count d e.x changes.sorted inside (omega (arith, ints)) in
       let same = before e.x (omega (arith, ints)) in
       let reached = changes.changes so_far.x in
       let here = so_far.here in
       record {
         before = subst IsChange (sym old ∙ same) (changes.changes (e.x -ℤ pos 1));
-        behind = subst IsChange at_edge (changes.changes e.x);
+        after = subst IsChange at_edge (changes.changes e.x);
         reached = record { least = omega (arith, ints); greatest = omega (arith, ints) };
       }
 
@@ -98,10 +98,10 @@ module _ (es : List Edge) (count : ℕ) (d : Edge) (w reach : ℤ) (changes : Ar
         weight = sym (weight_in-take_more es count d greatest_coordinate inside right ∙ ap (λ v. v +ℤ e.weight) (sym so_far.weight));
         least = λ x. by_lt_z x e.x
             (λ left. let same = weight_in-take_same es count d x inside left in let old = so_far.least x in omega (arith, ints))
-            (λ behind. let more = weight_in-take_more es count d x inside behind in let old = before x behind in omega (arith, ints));
+            (λ after. let more = weight_in-take_more es count d x inside after in let old = before x after in omega (arith, ints));
         greatest = λ x. by_lt_z x e.x
             (λ left. let same = weight_in-take_same es count d x inside left in let old = so_far.greatest x in omega (arith, ints))
-            (λ behind. let more = weight_in-take_more es count d x inside behind in let old = before x behind in omega (arith, ints));
+            (λ after. let more = weight_in-take_more es count d x inside after in let old = before x after in omega (arith, ints));
         x = x;
         here = here;
       }

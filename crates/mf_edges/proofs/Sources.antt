@@ -60,7 +60,7 @@ source_of-from s p q stretch le =
 
 -- so a column comes from the one whose stretched part has it, and from no other
 pub source_of-is : (s : Stretch) (p q : ℤ) → IsStretch s → target_of s p ≤ℤ q → q <ℤ target_of s (p +ℤ pos 1) → source_of s q ≡ p
-source_of-is s p q stretch start behind =
+source_of-is s p q stretch start after =
     let from = source_of-from s p q stretch start in
     by_lt_z p (source_of s q)
     (λ lt. let next = source_of-reached s (p +ℤ pos 1) q stretch (omega (arith, ints)) in absurd (omega (arith, ints)))

@@ -118,9 +118,9 @@ among-outside n s q outside =
     (λ right.
     by_lt_z q (s +ℤ pos n)
     (λ inside. absurd (outside right inside))
-    (λ behind.
+    (λ after.
     let start = unit_step-reached q s right in
-    let end = unit_step-reached q (s +ℤ pos n) behind in
+    let end = unit_step-reached q (s +ℤ pos n) after in
     omega (arith, ints)))
 
 axis_sum-among : (n : ℕ) (s : ℤ) → least_coordinate ≤ℤ s → (s +ℤ pos n) ≤ℤ greatest_coordinate → axis_sum (among n s) ≡ pos n

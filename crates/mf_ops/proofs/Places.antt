@@ -43,7 +43,7 @@ HasPlace-negative n p q =
       λ has. record { start = omega (arith, ints, clamps); end = omega (arith, ints, clamps) },
     )
 
--- the part of the source of q begins at q or before it, and ends behind it
+-- the part of the source of q begins at q or before it, and ends after it
 pub source_of-start : (s : Stretch) (q : ℤ) → IsStretch s → target_of s (source_of s q) ≤ℤ q
 source_of-start s q stretch = source_of-reached s (source_of s q) q stretch (omega (arith, ints))
 
@@ -52,7 +52,7 @@ source_of-end s q stretch =
     let next = target_of-next s (source_of s q) in
     by_lt_z q (target_of s (source_of s q) +ℤ s.factor)
     (λ inside. inside)
-    (λ behind. let further = source_of-from s (source_of s q +ℤ pos 1) q stretch (rw next behind) in absurd (omega (arith, ints)))
+    (λ after. let further = source_of-from s (source_of s q +ℤ pos 1) q stretch (rw next after) in absurd (omega (arith, ints)))
 
 covered-positive : (f q : ℤ) → IsStretch (scale_by f) → HasPlace f (source_of (scale_by f) q) q
 covered-positive f q stretch =

@@ -19,7 +19,7 @@ use Rattle.mf_rows.specs.declared.slice.RowSlice.{RowSlice}
 use Rattle.mf_rows.specs.Addends.{IsAddedFrom, IsSplitAtFirst, addend_rows}
 use Rattle.mf_rows.specs.BandNumbers.{RiseFrom, number_of}
 use Rattle.mf_rows.specs.Bands.{rows_in, rows_of_bands, slice_rows, AreBelow}
-use Rattle.mf_rows.specs.BandSums.{lowest_of, AreBehind, AreSplitAtBand}
+use Rattle.mf_rows.specs.BandSums.{lowest_of, AreAfter, AreSplitAtBand}
 use Rattle.mf_rows.specs.EdgeRows.{EdgeRow, AreRows, AreRowsFrom}
 use Rattle.mf_rows.specs.FieldBands.{IsOfBand}
 use Rattle.mf_rows.specs.Signs.{signed}
@@ -63,7 +63,7 @@ first_band s bs rest b rows from is same =
       };
       reached = λ m reached. (subst (RiseFrom m) is reached.1).0;
       greatest = greatest;
-      behind = signed_all (λ y. y <ℤ lowest_of (n -ℤ pos 1)) s (rows_of_bands bs.now)
+      none_before = signed_all (λ y. y <ℤ lowest_of (n -ℤ pos 1)) s (rows_of_bands bs.now)
           (All-rows_of_bands (λ m. n ≤ℤ m) (λ y. y <ℤ lowest_of (n -ℤ pos 1)) (λ m y le of_band. omega (arith, ints, le, of_band.top)) bs.now
           (at_least n BAND_COUNT bs.now here));
       rows = subst (λ rs. AreSplitAtBand n (signed s (rows_of_bands bs.now)) (signed s rs) (signed s (rows_of_bands rest.now))) own (signed_split s parts);
@@ -72,13 +72,13 @@ first_band s bs rest b rows from is same =
     }
 
 -- the first of these rows, which is of band n, goes to its band
-fewer_behind_first : (n : ℤ) (ss own rest : List EdgeRow) (r : EdgeRow) (below : List EdgeRow) → ss ≡ r ∷ below → lowest_of n ≤ℤ r.y
+fewer_after_first : (n : ℤ) (ss own rest : List EdgeRow) (r : EdgeRow) (below : List EdgeRow) → ss ≡ r ∷ below → lowest_of n ≤ℤ r.y
     → AreSplitAtBand n ss own rest → length rest < length ss
-fewer_behind_first n ss [] rest r below first reached split =
+fewer_after_first n ss [] rest r below first reached split =
     let same : rest ≡ r ∷ below = sym split.all ∙ first in
-    let behind : r.y <ℤ lowest_of n = All-head (λ r. r.y <ℤ lowest_of n) r below (subst (AreBelow (lowest_of n)) same split.behind) in
-    absurd (omega (arith, ints, behind, reached))
-fewer_behind_first n ss (o ∷ own) rest r below first reached split = omega (arith, ap length split.all, length-append (o ∷ own) rest)
+    let after : r.y <ℤ lowest_of n = All-head (λ r. r.y <ℤ lowest_of n) r below (subst (AreBelow (lowest_of n)) same split.after) in
+    absurd (omega (arith, ints, after, reached))
+fewer_after_first n ss (o ∷ own) rest r below first reached split = omega (arith, ap length split.all, length-append (o ∷ own) rest)
 
 pub first_rows : (number : ℤ) (rows own rest : RowSlice) (r : EdgeRow) (below : List EdgeRow) → AreRows (slice_rows rows)
     → slice_rows rows ≡ r ∷ below → IsOfBand number (to_z w32 (of_z w32 r.y))
@@ -106,8 +106,8 @@ first_rows number rows own rest r below lawful first of_number split =
           let lower = All-head (λ r. r.y <ℤ lowest_of (m -ℤ pos 1)) r below (subst (AreBelow (lowest_of (m -ℤ pos 1))) first from.1) in
           omega (arith, ints, lower, of_band.bottom);
       greatest = band.greatest;
-      behind = All-weaker (λ r. r.y <ℤ end) (λ r. r.y <ℤ lowest_of (n -ℤ pos 1)) (λ r lt. omega (arith, ints, lt)) (slice_rows rows) below_end;
+      none_before = All-weaker (λ r. r.y <ℤ end) (λ r. r.y <ℤ lowest_of (n -ℤ pos 1)) (λ r lt. omega (arith, ints, lt)) (slice_rows rows) below_end;
       rows = split;
-      left = (rows_of_rest split lawful, subst (λ m. AreBehind m (slice_rows rest)) last split.behind);
-      fewer = fewer_behind_first n (slice_rows rows) (slice_rows own) (slice_rows rest) r below first (omega (arith, ints, of_band.bottom)) split;
+      left = (rows_of_rest split lawful, subst (λ m. AreAfter m (slice_rows rest)) last split.after);
+      fewer = fewer_after_first n (slice_rows rows) (slice_rows own) (slice_rows rest) r below first (omega (arith, ints, of_band.bottom)) split;
     }

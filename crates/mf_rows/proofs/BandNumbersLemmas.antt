@@ -51,14 +51,14 @@ at_least low high (b ∷ bs) rise =
     (at_least low high bs (rise-wider (number_of b +ℤ pos 1) high low high (numbers_of bs) (omega (arith, ints, rise.0)) (omega (arith, ints)) rise.1))
 
 -- so all after the first are greater
-greater_behind : (n high : ℤ) (bs : List (Arc Band Global)) → RiseWithin (n +ℤ pos 1) high (numbers_of bs)
+greater_after : (n high : ℤ) (bs : List (Arc Band Global)) → RiseWithin (n +ℤ pos 1) high (numbers_of bs)
     → All (λ b. n <ℤ number_of b) bs
-greater_behind n high bs rise k d lt = omega (arith, ints, at_least (n +ℤ pos 1) high bs rise k d lt)
+greater_after n high bs rise k d lt = omega (arith, ints, at_least (n +ℤ pos 1) high bs rise k d lt)
 
 pub numbers_fall : (low high : ℤ) (bs : List (Arc Band Global)) → RiseWithin low high (numbers_of bs) → Falls (λ b. pos 0 -ℤ number_of b) bs
 numbers_fall low high [] rise = tt
 numbers_fall low high (b ∷ bs) rise = (
-  λ k d lt. omega (arith, ints, greater_behind (number_of b) high bs rise.1 k d lt),
+  λ k d lt. omega (arith, ints, greater_after (number_of b) high bs rise.1 k d lt),
   numbers_fall (number_of b +ℤ pos 1) high bs rise.1,
 )
 
@@ -72,11 +72,11 @@ rise-up_to low high n (b ∷ bs) rise le up_to =
           (All-tail (λ c. number_of c ≤ℤ n) b bs up_to),
     )
 
-rise-behind : (low high n : ℤ) (bs : List (Arc Band Global)) → RiseWithin low high (numbers_of bs) → (n +ℤ pos 1) ≤ℤ high
+rise-after : (low high n : ℤ) (bs : List (Arc Band Global)) → RiseWithin low high (numbers_of bs) → (n +ℤ pos 1) ≤ℤ high
     → All (λ b. n <ℤ number_of b) bs → RiseWithin (n +ℤ pos 1) high (numbers_of bs)
-rise-behind low high n [] rise le behind = le
-rise-behind low high n (b ∷ bs) rise le behind =
-    let first : n <ℤ number_of b = All-head (λ c. n <ℤ number_of c) b bs behind in
+rise-after low high n [] rise le after = le
+rise-after low high n (b ∷ bs) rise le after =
+    let first : n <ℤ number_of b = All-head (λ c. n <ℤ number_of c) b bs after in
     (omega (arith, ints, first), rise.1)
 
 -- ---- bands that are split
@@ -98,8 +98,8 @@ module _ {n : ℤ} {bs first rest : List (Arc Band Global)} (split : IsSplitAtBa
 
   pub rest_from : (low : ℤ) → RiseFrom low bs → n <ℤ BAND_COUNT → RiseFrom (n +ℤ pos 1) rest
   rest_from low rise lt =
-      rise-behind low BAND_COUNT n rest (rise-back low BAND_COUNT (numbers_of first) (numbers_of rest) (parts _ _ rise))
-      (omega (arith, ints, lt)) split.behind
+      rise-after low BAND_COUNT n rest (rise-back low BAND_COUNT (numbers_of first) (numbers_of rest) (parts _ _ rise))
+      (omega (arith, ints, lt)) split.after
 
   pub only_first : RiseFrom n bs → IsOnlyBand n first
   only_first rise = first_up_to n rise (omega (arith, ints))
@@ -120,14 +120,14 @@ split_at_own n bs b rest is rise own =
       all = is;
       up_to = All-cons (λ c. number_of c ≤ℤ n) b [] (omega (arith, ints, own))
           (All-nil (λ c. number_of c ≤ℤ n));
-      behind = subst (λ m. All (λ c. m <ℤ number_of c) rest) own (greater_behind (number_of b) BAND_COUNT rest rises.1);
+      after = subst (λ m. All (λ c. m <ℤ number_of c) rest) own (greater_after (number_of b) BAND_COUNT rest rises.1);
     }
 
 pub split_none : (n : ℤ) (bs : List (Arc Band Global)) → bs ≡ [] → IsSplitAtBand n bs [] bs
 split_none n bs none = record {
   all = refl;
   up_to = All-nil (λ b. number_of b ≤ℤ n);
-  behind = subst (All (λ b. n <ℤ number_of b)) (sym none) (All-nil (λ b. n <ℤ number_of b));
+  after = subst (All (λ b. n <ℤ number_of b)) (sym none) (All-nil (λ b. n <ℤ number_of b));
 }
 
 pub split_before_other : (n : ℤ) (bs : List (Arc Band Global)) (b : Arc Band Global) (rest : List (Arc Band Global)) → bs ≡ b ∷ rest → RiseFrom n bs
@@ -138,5 +138,5 @@ split_before_other n bs b rest is rise other =
     record {
       all = refl;
       up_to = All-nil (λ c. number_of c ≤ℤ n);
-      behind = greater_behind n BAND_COUNT bs (subst (RiseFrom (n +ℤ pos 1)) (sym is) greater);
+      after = greater_after n BAND_COUNT bs (subst (RiseFrom (n +ℤ pos 1)) (sym is) greater);
     }

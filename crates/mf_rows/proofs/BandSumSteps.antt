@@ -22,8 +22,8 @@ use Rattle.mf_rows.proofs.FieldBandsLemmas.{rows_split_at}
 use Rattle.mf_rows.proofs.RowSums.{IsRowSumSoFar, sum_none, rows_left}
 
 -- rows up to a height that is below a band
-pub others_behind : {y : ℤ} (n : ℤ) (rs : List EdgeRow) → All (λ r. r.y ≤ℤ y) rs → y <ℤ lowest_of n → AreBelow (lowest_of n) rs
-others_behind {y} n rs others lower = All-weaker (λ r. r.y ≤ℤ y) (λ r. r.y <ℤ lowest_of n) (λ r le. omega (arith, ints, le, lower)) rs others
+pub others_below : {y : ℤ} (n : ℤ) (rs : List EdgeRow) → All (λ r. r.y ≤ℤ y) rs → y <ℤ lowest_of n → AreBelow (lowest_of n) rs
+others_below {y} n rs others lower = All-weaker (λ r. r.y ≤ℤ y) (λ r. r.y <ℤ lowest_of n) (λ r le. omega (arith, ints, le, lower)) rs others
 
 -- ---- the sum so far
 
@@ -73,7 +73,7 @@ module _ {f : ℤ → ℤ → ℤ} {sum bs : List (Arc Band Global)} {added : Ad
     number_before = omega (arith, ints, reached, least, first.greatest)
 
     none_before : AreSplitAtBand (part.number -ℤ pos 1) (addend_rows added) [] (addend_rows added)
-    none_before = record { all = refl; up_to = All-nil (λ r. (lowest_of (part.number -ℤ pos 1) -ℤ pos 1) <ℤ r.y); behind = first.behind }
+    none_before = record { all = refl; up_to = All-nil (λ r. (lowest_of (part.number -ℤ pos 1) -ℤ pos 1) <ℤ r.y); after = first.none_before }
 
     module _ {before others : List (Arc Band Global)}
         (bands_split : IsSplitAtBand (to_z w32 (of_z w32 (to_z w32 (of_z w32 part.number) -ℤ pos 1))) bs before others) where

@@ -5,7 +5,7 @@ use Rattle.std.proofs.lemmas.Int.{ints, clamps, by_lt_z}
 use Rattle.std.proofs.lemmas.List.Elements.{All-head, All-append, All-weaker}
 use Rattle.mf_geom.specs.Coordinates.{last_in_field}
 use Rattle.mf_rows.specs.Bands.{AreBelow}
-use Rattle.mf_rows.specs.BandSums.{lowest_of, AreUpTo, AreBehind, AreSplitAtBand, HasSum}
+use Rattle.mf_rows.specs.BandSums.{lowest_of, AreUpTo, AreAfter, AreSplitAtBand, HasSum}
 use Rattle.mf_edges.specs.LawfulWeights.{IsLawfulWeight}
 use Rattle.mf_rows.specs.EdgeRows.{EdgeRow, AreRowsFrom, AreRows, weight_in_rows}
 use Rattle.mf_rows.specs.Sums.{weight_in_all, IsUnlawfulSomewhere}
@@ -98,10 +98,10 @@ module _ {f : ℤ → ℤ → ℤ} {sum rs ss : List EdgeRow} (so_far : IsRowSum
       absurd (some (omega (arith, ints))))
       (λ reached.
       let lower =
-      λ (rs : List EdgeRow) (behind : AreBehind n rs). All-weaker (λ r. r.y <ℤ lowest_of n) (λ r. r.y <ℤ y) (λ r lt. omega (arith, ints)) rs behind in
+      λ (rs : List EdgeRow) (after : AreAfter n rs). All-weaker (λ r. r.y <ℤ lowest_of n) (λ r. r.y <ℤ y) (λ r lt. omega (arith, ints)) rs after in
       let none_before = weight_in_rows-above sum x y (All-weaker (λ r. so_far.top <ℤ r.y) (λ r. y <ℤ r.y) (λ r lt. omega (arith, ints)) sum so_far.above) in
-      let none_left = weight_in_rows-below rest_left x y (lower rest_left split_left.behind) in
-      let none_right = weight_in_rows-below rest_right x y (lower rest_right split_right.behind) in
+      let none_left = weight_in_rows-below rest_left x y (lower rest_left split_left.after) in
+      let none_right = weight_in_rows-below rest_right x y (lower rest_right split_right.after) in
       let all = so_far.weights x y in
       let parts = weight_in_all-parts x y in
       omega (arith, ints)))
@@ -137,9 +137,9 @@ module _ {f : ℤ → ℤ → ℤ} {sum rs ss : List EdgeRow} (so_far : IsRowSum
             (All-weaker (λ r. (lowest_of n -ℤ pos 1) <ℤ r.y) (λ r. top <ℤ r.y) (λ r lt. omega (arith, ints, lower_than_band)) step.more
             (step.within.above (lowest_of n -ℤ pos 1) split_left.up_to split_right.up_to));
         left = rows_from-both so_far.top (lowest_of n) rest_left
-            (rows_from-back so_far.top first_left rest_left from_top_left) split_left.behind;
+            (rows_from-back so_far.top first_left rest_left from_top_left) split_left.after;
         right = rows_from-both so_far.top (lowest_of n) rest_right
-            (rows_from-back so_far.top first_right rest_right from_top_right) split_right.behind;
+            (rows_from-back so_far.top first_right rest_right from_top_right) split_right.after;
         weights = λ x y.
             let old = so_far.weights x y in
             let parts = weight_in_all-parts x y in

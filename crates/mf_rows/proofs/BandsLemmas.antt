@@ -52,9 +52,9 @@ row_here y above r below lawful higher here =
 
 no_row_here : (y : ℤ) (above : List EdgeRow) (r : EdgeRow) (below : List EdgeRow) → AreRows (above ++ r ∷ below)
     → AreAbove y above → r.y <ℤ y → HasNoRow (above ++ r ∷ below) y
-no_row_here y above r below lawful higher behind =
+no_row_here y above r below lawful higher after =
     let from_here = rows_from-back last_in_field above (r ∷ below) lawful.rows in
-    let lower = rows_from-below r.y y (r ∷ below) (from_here.0, omega (arith, ints), from_here.2) behind in
+    let lower = rows_from-below r.y y (r ∷ below) (from_here.0, omega (arith, ints), from_here.2) after in
     record {
       weights = λ x.
           let all = weight_in_rows-append above (r ∷ below) x y in

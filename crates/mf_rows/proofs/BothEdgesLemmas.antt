@@ -25,20 +25,20 @@ module _ (e f : Edge) (fs : List Edge) where
   unfolding with_edge
   with_edge-before lt = grind (arith, ints)
 
-  with_edge-behind : f.x <ℤ e.x → with_edge e (f ∷ fs) ≡ f ∷ with_edge e fs
+  with_edge-after : f.x <ℤ e.x → with_edge e (f ∷ fs) ≡ f ∷ with_edge e fs
   unfolding with_edge
-  with_edge-behind gt = grind (arith, ints)
+  with_edge-after gt = grind (arith, ints)
 
   with_edge-here : e.x ≡ f.x → with_edge e (f ∷ fs) ≡ joined e f ++ fs
   unfolding with_edge
   with_edge-here same = grind (arith, ints)
 
-  -- an edge is before the first one, behind it or at its column
+  -- an edge is before the first one, after it or at its column
   pub by_place : (P : List Edge → Type 0) → (e.x <ℤ f.x → P (e ∷ f ∷ fs)) → (f.x <ℤ e.x → P (f ∷ with_edge e fs)) → (e.x ≡ f.x → P (joined e f ++ fs))
       → P (with_edge e (f ∷ fs))
-  by_place P before behind here =
+  by_place P before after here =
       by_lt_z e.x f.x (λ lt. subst P (sym (with_edge-before lt)) (before lt))
-      (λ le. by_lt_z f.x e.x (λ gt. subst P (sym (with_edge-behind gt)) (behind gt))
+      (λ le. by_lt_z f.x e.x (λ gt. subst P (sym (with_edge-after gt)) (after gt))
       (λ ge. let same : e.x ≡ f.x = omega (arith, ints) in subst P (sym (with_edge-here same)) (here same)))
 
 -- edges at one column add up, also where they cancel
@@ -75,7 +75,7 @@ edges_from-with low e (f ∷ fs) edge from edges =
     let nonzero = not_from_Decides (int_eq sum (pos 0)) (Decides-int_eq sum (pos 0)) test in
     (record { left = edge.left; right = edge.right; nonzero = nonzero }, from, rw same edges.2)))
 
--- an edge among edges is not among those behind it
+-- an edge among edges is not among those after it
 with_edge-append : (e : Edge) (fs gs : List Edge) → BeginFrom (e.x +ℤ pos 1) gs → with_edge e (fs ++ gs) ≡ with_edge e fs ++ gs
 unfolding with_edge
 with_edge-append e [] [] from = refl
@@ -99,14 +99,14 @@ edges_from-both low (e ∷ es) fs left right =
     edges_from-with low e (edges_of_both es fs) left.0 start
     (edges_from-both low es fs (edges_from-lower low (e.x +ℤ pos 1) es (omega (arith, ints)) left.2) right)
 
--- where all edges of the left row are behind the first of the right one, that is the first of both
+-- where all edges of the left row are after the first of the right one, that is the first of both
 pub both-right : (f : Edge) (es fs : List Edge) → AreEdgesFrom (f.x +ℤ pos 1) es → edges_of_both es (f ∷ fs) ≡ f ∷ edges_of_both es fs
 unfolding edges_of_both
 both-right f [] fs left = refl
 both-right f (e ∷ es) fs left =
     let start : (f.x +ℤ pos 1) ≤ℤ e.x = left.1 in
     ap (with_edge e) (both-right f es fs (edges_from-lower (f.x +ℤ pos 1) (e.x +ℤ pos 1) es (omega (arith, ints)) left.2))
-    ∙ with_edge-behind e f (edges_of_both es fs) (omega (arith, ints))
+    ∙ with_edge-after e f (edges_of_both es fs) (omega (arith, ints))
 
 -- at a column both rows may be cut
 pub both-append : (x : ℤ) (es fs gs hs : List Edge) → All (λ e. e.x <ℤ x) es → All (λ e. e.x <ℤ x) fs

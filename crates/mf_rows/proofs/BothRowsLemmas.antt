@@ -205,8 +205,8 @@ pub none_left : (o : Option Row) (rs : List EdgeRow) → length (row_found o ++ 
 none_left None rs none = none
 none_left (Some r) rs none = absurd (omega (arith, none))
 
-rows-behind : (r : EdgeRow) (rs : List EdgeRow) → AreRows (r ∷ rs) → AreBelow r.y rs
-rows-behind r rs rows = rows_from-below (r.y -ℤ pos 1) r.y rs rows.rows.2 (omega (arith, ints))
+rows-after : (r : EdgeRow) (rs : List EdgeRow) → AreRows (r ∷ rs) → AreBelow r.y rs
+rows-after r rs rows = rows_from-below (r.y -ℤ pos 1) r.y rs rows.rows.2 (omega (arith, ints))
 
 rows-beneath : (r : EdgeRow) (rs ss : List EdgeRow) → AreRows ss → BeginsAbove (r ∷ rs) ss → AreBelow r.y ss
 rows-beneath r rs [] rows above = All-nil (λ s. s.y <ℤ r.y)
@@ -216,7 +216,7 @@ rows-beneath r rs (s ∷ ss) rows above =
 pub first_of_rows : (rs ss ts : List EdgeRow) (r : EdgeRow) → AreRows rs → AreRows ss → BeginsAbove rs ss → rs ≡ r ∷ ts
     → rows_of_both rs ss ≡ r ∷ rows_of_both ts ss
 first_of_rows rs ss ts r left right above is =
-    rw is (rows_both-above r ts ss (rows-behind r ts (rw is at left)) (rows-beneath r ts ss right (rw is at above)))
+    rw is (rows_both-above r ts ss (rows-after r ts (rw is at left)) (rows-beneath r ts ss right (rw is at above)))
 
 pub first_of_older : (rs ss ts : List EdgeRow) (s : EdgeRow) → AreRows rs → BeginsAbove ss rs → ss ≡ s ∷ ts
     → rows_of_both rs ss ≡ s ∷ rows_of_both rs ts
@@ -228,7 +228,7 @@ first_of_both rs ss ts us r s left not_above not_below is also =
     let lower = subst (λ rs. BeginsAbove rs (s ∷ us) → ⊥) is (subst (λ ss. BeginsAbove rs ss → ⊥) also not_above) in
     let higher = subst (λ ss. BeginsAbove ss (r ∷ ts) → ⊥) also (subst (λ rs. BeginsAbove ss rs → ⊥) is not_below) in
     let same : s.y ≡ r.y = by_lt_z s.y r.y (λ lt. absurd (lower lt)) (λ ge. by_lt_z r.y s.y (λ gt. absurd (higher gt)) (λ le. omega (arith, ints))) in
-    rw (is, also) (rows_both-same r s ts us same (rows-behind r ts (rw is at left)))
+    rw (is, also) (rows_both-same r s ts us same (rows-after r ts (rw is at left)))
 
 pub none_of_rows : (rs ss : List EdgeRow) → BeginsAbove rs ss → rs ≡ [] → rows_of_both rs ss ≡ []
 unfolding rows_of_both

@@ -154,7 +154,7 @@ by_on_run : {P : Type 0} (r : Run) (x y : ℤ) → (IsOnRun r x y → P) → ((I
 by_on_run r x y on off =
     by_same r.y y
     (λ row. by_columns r x (λ before. off (λ on. let from = on.left in omega (arith, ints)))
-    (λ from to. on (record { row = row; left = from; right = to })) (λ behind. off (λ on. let to = on.right in omega (arith, ints))))
+    (λ from to. on (record { row = row; left = from; right = to })) (λ after. off (λ on. let to = on.right in omega (arith, ints))))
     (λ apart. off (λ on. apart on.row))
 
 -- the last row gets a run
@@ -209,11 +209,11 @@ above_run (first ∷ others) r lawful fits not_there =
     subst (AreAbove r.y) (sym is_last.all) (above_all is_last.front (open_row last) r.y above below)
 
 -- so it makes a row that follows all rows
-pub pushed_behind : (rows : List OpenRow) (new : OpenRow) (r : Run) → AreRows (open_rows rows)
+pub pushed_after : (rows : List OpenRow) (new : OpenRow) (r : Run) → AreRows (open_rows rows)
     → Fits (picture_of_rows (open_rows rows)) r → (EndInRow rows r.y → ⊥)
     → HasRun (record { y = r.y; edges = [] }) r (open_row new) → ArePushed (open_rows rows) r (open_rows (rows ++ new ∷ []))
 unfolding weight_in
-pushed_behind rows new r lawful fits not_there has =
+pushed_after rows new r lawful fits not_there has =
     let all = open_rows rows in
     let blank : EdgeRow = record { y = r.y; edges = [] } in
     rw (map_push open_row rows new)

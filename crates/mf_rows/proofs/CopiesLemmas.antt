@@ -134,10 +134,10 @@ moved_all es ds before after hs n all so_far = so_far.rows ∙ ap (λ (gs : List
 
 -- ---- edges are appended to others
 
-pub copied_behind : (rows : RowSlice) (fs ds : List Edge) (i end : ℕ) → IsRange rows.edges.now i end
+pub copied_after : (rows : RowSlice) (fs ds : List Edge) (i end : ℕ) → IsRange rows.edges.now i end
     → All (λ h. LiesBetween i end h.place) rows.heads.now → ds ≡ fs ++ edges_between rows.edges.now i end → length ds < 2 ^ 64
     → IsCopied rows i ds (length fs)
-copied_behind rows fs ds i end range within all fits =
+copied_after rows fs ds i end range within all fits =
     let part : List Edge = edges_between rows.edges.now i end in
     let order = range.order in
     let inside = range.within in

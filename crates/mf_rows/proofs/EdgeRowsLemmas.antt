@@ -85,15 +85,15 @@ rows_from-cut top y (r ∷ rs) rows below =
 pub rows_from-append : (top : ℤ) (rs ss : List EdgeRow) → AreRowsFrom top rs → AreRowsFrom top ss → All (λ r. AreBelow r.y ss) rs → AreRowsFrom top (rs ++ ss)
 rows_from-append top [] ss front back apart = back
 rows_from-append top (r ∷ rs) ss front back apart =
-    let behind = rows_from-cut top r.y ss back (All-head (λ r. AreBelow r.y ss) r rs apart) in
-    (front.0, front.1, rows_from-append (r.y -ℤ pos 1) rs ss front.2 behind (All-tail (λ r. AreBelow r.y ss) r rs apart))
+    let after = rows_from-cut top r.y ss back (All-head (λ r. AreBelow r.y ss) r rs apart) in
+    (front.0, front.1, rows_from-append (r.y -ℤ pos 1) rs ss front.2 after (All-tail (λ r. AreBelow r.y ss) r rs apart))
 
 -- and in lawful rows they are above them
 pub rows_from-apart : (top : ℤ) (rs ss : List EdgeRow) → AreRowsFrom top (rs ++ ss) → All (λ r. AreBelow r.y ss) rs
 rows_from-apart top [] ss rows = All-nil (λ r. AreBelow r.y ss)
 rows_from-apart top (r ∷ rs) ss rows =
-    let behind = rows_from-back (r.y -ℤ pos 1) rs ss rows.2 in
-    All-cons (λ r. AreBelow r.y ss) r rs (rows_from-below (r.y -ℤ pos 1) r.y ss behind (omega (arith, ints))) (rows_from-apart (r.y -ℤ pos 1) rs ss rows.2)
+    let after = rows_from-back (r.y -ℤ pos 1) rs ss rows.2 in
+    All-cons (λ r. AreBelow r.y ss) r rs (rows_from-below (r.y -ℤ pos 1) r.y ss after (omega (arith, ints))) (rows_from-apart (r.y -ℤ pos 1) rs ss rows.2)
 
 -- ---- pictures of rows
 

@@ -72,7 +72,7 @@ pub record IsTaken (w : ℤ) (e : Edge) (es : List Edge) : Type 0 where
   pub changed : (w +ℤ e.weight) ≢ w
   pub column : to_z w32 (of_z w32 e.x) ≡ e.x
   pub left : least_coordinate ≤ℤ e.x
-  pub behind : AreEdgesFrom (e.x +ℤ pos 1) es
+  pub right : AreEdgesFrom (e.x +ℤ pos 1) es
   pub rest : IsRestOfRow least_coordinate (w +ℤ e.weight) es
 
 pub edge_taken : (w : ℤ) (e : Edge) (es fs : List Edge) → es ≡ e ∷ fs → IsRestOfRow least_coordinate w es → IsTaken w e fs
@@ -82,14 +82,14 @@ edge_taken w e es fs first whole =
     let next = rest_next least_coordinate w e fs all in
     let before = all.lawful (least_coordinate -ℤ pos 1) in
     let none = weight_in-before least_coordinate (e ∷ fs) (least_coordinate -ℤ pos 1) all.sorted (omega (arith, ints)) in
-    let behind = rest_lawful least_coordinate w e fs all in
+    let after = rest_lawful least_coordinate w e fs all in
     record {
-      fits = omega (arith, ints, before.least, before.greatest, behind.least, behind.greatest);
-      sum = omega (arith, ints, before.least, before.greatest, behind.least, behind.greatest);
+      fits = omega (arith, ints, before.least, before.greatest, after.least, after.greatest);
+      sum = omega (arith, ints, before.least, before.greatest, after.least, after.greatest);
       changed = λ same. edge.nonzero (omega (arith, ints, same));
       column = omega (arith, ints, edge.left, edge.right);
       left = edge.left;
-      behind = next.sorted;
+      right = next.sorted;
       rest = record {
         sorted = edges_from-lower least_coordinate (e.x +ℤ pos 1) fs (omega (arith, ints, edge.left)) next.sorted;
         lawful = next.lawful;
@@ -128,11 +128,11 @@ module _ (y : ℤ) (below : List Run) (bottom : least_coordinate ≤ℤ y) (top 
   -- to the left of them the row may be blank
   after_gap : (low high : ℤ) (f g : ℤ → ℤ) (rs : List Run) → low ≤ℤ high → AreRowRuns (with_weights f) high rs
       → ((x : ℤ) → low ≤ℤ x → x <ℤ high → g x ≡ pos 0) → ((x : ℤ) → high ≤ℤ x → g x ≡ f x) → AreRowRuns (with_weights g) low rs
-  after_gap low high f g rs le runs gap behind = record {
+  after_gap low high f g rs le runs gap after = record {
     from = runs_from-lower (place low y) (place high y) rs (place-le low high y le) runs.from;
     own = λ x left right. by_lt_z x high
         (λ before. weight_at-left_of high y x rs runs.from before ∙ sym (gap x left before))
-        (λ further. runs.own x further right ∙ sym (behind x further));
+        (λ further. runs.own x further right ∙ sym (after x further));
     others = runs.others;
     maximal = runs.maximal;
   }
@@ -141,7 +141,7 @@ module _ (y : ℤ) (below : List Run) (bottom : least_coordinate ≤ℤ y) (top 
   after_run : (low high w : ℤ) (f g : ℤ → ℤ) (rs : List Run) → low ≤ℤ high → IsRun (run_between y low high w) → AreRowRuns (with_weights f) high rs
       → f high ≢ w → ((x : ℤ) → low ≤ℤ x → x <ℤ high → g x ≡ w) → ((x : ℤ) → high ≤ℤ x → g x ≡ f x)
       → AreRowRuns (with_weights g) low (run_between y low high w ∷ rs)
-  after_run low high w f g rs le run runs apart here behind =
+  after_run low high w f g rs le run runs apart here after =
       let r = run_between y low high w in
       let end : low +ℤ pos r.len ≡ high = omega (arith, ints) in
       let from : AreRunsFrom (place low y) (r ∷ rs) = (run, omega (arith, ints), subst (λ x. AreRunsFrom (place x y) rs) (sym end) runs.from) in
@@ -150,7 +150,7 @@ module _ (y : ℤ) (below : List Run) (bottom : least_coordinate ≤ℤ y) (top 
         own = λ x left right. by_lt_z x high
             (λ nearer.
             weight_at-on_first (place low y) r rs x y from (record { row = refl; left = left; right = omega (arith, ints) }) ∙ sym (here x left nearer))
-            (λ further. weight_at-off_first r rs x y (λ on. omega (arith, ints, on.right)) ∙ runs.own x further right ∙ sym (behind x further));
+            (λ further. weight_at-off_first r rs x y (λ on. omega (arith, ints, on.right)) ∙ runs.own x further right ∙ sym (after x further));
         others = λ x v elsewhere. weight_at-off_first r rs x v (λ on. elsewhere on.row) ∙ runs.others x v elsewhere;
         maximal = maximal-cons (place high y) r rs runs.from runs.maximal
             (rw end (λ inside same. apart (sym (runs.own high (omega (arith, ints)) inside) ∙ same)));
@@ -163,33 +163,33 @@ module _ (y : ℤ) (below : List Run) (bottom : least_coordinate ≤ℤ y) (top 
   runs_from_edge w e [] rest =
       after_gap e.x greatest_coordinate _ _ below rest.sorted.0.right (no_runs (λ x. w +ℤ weight_in (e ∷ []) x))
       (λ x left right. let own = weight_in-left e [] x left in omega (arith, ints, rest_none (e.x +ℤ pos 1) (w +ℤ e.weight) (rest_next e.x w e [] rest)))
-      (λ x behind. refl)
+      (λ x after. refl)
   runs_from_edge w e (f ∷ es) rest =
       let z = w +ℤ e.weight in
       let own = run_between y e.x f.x z in
       let others = runs_of_edges y z (f ∷ es) in
-      let behind = rest_from (e.x +ℤ pos 1) z f es (rest_next e.x w e (f ∷ es) rest) in
+      let after = rest_from (e.x +ℤ pos 1) z f es (rest_next e.x w e (f ∷ es) rest) in
       let rise : (e.x +ℤ pos 1) ≤ℤ f.x = rest.sorted.2.1 in
-      let next = runs_from_edge z f es behind in
+      let next = runs_from_edge z f es after in
       let weight = λ (x : ℤ). w +ℤ weight_in (e ∷ f ∷ es) x in
       let here : (x : ℤ) → e.x ≤ℤ x → x <ℤ f.x → weight x ≡ z = λ x left right.
       let sum = weight_in-left e (f ∷ es) x left in
-      let none = weight_in-before f.x (f ∷ es) x behind.sorted right in
+      let none = weight_in-before f.x (f ∷ es) x after.sorted right in
       omega (arith, ints) in
       let further : (x : ℤ) → f.x ≤ℤ x → weight x ≡ z +ℤ weight_in (f ∷ es) x = λ x right.
       let sum = weight_in-left e (f ∷ es) x (omega (arith, ints)) in
       omega (arith, ints) in
       let changed : (z +ℤ weight_in (f ∷ es) f.x) ≢ z = λ same.
       let sum = weight_in-left f es f.x (omega (arith, ints)) in
-      let none = weight_in-before (f.x +ℤ pos 1) es f.x behind.sorted.2 (omega (arith, ints)) in
-      behind.sorted.0.nonzero (omega (arith, ints)) in
+      let none = weight_in-before (f.x +ℤ pos 1) es f.x after.sorted.2 (omega (arith, ints)) in
+      after.sorted.0.nonzero (omega (arith, ints)) in
       cond_both (int_eq z (pos 0)) [] (own ∷ []) (λ first. AreRowRuns (with_weights weight) e.x ((first ++ others) ++ below))
       (λ blank. after_gap e.x f.x _ weight (others ++ below) (omega (arith, ints)) next
       (λ x left right. here x left right ∙ (Decides-int_eq z (pos 0)).0 blank) further)
       (λ weighty. after_run e.x f.x z _ weight (others ++ below) (omega (arith, ints)) (record {
         some = omega (arith, ints);
         left = rest.sorted.0.left;
-        right = omega (arith, ints, behind.sorted.0.right);
+        right = omega (arith, ints, after.sorted.0.right);
         bottom = bottom;
         top = top;
         lawful = rest_lawful e.x w e (f ∷ es) rest;
@@ -200,8 +200,8 @@ module _ (y : ℤ) (below : List Run) (bottom : least_coordinate ≤ℤ y) (top 
   pub runs_of_row : (es : List Edge) → AreEdges es → AreRowRuns (with_weights (weight_in es)) least_coordinate (runs_of_edges y (pos 0) es ++ below)
   unfolding runs_of_edges weight_in
   runs_of_row [] edges =
-      after_gap least_coordinate greatest_coordinate _ _ below (omega (arith, ints)) (no_runs (weight_in [])) (λ x left right. refl) (λ x behind. refl)
+      after_gap least_coordinate greatest_coordinate _ _ below (omega (arith, ints)) (no_runs (weight_in [])) (λ x left right. refl) (λ x after. refl)
   runs_of_row (e ∷ es) edges =
       let rest = rest_from least_coordinate (pos 0) e es (rest_of_edges (e ∷ es) edges) in
       after_gap least_coordinate e.x _ _ (runs_of_edges y (pos 0) (e ∷ es) ++ below) rest.sorted.0.left (runs_from_edge (pos 0) e es rest)
-      (λ x left before. weight_in-before e.x (e ∷ es) x rest.sorted before) (λ x behind. omega (arith, ints))
+      (λ x left before. weight_in-before e.x (e ∷ es) x rest.sorted before) (λ x after. omega (arith, ints))

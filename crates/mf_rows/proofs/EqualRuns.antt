@@ -46,8 +46,8 @@ module _ {S T A : Type 0} (rest : S → List A) (others : T → List A) (eq : A 
   along (x ∷ xs) [] o p s u t w left right pairs last = absurd pairs
   along (x ∷ xs) (y ∷ ys) o p s u t w left right pairs last =
       let first : x ≡ y = (decides x y).0 pairs.0 in
-      let behind = along xs ys o p left.1.0 u right.1.0 w (left.0, left.1.2, left.2) (right.0, right.1.2, right.2) pairs.1 last in
-      Decides-like b (λ same. left.1.1 ∙ (cc) ∙ sym right.1.1) (λ same. cc) behind
+      let after = along xs ys o p left.1.0 u right.1.0 w (left.0, left.1.2, left.2) (right.0, right.1.2, right.2) pairs.1 last in
+      Decides-like b (λ same. left.1.1 ∙ (cc) ∙ sym right.1.1) (λ same. cc) after
 
   -- `eq` of two iterators answers whether the lists that they have left are equal
   pub eq_decides : (s : S) (t : T) → ComparesItemsByEq (YieldsFirst rest) (λ i j. j ≡ i) (YieldsFirst others) s t eq b → Decides b (rest s ≡ others t)

@@ -86,10 +86,10 @@ up_to_split n k bs le passed =
     All-weaker (λ b. is_up_to n b ≡ true) (λ b. number_of b ≤ℤ n) (λ b up_to. grind (arith, ints))
     (take k bs) (All-take_within (λ b. is_up_to n b ≡ true) bs k le passed)
 
-pub behind_split : (n : ℤ) (k : ℕ) (bs : List (Arc Band Global))
+pub after_split : (n : ℤ) (k : ℕ) (bs : List (Arc Band Global))
     → AllWithin (λ b. is_up_to n b ≡ false) bs k (length bs) → All (λ b. n <ℤ number_of b) (drop k bs)
-behind_split n k bs failed =
-    All-weaker (λ b. is_up_to n b ≡ false) (λ b. n <ℤ number_of b) (λ b behind. grind (arith, ints))
+after_split n k bs failed =
+    All-weaker (λ b. is_up_to n b ≡ false) (λ b. n <ℤ number_of b) (λ b after. grind (arith, ints))
     (drop k bs) (All-drop_within (λ b. is_up_to n b ≡ false) bs k failed)
 
 -- the rows of bands that are split
@@ -99,7 +99,7 @@ rows_split_at {n} {bs} {first} {rest} split = record {
   all = ap rows_of_bands split.all ∙ flat_map-append (λ (band : Arc Band Global). rows_in (arc_value band)) first rest;
   up_to = All-rows_of_bands (λ m. m ≤ℤ n) (λ y. (lowest_of n -ℤ pos 1) <ℤ y)
       (λ m y up_to of_band. omega (arith, ints, up_to, of_band.bottom)) first split.up_to;
-  behind = All-rows_of_bands (λ m. n <ℤ m) (λ y. y <ℤ lowest_of n) (λ m y behind of_band. omega (arith, ints, behind, of_band.top)) rest split.behind;
+  after = All-rows_of_bands (λ m. n <ℤ m) (λ y. y <ℤ lowest_of n) (λ m y after of_band. omega (arith, ints, after, of_band.top)) rest split.after;
 }
 
 -- the rows of band n, where there is no other
@@ -141,7 +141,7 @@ same_row_in_band {n} {y} {bs} {before} {others} {own} {rest} lawful of_band spli
     let second = rows_split_at own_split in
     let all : rows_of_bands bs ≡ above ++ (rs ++ below) = first.all ∙ ap (λ rs. above ++ rs) second.all in
     let higher = All-weaker (λ r. (lowest_of (n -ℤ pos 1) -ℤ pos 1) <ℤ r.y) (λ r. y <ℤ r.y) (λ r lt. omega (arith, ints, lt, of_band.top)) above first.up_to in
-    let lower = All-weaker (λ r. r.y <ℤ lowest_of n) (λ r. r.y <ℤ y) (λ r lt. omega (arith, ints, lt, of_band.bottom)) below second.behind in
+    let lower = All-weaker (λ r. r.y <ℤ lowest_of n) (λ r. r.y <ℤ y) (λ r lt. omega (arith, ints, lt, of_band.bottom)) below second.after in
     let from_here = rows_from-back last_in_field above (rs ++ below) (subst (AreRowsFrom last_in_field) all lawful.rows) in
     record {
       lawful = record { rows = rows_from-front last_in_field rs below from_here };

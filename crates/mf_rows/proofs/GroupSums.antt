@@ -47,13 +47,13 @@ split_at_group gs i groups =
     }
 
 -- groups have no weight below their last place
-weight_behind : (top : ℤ) (gs : Groups) (x y : ℤ) → AreLayersFrom top gs → y ≤ℤ top_of top (length gs) → weight_in_rows (rows_of_groups gs) x y ≡ pos 0
+weight_after : (top : ℤ) (gs : Groups) (x y : ℤ) → AreLayersFrom top gs → y ≤ℤ top_of top (length gs) → weight_in_rows (rows_of_groups gs) x y ≡ pos 0
 unfolding weight_in_rows
-weight_behind top [] x y layers below = refl
-weight_behind top (g ∷ gs) x y layers below =
+weight_after top [] x y layers below = refl
+weight_after top (g ∷ gs) x y layers below =
     let all = weight_in_rows-append (rows_at_place g) (rows_of_groups gs) x y in
     let first = weight_below_layer top x y (rows_at_place g) layers.0 (omega (arith, ints, below)) in
-    let rest = weight_behind (top -ℤ GROUP_HEIGHT) gs x y layers.1 (omega (arith, ints, below)) in
+    let rest = weight_after (top -ℤ GROUP_HEIGHT) gs x y layers.1 (omega (arith, ints, below)) in
     omega (arith, ints)
 
 -- ---- bands are added at the places before place p
@@ -128,7 +128,7 @@ module _ (p : ℕ) (gs : Groups) (rs : List EdgeRow) (sum : Groups) (rest own ot
       by_lt_z (top -ℤ GROUP_HEIGHT) y
       (λ within.
       let next : top_of_place (p + 1) <ℤ y = omega (arith, ints, within) in
-      let before = weight_behind last_in_field sum x y so_far.layers (subst (λ i. y ≤ℤ top_of_place i) (sym so_far.place) up_to) in
+      let before = weight_after last_in_field sum x y so_far.layers (subst (λ i. y ≤ℤ top_of_place i) (sym so_far.place) up_to) in
       let groups_after = weight_in_rows-below _ x y (rows_from-below _ y _ (rows_after gs (p + 1) groups) next) in
       let rows_after = weight_in_rows-below _ x y (rows_from-below _ y _ left_after next) in
       let all = weights_parted x y in

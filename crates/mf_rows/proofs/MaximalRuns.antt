@@ -78,11 +78,11 @@ not_followed r (s ∷ rs) runs maximal =
     (λ k t lt joined. omega (arith, ints, others k t lt, runs.0.some, runs.1, joined.row, joined.column))
 
 -- so the pixel after it has another weight
-weight-behind : (r : Run) (rs : List Run) → r.weight ≢ pos 0 → AreRunsFrom (place (r.x +ℤ pos r.len) r.y) rs → AreMaximal (r ∷ rs)
+weight-after : (r : Run) (rs : List Run) → r.weight ≢ pos 0 → AreRunsFrom (place (r.x +ℤ pos r.len) r.y) rs → AreMaximal (r ∷ rs)
     → weight_at (flat_map dots_of rs) (r.x +ℤ pos r.len) r.y ≢ r.weight
 unfolding place weight_at
-weight-behind r [] some runs maximal = λ same. some (sym same)
-weight-behind r (s ∷ rs) some runs maximal = λ same.
+weight-after r [] some runs maximal = λ same. some (sym same)
+weight-after r (s ∷ rs) some runs maximal = λ same.
     let x = r.x +ℤ pos r.len in
     let low = place (s.x +ℤ pos s.len) s.y in
     let elsewhere : IsOnRun s x r.y → ⊥ = λ on. maximal.0 (record {
@@ -100,7 +100,7 @@ first_longest low r rs runs maximal = record {
   nonzero = runs.0.nonzero;
   inside = λ i lt. weight_at-on_first low r rs (r.x +ℤ pos i) r.y runs (record { row = refl; left = omega (arith, ints); right = omega (arith, ints, lt) });
   left = λ same. runs.0.nonzero (sym same ∙ weight_at-left_of r.x r.y (r.x -ℤ pos 1) (r ∷ rs) (runs.0, omega (arith, ints), runs.2) (omega (arith, ints)));
-  right = λ same. weight-behind r rs runs.0.nonzero runs.2 maximal
+  right = λ same. weight-after r rs runs.0.nonzero runs.2 maximal
       (sym (weight_at-off_first r rs (r.x +ℤ pos r.len) r.y (λ on. omega (arith, ints, on.right))) ∙ same);
 }
 

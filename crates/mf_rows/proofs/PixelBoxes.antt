@@ -146,8 +146,8 @@ module _ (p : Pixels) (all rest : List EdgeRow) (bounds : Option Box4) (r : Edge
   pub bounds_grown : (c : Columns) → AreColumns p r.edges c → AreBoundsBefore p all others (Some (with_columns bounds r.y c))
   bounds_grown c columns =
       let between : (x : ℤ) → among_rows p (so_far.passed ++ r ∷ []) x r.y ≡ true → (c.first ≤ℤ x) × (x ≤ℤ c.last) = λ x found. (
-        by_lt_z x c.first (λ lt. absurd (false≢true (sym (in_row x ∙ columns.first.before x lt) ∙ found))) (λ le. le),
-        by_lt_z c.last x (λ lt. absurd (false≢true (sym (in_row x ∙ columns.last.behind x lt) ∙ found))) (λ le. le),
+        by_lt_z x c.first (λ lt. absurd (false≢true (sym (in_row x ∙ columns.first.left x lt) ∙ found))) (λ le. le),
+        by_lt_z c.last x (λ lt. absurd (false≢true (sym (in_row x ∙ columns.last.right x lt) ∙ found))) (λ le. le),
       ) in
       record {
         passed = so_far.passed ++ r ∷ [];

@@ -9,7 +9,7 @@ use Rattle.mf_edges.specs.declared.edge.Edge.{Edge}
 use Rattle.mf_edges.specs.Edges.{weight_in, AreEdgesFrom, AreEdges, IsEdge}
 use Rattle.mf_edges.specs.LawfulWeights.{IsLawfulWeight}
 use Rattle.mf_edges.specs.Merging.{BeginFrom}
-use Rattle.mf_edges.proofs.EdgesLemmas.{weight_in-append, weight_in-left, weight_in-before, weight_in-behind}
+use Rattle.mf_edges.proofs.EdgesLemmas.{weight_in-append, weight_in-left, weight_in-before, weight_in-after}
 use Rattle.mf_rows.specs.declared.bounds.Pixels.{Pixels}
 use Rattle.mf_rows.specs.declared.bounds.Pixels.TheVariants.{Nonzero, Black}
 use Rattle.mf_rows.specs.Bounds.{is_among}
@@ -22,19 +22,19 @@ zero_is_none Black = refl
 
 -- ---- an edge of a row, and the weights on both sides of it
 
--- the edges before it, and those behind it
-pub record IsEdgeAmong (low : ℤ) (before : List Edge) (e : Edge) (behind : List Edge) : Type 0 where
+-- the edges before it, and those after it
+pub record IsEdgeAmong (low : ℤ) (before : List Edge) (e : Edge) (after : List Edge) : Type 0 where
   pub edge : IsEdge e
   pub from : low ≤ℤ e.x
   pub sorted : AreEdgesFrom low before
   pub ended : All (λ f. f.x <ℤ e.x) before
-  pub others : AreEdgesFrom (e.x +ℤ pos 1) behind
+  pub others : AreEdgesFrom (e.x +ℤ pos 1) after
 
-pub edge_among : (low : ℤ) (before : List Edge) (e : Edge) (behind : List Edge) → AreEdgesFrom low (before ++ e ∷ behind) → IsEdgeAmong low before e behind
-edge_among low [] e behind edges =
+pub edge_among : (low : ℤ) (before : List Edge) (e : Edge) (after : List Edge) → AreEdgesFrom low (before ++ e ∷ after) → IsEdgeAmong low before e after
+edge_among low [] e after edges =
     record { edge = edges.0; from = edges.1; sorted = tt; ended = All-nil (λ f. f.x <ℤ e.x); others = edges.2 }
-edge_among low (f ∷ fs) e behind edges =
-    let among = edge_among (f.x +ℤ pos 1) fs e behind edges.2 in
+edge_among low (f ∷ fs) e after edges =
+    let among = edge_among (f.x +ℤ pos 1) fs e after edges.2 in
     let lt : f.x <ℤ e.x = omega (arith, ints, among.from) in
     record {
       edge = among.edge;
@@ -70,20 +70,20 @@ begin_from low (e ∷ es) edges = edges.1
 record Cut : Type 0 where
   before : List Edge
   edge : Edge
-  behind : List Edge
+  after : List Edge
 
 -- a row is cut before an edge, and w is its weight there
 record IsCut (es : List Edge) (c : Cut) (w : ℤ) : Type 0 where
-  split : es ≡ c.before ++ c.edge ∷ c.behind
+  split : es ≡ c.before ++ c.edge ∷ c.after
   edges : AreEdges es
   weight : weight_in c.before greatest_coordinate ≡ w
 
-module _ {es before : List Edge} {e : Edge} {behind : List Edge} {w : ℤ} (cut : IsCut es (record { before = before; edge = e; behind = behind }) w) where
-  among : IsEdgeAmong least_coordinate before e behind
-  among = edge_among least_coordinate before e behind (subst (AreEdgesFrom least_coordinate) cut.split cut.edges.sorted)
+module _ {es before : List Edge} {e : Edge} {after : List Edge} {w : ℤ} (cut : IsCut es (record { before = before; edge = e; after = after }) w) where
+  among : IsEdgeAmong least_coordinate before e after
+  among = edge_among least_coordinate before e after (subst (AreEdgesFrom least_coordinate) cut.split cut.edges.sorted)
 
-  parts : (x : ℤ) → weight_in es x ≡ weight_in before x +ℤ weight_in (e ∷ behind) x
-  parts x = ap (λ fs. weight_in fs x) cut.split ∙ weight_in-append before (e ∷ behind) x
+  parts : (x : ℤ) → weight_in es x ≡ weight_in before x +ℤ weight_in (e ∷ after) x
+  parts x = ap (λ fs. weight_in fs x) cut.split ∙ weight_in-append before (e ∷ after) x
 
   up_to : (x : ℤ) → e.x ≤ℤ (x +ℤ pos 1) → All (λ f. f.x ≤ℤ x) before
   up_to x le = All-weaker (λ f. f.x <ℤ e.x) (λ f. f.x ≤ℤ x) (λ f lt. omega (arith, ints)) before among.ended
@@ -91,21 +91,21 @@ module _ {es before : List Edge} {e : Edge} {behind : List Edge} {w : ℤ} (cut 
   weight_before : (x : ℤ) → All (λ f. f.x ≤ℤ x) before → x <ℤ e.x → weight_in es x ≡ w
   weight_before x left lt =
       let same = weight_in-same before x greatest_coordinate (omega (arith, ints, among.edge.right)) left in
-      let none = weight_in-none e.x (e ∷ behind) x (among.edge, omega (arith, ints), among.others) (omega (arith, ints)) in
+      let none = weight_in-none e.x (e ∷ after) x (among.edge, omega (arith, ints), among.others) (omega (arith, ints)) in
       omega (arith, ints, parts x, cut.weight)
 
-  weight_behind : (x : ℤ) → e.x ≤ℤ x → BeginFrom (x +ℤ pos 1) behind → weight_in es x ≡ w +ℤ e.weight
-  weight_behind x le from =
+  weight_after : (x : ℤ) → e.x ≤ℤ x → BeginFrom (x +ℤ pos 1) after → weight_in es x ≡ w +ℤ e.weight
+  weight_after x le from =
       let left = up_to e.x (omega (arith, ints)) in
       let same = weight_in-same before e.x greatest_coordinate among.edge.right left in
-      let none = weight_in-none (e.x +ℤ pos 1) behind x among.others from in
-      omega (arith, ints, parts x, weight_in-same before e.x x le left, weight_in-left e behind x le, cut.weight)
+      let none = weight_in-none (e.x +ℤ pos 1) after x among.others from in
+      omega (arith, ints, parts x, weight_in-same before e.x x le left, weight_in-left e after x le, cut.weight)
 
   weight_left : weight_in es (e.x -ℤ pos 1) ≡ w
   weight_left = weight_before (e.x -ℤ pos 1) (up_to (e.x -ℤ pos 1) (omega (arith, ints))) (omega (arith, ints))
 
   weight_here : weight_in es e.x ≡ w +ℤ e.weight
-  weight_here = weight_behind e.x (omega (arith, ints)) (begin_from (e.x +ℤ pos 1) behind among.others)
+  weight_here = weight_after e.x (omega (arith, ints)) (begin_from (e.x +ℤ pos 1) after among.others)
 
   lawful : IsLawfulWeight w × IsLawfulWeight (w +ℤ e.weight)
   lawful = (subst IsLawfulWeight weight_left (cut.edges.lawful (e.x -ℤ pos 1)), subst IsLawfulWeight weight_here (cut.edges.lawful e.x))
@@ -141,7 +141,7 @@ none_at_first p es edges = record {
 
 module _ (p : Pixels) (es rest others : List Edge) (e : Edge) (w : ℤ) (next : rest ≡ e ∷ others) (edges : AreEdges es)
     (so_far : IsNoneBefore p es rest w) where
-  first_cut : IsCut es (record { before = so_far.passed; edge = e; behind = others }) w
+  first_cut : IsCut es (record { before = so_far.passed; edge = e; after = others }) w
   first_cut = record {
     split = so_far.split ∙ ap (λ fs. so_far.passed ++ fs) next;
     edges = edges;
@@ -158,12 +158,12 @@ module _ (p : Pixels) (es rest others : List Edge) (e : Edge) (w : ℤ) (next : 
       let sum : to_z w32 (of_z w32 (w +ℤ e.weight)) ≡ w +ℤ e.weight = omega (arith, ints, new.least, new.greatest) in
       let none : (x : ℤ) → x <ℤ e.x → is_among p (weight_in es x) ≡ false = λ x lt. so_far.none x (rw next (omega (arith, ints, lt))) in
       rw (column_is first_cut, change_is first_cut, sum) (record {
-        found = λ found. record { here = ap (is_among p) (weight_here first_cut) ∙ found; before = none };
+        found = λ found. record { here = ap (is_among p) (weight_here first_cut) ∙ found; left = none };
         more = λ missing. record {
           passed = so_far.passed ++ e ∷ [];
           split = first_cut.split ∙ sym (append_assoc so_far.passed (e ∷ []) others);
           weight = omega (arith, ints, weight_in-push so_far.passed e greatest_coordinate (among first_cut).edge.right, so_far.weight);
-          none = λ x from. by_lt_z x e.x (none x) (λ le. ap (is_among p) (weight_behind first_cut x le from) ∙ missing);
+          none = λ x from. by_lt_z x e.x (none x) (λ le. ap (is_among p) (weight_after first_cut x le from) ∙ missing);
         };
       })
 
@@ -173,17 +173,17 @@ none_at_last p es w so_far = record { none = λ x. so_far.none x tt }
 -- ---- from the right
 
 -- to the right of the rest of a row there is none of these pixels, and w is the weight at its right end
-pub record IsNoneBehind (p : Pixels) (es rest : List Edge) (w : ℤ) : Type 0 where
+pub record IsNoneAfter (p : Pixels) (es rest : List Edge) (w : ℤ) : Type 0 where
   pub passed : List Edge
   pub split : es ≡ rest ++ passed
   pub weight : weight_in rest greatest_coordinate ≡ w
   pub none : (x : ℤ) → All (λ e. e.x ≤ℤ x) rest → is_among p (weight_in es x) ≡ false
 
-pub none_at_right : (p : Pixels) (es : List Edge) → AreEdges es → IsNoneBehind p es es (pos 0)
+pub none_at_right : (p : Pixels) (es : List Edge) → AreEdges es → IsNoneAfter p es es (pos 0)
 none_at_right p es edges =
     let same : (x : ℤ) → All (λ e. e.x ≤ℤ x) es → weight_in es x ≡ weight_in es greatest_coordinate = λ x left.
     by_lt_z x greatest_coordinate (λ lt. sym (weight_in-same es x greatest_coordinate (omega (arith, ints, lt)) left))
-    (weight_in-behind least_coordinate es x edges.sorted) in
+    (weight_in-after least_coordinate es x edges.sorted) in
     record {
       passed = [];
       split = sym (append-nil es);
@@ -192,8 +192,8 @@ none_at_right p es edges =
     }
 
 module _ (p : Pixels) (es rest before : List Edge) (e : Edge) (w : ℤ) (last : rest ≡ before ++ e ∷ []) (edges : AreEdges es)
-    (so_far : IsNoneBehind p es rest w) where
-  last_cut : IsCut es (record { before = before; edge = e; behind = so_far.passed }) (w -ℤ e.weight)
+    (so_far : IsNoneAfter p es rest w) where
+  last_cut : IsCut es (record { before = before; edge = e; after = so_far.passed }) (w -ℤ e.weight)
   last_cut =
       let split = so_far.split ∙ ap (λ fs. fs ++ so_far.passed) last ∙ append_assoc before (e ∷ []) so_far.passed in
       let among = edge_among least_coordinate before e so_far.passed (subst (AreEdgesFrom least_coordinate) split edges.sorted) in
@@ -209,7 +209,7 @@ module _ (p : Pixels) (es rest before : List Edge) (e : Edge) (w : ℤ) (last : 
 
   pub last_step : IsStep p (to_z w32 (of_z w32 (w -ℤ to_z w32 (of_z w32 e.weight))))
       (IsLastColumn p es (to_z w32 (of_z w32 (to_z w32 (of_z w32 e.x) -ℤ pos 1))))
-      (IsNoneBehind p es before (to_z w32 (of_z w32 (w -ℤ to_z w32 (of_z w32 e.weight)))))
+      (IsNoneAfter p es before (to_z w32 (of_z w32 (w -ℤ to_z w32 (of_z w32 e.weight)))))
   last_step =
       let edge = (among last_cut).edge in
       let new = (lawful last_cut).0 in
@@ -218,7 +218,7 @@ module _ (p : Pixels) (es rest before : List Edge) (e : Edge) (w : ℤ) (last : 
       let none : (x : ℤ) → e.x ≤ℤ x → is_among p (weight_in es x) ≡ false = λ x le.
       so_far.none x (rw last (All-push (λ f. f.x ≤ℤ x) before e (up_to last_cut x (omega (arith, ints, le))) le)) in
       rw (column_is last_cut, left, change_is last_cut, less) (record {
-        found = λ found. record { here = ap (is_among p) (weight_left last_cut) ∙ found; behind = λ x lt. none x (omega (arith, ints, lt)) };
+        found = λ found. record { here = ap (is_among p) (weight_left last_cut) ∙ found; right = λ x lt. none x (omega (arith, ints, lt)) };
         more = λ missing. record {
           passed = e ∷ so_far.passed;
           split = last_cut.split;
@@ -227,5 +227,5 @@ module _ (p : Pixels) (es rest before : List Edge) (e : Edge) (w : ℤ) (last : 
         };
       })
 
-pub none_at_all : (p : Pixels) (es rest : List Edge) (w : ℤ) → rest ≡ [] → IsNoneBehind p es rest w → HasNone p es
+pub none_at_all : (p : Pixels) (es rest : List Edge) (w : ℤ) → rest ≡ [] → IsNoneAfter p es rest w → HasNone p es
 none_at_all p es rest w none so_far = record { none = λ x. so_far.none x (rw none (All-nil (λ e. e.x ≤ℤ x))) }

@@ -14,7 +14,7 @@ use Rattle.mf_rows.specs.Sums.{weight_in_all, HaveRowWeights, IsUnlawfulSomewher
 use Rattle.mf_edges.proofs.EdgesLemmas.{weight_in-left, weight_in-before}
 use Rattle.mf_rows.proofs.EdgeRowsLemmas.{weight_in_rows-append, weight_in_rows-here, weight_in_rows-elsewhere, weight_in_rows-above}
 use Rattle.mf_rows.proofs.EdgeRowsLemmas.{weight_in_rows-below, rows_from-higher, rows_from-below, rows_from-append}
-use Rattle.mf_rows.proofs.RowSums.{IsRowSumSoFar, rows_behind}
+use Rattle.mf_rows.proofs.RowSums.{IsRowSumSoFar, rows_and_others}
 
 -- ---- the next row that is added
 
@@ -80,7 +80,7 @@ sum_all_weights {sum = sum} {rs = rs} so_far = record {
 }
 
 pub sum_all_rows : {f : ℤ → ℤ → ℤ} {sum rs : List EdgeRow} → IsRowSumSoFar f sum rs [] → AreRows (sum ++ rs)
-sum_all_rows {rs = rs} so_far = rows_behind so_far rs so_far.left
+sum_all_rows {rs = rs} so_far = rows_and_others so_far rs so_far.left
 
 -- ---- how far a sum reaches
 

@@ -152,8 +152,8 @@ module _ {f : ℤ → ℤ → ℤ} {sum rs ss : List EdgeRow} (so_far : IsRowSum
   pub rows_left : AreRows rs
   rows_left = record { rows = rows_from-higher last_in_field so_far.top rs so_far.in_field so_far.left }
 
-  pub rows_behind : (others : List EdgeRow) → AreRowsFrom so_far.top others → AreRows (sum ++ others)
-  rows_behind others rows = record {
+  pub rows_and_others : (others : List EdgeRow) → AreRowsFrom so_far.top others → AreRows (sum ++ others)
+  rows_and_others others rows = record {
     rows = rows_from-append last_in_field sum others so_far.rows (rows_from-higher last_in_field so_far.top others so_far.in_field rows)
         (All-weaker (λ r. so_far.top <ℤ r.y) (λ r. AreBelow r.y others) (λ r lt. rows_from-below so_far.top r.y others rows lt) sum so_far.above);
   }
@@ -196,7 +196,7 @@ module _ {f : ℤ → ℤ → ℤ} {sum left right : List EdgeRow} (so_far : IsR
         record {
           top = added.y;
           in_field = omega (arith, ints, so_far.in_field);
-          rows = (rows_behind so_far above first_rows).rows;
+          rows = (rows_and_others so_far above first_rows).rows;
           above = All-append (λ r. added.y <ℤ r.y) sum above
               (All-weaker (λ r. so_far.top <ℤ r.y) (λ r. added.y <ℤ r.y) (λ r lt. omega (arith, ints)) sum so_far.above) (rw height_is at higher);
           left = rw height_is at rest_from;

@@ -12,9 +12,9 @@ use Rattle.mf_edges.specs.Edges.{weight_in, AreEdgesFrom, AreEdges, AreOpenEdges
 use Rattle.mf_rows.specs.EdgeRows.{EdgeRow}
 use Rattle.mf_rows.specs.Order.{IsRun}
 use Rattle.mf_edges.specs.Sums.{HaveWeights, with_edge_in}
-use Rattle.mf_edges.proofs.EdgeSums.{with_edge_in-before, with_edge_in-behind}
+use Rattle.mf_edges.proofs.EdgeSums.{with_edge_in-before, with_edge_in-after}
 use Rattle.mf_edges.proofs.EdgesAt.{edges_from-at, step_at_edge}
-use Rattle.mf_edges.proofs.EdgesLemmas.{weight_in-left, weight_in-before, weight_in-behind}
+use Rattle.mf_edges.proofs.EdgesLemmas.{weight_in-left, weight_in-before, weight_in-after}
 
 -- ---- the ends of edges
 
@@ -41,7 +41,7 @@ EndAt-from_constant low es x w edges constant = λ k d lt.
     by_lt_z x e.x
     (λ before. absurd ((edges_from-at low es k d edges lt).0.nonzero
     (omega (arith, ints, step_at_edge low es k d edges lt, constant e.x (omega (arith, ints)), constant (e.x -ℤ pos 1) (omega (arith, ints))))))
-    (λ behind. behind)
+    (λ after. after)
 
 -- a row may have no edges yet
 pub no_edges : AreEdges []
@@ -64,7 +64,7 @@ pub weight_in-end : (es : List Edge) (x u : ℤ) → AreEdges es → EndAt x es 
 weight_in-end es x u edges end le =
     by_lt_z u greatest_coordinate
     (λ inside. weight_in-constant es x u end le ∙ sym (weight_in-constant es x greatest_coordinate end (omega (arith, ints))) ∙ edges.closed)
-    (λ behind. weight_in-behind least_coordinate es u edges.sorted behind ∙ edges.closed)
+    (λ after. weight_in-after least_coordinate es u edges.sorted after ∙ edges.closed)
 
 -- a row with an edge has a weight that is not 0
 pub some_weight : (es : List Edge) → es ≢ [] → AreEdgesFrom least_coordinate es → ((x : ℤ) → least_coordinate ≤ℤ x → weight_in es x ≡ pos 0) → ⊥
@@ -85,7 +85,7 @@ weight-from_run : (es mid : List Edge) (r : Run) (c : ℤ) → AreEdges es → E
     → HaveWeights (with_edge_in es r.x r.weight) mid → r.x ≤ℤ c → weight_in mid c ≡ r.weight
 weight-from_run es mid r c edges end first from =
     let none = weight_in-end es r.x c edges end from in
-    let sum = with_edge_in-behind es r.x r.weight c from in
+    let sum = with_edge_in-after es r.x r.weight c from in
     omega (arith, ints, first.weights c)
 
 -- so its weights are still lawful
@@ -110,8 +110,8 @@ run_added old new mid r run edges end row sorted first second =
     let before : (c : ℤ) → c <ℤ r.x → weight_in new.edges c ≡ weight_in es c = λ c left.
     second.weights c ∙ with_edge_in-before mid stop (pos 0 -ℤ r.weight) c (omega (arith, ints))
     ∙ first.weights c ∙ with_edge_in-before es r.x r.weight c left in
-    let behind : (c : ℤ) → stop ≤ℤ c → weight_in new.edges c ≡ weight_in es c = λ c right.
-    let sum = with_edge_in-behind mid stop (pos 0 -ℤ r.weight) c right in
+    let after : (c : ℤ) → stop ≤ℤ c → weight_in new.edges c ≡ weight_in es c = λ c right.
+    let sum = with_edge_in-after mid stop (pos 0 -ℤ r.weight) c right in
     let weight = weight-from_run es mid r c edges end first (omega (arith, ints)) in
     let none = weight_in-end es r.x c edges end (omega (arith, ints)) in
     omega (arith, ints, second.weights c) in
@@ -122,11 +122,11 @@ run_added old new mid r run edges end row sorted first second =
         lawful = λ c. by_columns r c
             (λ left. rw (before c left) (edges.lawful c))
             (λ from to. rw (inside c from to) run.lawful)
-            (λ right. rw (behind c right) (edges.lawful c));
-        closed = behind greatest_coordinate run.right ∙ edges.closed;
+            (λ right. rw (after c right) (edges.lawful c));
+        closed = after greatest_coordinate run.right ∙ edges.closed;
       };
       inside = inside;
-      outside = λ c out. by_columns r c (before c) (λ from to. absurd (out from to)) (behind c);
+      outside = λ c out. by_columns r c (before c) (λ from to. absurd (out from to)) (after c);
     }
 
 -- a row with a run has an edge

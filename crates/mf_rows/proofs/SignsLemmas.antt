@@ -69,7 +69,7 @@ changes_from low w (e ∷ es) edges start lawful =
     let others : (x : ℤ) → IsLawfulWeight (next +ℤ weight_in es x) =
     λ x. by_lt_z x e.x
     (λ before. subst IsLawfulWeight (omega (arith, ints, weight_in-before (e.x +ℤ pos 1) es x edges.2 (omega (arith, ints)))) after)
-    (λ behind. subst IsLawfulWeight (omega (arith, ints, weight_in-left e es x behind)) (lawful x)) in
+    (λ here. subst IsLawfulWeight (omega (arith, ints, weight_in-left e es x here)) (lawful x)) in
     All-cons IsChange e es
     (record { least = omega (arith, ints); greatest = omega (arith, ints) })
     (changes_from (e.x +ℤ pos 1) next es edges.2 after others)
@@ -133,7 +133,7 @@ pub signed_split : (s : Sign) {n : ℤ} {rs first rest : List EdgeRow} → AreSp
 signed_split s {n = n} {first = first} {rest = rest} split = record {
   all = ap (signed s) split.all ∙ signed-append s first rest;
   up_to = signed_all (λ y. (lowest_of n -ℤ pos 1) <ℤ y) s first split.up_to;
-  behind = signed_all (λ y. y <ℤ lowest_of n) s rest split.behind;
+  after = signed_all (λ y. y <ℤ lowest_of n) s rest split.after;
 }
 
 pub signed_split_at_place : (s : Sign) (i : ℕ) (rs own others : List EdgeRow) → IsSplitAtPlace i rs own others

@@ -35,7 +35,7 @@ same_tails d ds es left right weights = record {
       let low = place d.x d.y +ℤ pos 1 in
       by_lt_z (place x y) low
       (λ before. weight_at-before low ds x y left before ∙ sym (weight_at-before low es x y right before))
-      (λ behind.
+      (λ after.
       let elsewhere = not_at d x y (λ same. omega (arith, ints)) in
       sym (weight_at-elsewhere d ds x y elsewhere) ∙ weights.same x y inside ∙ weight_at-elsewhere d es x y elsewhere);
 }
@@ -77,11 +77,11 @@ row_from f y x (suc n) es columns lawful later =
     let first : Dot = record { y = y; x = x; weight = f x y } in
     let inside = first_column x y n columns in
     let others = row_of f y (x +ℤ pos 1) n in
-    let behind =
+    let after =
     subst (λ p. AreDotsFrom p (others ++ es)) (place-next x y)
     (row_from f y (x +ℤ pos 1) n es (next_columns x y n columns) lawful (subst (λ u. AreDotsFrom (place u y) es) (omega (arith, ints)) later)) in
     cond_both (int_eq (f x y) (pos 0)) others (first ∷ others) (λ row. AreDotsFrom (place x y) (row ++ es))
-    (λ blank. dots_from-lower (place x y) (place x y +ℤ pos 1) (others ++ es) (omega (arith, ints)) behind)
+    (λ blank. dots_from-lower (place x y) (place x y +ℤ pos 1) (others ++ es) (omega (arith, ints)) after)
     (λ dotted. (
       record {
         in_field = inside;
@@ -89,7 +89,7 @@ row_from f y x (suc n) es columns lawful later =
         nonzero = not_from_Decides (int_eq (f x y) (pos 0)) (Decides-int_eq (f x y) (pos 0)) dotted;
       },
       omega (arith, ints),
-      behind,
+      after,
     ))
 
 rows_from : (f : ℤ → ℤ → ℤ) (y : ℤ) (n : ℕ) → (least_coordinate -ℤ pos 1 +ℤ pos n) ≤ℤ y → y ≤ℤ last_in_field

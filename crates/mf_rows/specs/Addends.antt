@@ -7,7 +7,7 @@ use Rattle.mf_rows.specs.declared.addend.Part.{Part}
 use Rattle.mf_rows.specs.declared.bands.TheConstants.{BAND_COUNT}
 use Rattle.mf_rows.specs.Bands.{rows_in, rows_of_bands, slice_rows}
 use Rattle.mf_rows.specs.BandNumbers.{RiseFrom, number_of}
-use Rattle.mf_rows.specs.BandSums.{AreBehind, AreSplitAtBand}
+use Rattle.mf_rows.specs.BandSums.{AreAfter, AreSplitAtBand}
 use Rattle.mf_rows.specs.EdgeRows.{EdgeRow, AreRows}
 use Rattle.mf_rows.specs.FieldBands.{AreOfBand}
 use Rattle.mf_rows.specs.Signs.{signed}
@@ -29,7 +29,7 @@ addend_size (Rows rows) = length (slice_rows rows)
 -- what is added is lawful, and belongs to bands from band n on
 abbrev pub IsAddedFrom : ℤ → Addend → Type 0
 IsAddedFrom n (Bands bands sign) = AreRows (rows_of_bands bands.now) × RiseFrom n bands.now
-IsAddedFrom n (Rows rows) = AreRows (slice_rows rows) × AreBehind (n -ℤ pos 1) (slice_rows rows)
+IsAddedFrom n (Rows rows) = AreRows (slice_rows rows) × AreAfter (n -ℤ pos 1) (slice_rows rows)
 
 -- rows of one band, and the band that has them, where there is one
 pub record IsPart (part : Part) : Type 0 where
@@ -43,7 +43,7 @@ pub record IsSplitAtFirst (added : Addend) (part : Part) (rest : Addend) : Type 
   pub lawful : IsPart part
   pub reached : (n : ℤ) → IsAddedFrom n added → n ≤ℤ part.number
   pub greatest : part.number <ℤ BAND_COUNT
-  pub behind : AreBehind (part.number -ℤ pos 1) (addend_rows added)
+  pub none_before : AreAfter (part.number -ℤ pos 1) (addend_rows added)
   pub rows : AreSplitAtBand part.number (addend_rows added) (part_rows part) (addend_rows rest)
   pub left : IsAddedFrom (part.number +ℤ pos 1) rest
   pub fewer : addend_size rest < addend_size added

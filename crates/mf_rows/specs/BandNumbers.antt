@@ -49,7 +49,7 @@ band_found (Some band) = band.now ∷ []
 pub record IsSplitAtBand (n : ℤ) (bs first rest : List (Arc Band Global)) : Type 0 where
   pub all : bs ≡ first ++ rest
   pub up_to : All (λ b. number_of b ≤ℤ n) first
-  pub behind : All (λ b. n <ℤ number_of b) rest
+  pub after : All (λ b. n <ℤ number_of b) rest
 
 -- the number of the band that is made of rows of band n: none where there are no rows
 abbrev pub number_of_rows : ℤ → List EdgeRow → List ℤ

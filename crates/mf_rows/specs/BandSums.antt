@@ -15,14 +15,14 @@ abbrev pub AreUpTo : ℤ → List EdgeRow → Type 0
 AreUpTo n rs = AreAbove (lowest_of n -ℤ pos 1) rs
 
 -- rows that belong to bands after band n
-abbrev pub AreBehind : ℤ → List EdgeRow → Type 0
-AreBehind n rs = AreBelow (lowest_of n) rs
+abbrev pub AreAfter : ℤ → List EdgeRow → Type 0
+AreAfter n rs = AreBelow (lowest_of n) rs
 
 -- rows are split into those of bands up to band n and those of bands after it
 pub record AreSplitAtBand (n : ℤ) (rs first rest : List EdgeRow) : Type 0 where
   pub all : rs ≡ first ++ rest
   pub up_to : AreUpTo n first
-  pub behind : AreBehind n rest
+  pub after : AreAfter n rest
 
 -- rows were appended that have the weights of two lists of rows together and reach no further than these
 pub record HasSum (before rs ss after : List EdgeRow) : Type 0 where

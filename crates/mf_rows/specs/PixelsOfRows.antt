@@ -18,12 +18,12 @@ pub record HasNone (p : Pixels) (es : List Edge) : Type 0 where
 -- the first of these pixels of a row is at column x
 pub record IsFirstColumn (p : Pixels) (es : List Edge) (x : ℤ) : Type 0 where
   pub here : is_among p (weight_in es x) ≡ true
-  pub before : (u : ℤ) → u <ℤ x → is_among p (weight_in es u) ≡ false
+  pub left : (u : ℤ) → u <ℤ x → is_among p (weight_in es u) ≡ false
 
 -- the last of these pixels of a row is at column x
 pub record IsLastColumn (p : Pixels) (es : List Edge) (x : ℤ) : Type 0 where
   pub here : is_among p (weight_in es x) ≡ true
-  pub behind : (u : ℤ) → x <ℤ u → is_among p (weight_in es u) ≡ false
+  pub right : (u : ℤ) → x <ℤ u → is_among p (weight_in es u) ≡ false
 
 -- the columns from the first of these pixels of a row to the last
 pub record AreColumns (p : Pixels) (es : List Edge) (c : Columns) : Type 0 where

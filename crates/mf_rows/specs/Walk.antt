@@ -31,6 +31,6 @@ remaining_runs r = runs_of_edges r.y r.weight (both_edges r.edges) ++ runs_of_ro
 
 -- an edge at column x was taken from s, which left t: a run up to the next edge begins there, unless the weight is 0
 pub record IsEdgeTaken (s : Walk) (x : ℤ) (t : Walk) : Type 0 where
-  pub left : remaining_runs s ≡ run_up_to t.y x t.weight (both_edges t.edges) ++ remaining_runs t
+  pub runs : remaining_runs s ≡ run_up_to t.y x t.weight (both_edges t.edges) ++ remaining_runs t
   pub column : least_coordinate ≤ℤ x
-  pub behind : AreEdgesFrom (x +ℤ pos 1) (both_edges t.edges)
+  pub right : AreEdgesFrom (x +ℤ pos 1) (both_edges t.edges)

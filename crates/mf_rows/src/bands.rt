@@ -88,7 +88,7 @@ fn count_up_to(bands: &[Arc<Band>], number: i32) -> usize
     requires { HaveRisingNumbers bands.now }
     ensures within { result ≤ length bands.now }
     ensures up_to { All (λ band. number_of band ≤ℤ number) (take result bands.now) }
-    ensures behind { All (λ band. number <ℤ number_of band) (drop result bands.now) }
+    ensures after { All (λ band. number <ℤ number_of band) (drop result bands.now) }
 {
     bands.partition_point(|band| band.number <= number)
 }

@@ -78,7 +78,7 @@ impl<'a> Walk<'a> {
     /// Enters the next row where no edge of this one is left.
     #[inline(always)]
     fn enter_row(&mut self)
-        ensures left { remaining_runs self.new ≡ remaining_runs self.old }
+        ensures runs { remaining_runs self.new ≡ remaining_runs self.old }
         ensures over { both_edges self.new.edges ≡ [] → remaining_runs self.new ≡ [] }
         ensures weight { self.new.weight ≡ self.old.weight }
     {
@@ -92,7 +92,7 @@ impl<'a> Walk<'a> {
     #[inline(always)]
     fn enter_next_row(&mut self)
         requires { both_edges self.old.edges ≡ [] }
-        ensures left { remaining_runs self.new ≡ remaining_runs self.old }
+        ensures runs { remaining_runs self.new ≡ remaining_runs self.old }
         ensures over { both_edges self.new.edges ≡ [] → remaining_runs self.new ≡ [] }
         ensures weight { self.new.weight ≡ self.old.weight }
     {

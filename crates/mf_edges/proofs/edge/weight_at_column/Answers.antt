@@ -3,7 +3,7 @@ use Rattle.std.proofs.lemmas.Int.{ints}
 use Rattle.mf_edges.specs.declared.edge.Edge.{Edge}
 use Rattle.mf_edges.specs.LawfulWeights.{IsLawfulWeight}
 use Rattle.mf_edges.specs.Edges.{weight_in}
-use Rattle.mf_edges.proofs.EdgesAt.{step_at_edge, weight_in-take, weight_in-take_behind, weight_in-take_more}
+use Rattle.mf_edges.proofs.EdgesAt.{step_at_edge, weight_in-take, weight_in-take_after, weight_in-take_more}
 use Rattle.mf_edges.proofs.edge.weight_at_column.Goals as goal
 
 pub loop-edge-init : goal.loop-edge-init
@@ -16,7 +16,7 @@ returns-then-x-edge c =
     rw x_is at c.loop-edge.invariant
     ∙ weight_in-take _ c.args.edges.now _ (record { x = pos 0; weight = pos 0 }) c.args.x c.requires.sorted c.loop-edge-test.true (grind (arith, ints))
 
--- the weight before an edge that is passed, and the one behind it, are weights of the row
+-- the weight before an edge that is passed, and the one after it, are weights of the row
 next : (c : goal.After-weight-1) → let e : Edge = get_or c.args.edges.now c.loop-edge.edge-index (record { x = pos 0; weight = pos 0 }) in
     IsLawfulWeight (to_z w32 c.loop-edge.weight-bits) × IsLawfulWeight (to_z w32 c.loop-edge.weight-bits +ℤ e.weight)
 next c =
@@ -24,7 +24,7 @@ next c =
     let x_is = to_z-of_z c.ranges.x in
     let so_far = rw x_is at c.loop-edge.invariant in
     let before =
-    weight_in-take_behind _ c.args.edges.now _ (record { x = pos 0; weight = pos 0 }) c.args.x c.requires.sorted c.loop-edge-test.true (grind (arith, ints)) in
+    weight_in-take_after _ c.args.edges.now _ (record { x = pos 0; weight = pos 0 }) c.args.x c.requires.sorted c.loop-edge-test.true (grind (arith, ints)) in
     let step = step_at_edge _ c.args.edges.now _ (record { x = pos 0; weight = pos 0 }) c.requires.sorted c.loop-edge-test.true in (
       subst IsLawfulWeight (sym (so_far ∙ before)) (c.requires.lawful (e.x -ℤ pos 1)),
       subst IsLawfulWeight (step ∙ ap (λ w. w +ℤ e.weight) (sym (so_far ∙ before))) (c.requires.lawful e.x),

@@ -1,7 +1,7 @@
 use Rattle.std.proofs.Common.{◌≡◌, true, false, to_z, of_z, to_z-of_z, w32, subst, rules}
 use Rattle.std.specs.List.Sorted.{IsPartitionPoint}
 use Rattle.std.proofs.lemmas.Fn.{always_returns_same}
-use Rattle.mf_rows.proofs.FieldBandsLemmas.{is_up_to, IsPartitionedBy-is_up_to, up_to_split, behind_split}
+use Rattle.mf_rows.proofs.FieldBandsLemmas.{is_up_to, IsPartitionedBy-is_up_to, up_to_split, after_split}
 use Rattle.mf_rows.proofs.bands.count_up_to.Goals as goal
 
 split : (c : goal.After-partition_point)
@@ -16,5 +16,5 @@ split c =
 pub returns-clause-up_to : goal.returns-clause-up_to
 returns-clause-up_to c = up_to_split c.args.number _ c.args.bands.now c.partition_point.ensures.bound (split c).0
 
-pub returns-clause-behind : goal.returns-clause-behind
-returns-clause-behind c = behind_split c.args.number _ c.args.bands.now (split c).1
+pub returns-clause-after : goal.returns-clause-after
+returns-clause-after c = after_split c.args.number _ c.args.bands.now (split c).1

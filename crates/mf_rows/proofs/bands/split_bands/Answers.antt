@@ -8,5 +8,5 @@ returns c =
     rw (c.split_at.ensures.front, c.split_at.ensures.back) (record {
       all = sym (take-append-drop _ c.args.bands.now);
       up_to = rw number_is at c.count_up_to.ensures.up_to;
-      behind = rw number_is at c.count_up_to.ensures.behind;
+      after = rw number_is at c.count_up_to.ensures.after;
     })

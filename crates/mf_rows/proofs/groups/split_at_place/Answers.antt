@@ -11,7 +11,7 @@ returns-clause-rows c =
     record {
       all = split.all;
       above = subst (λ y. AreAbove y (rows_of_bands c.split_bands.result.0.now)) (omega (arith, ints)) split.up_to;
-      below = subst (λ y. AreBelow y (rows_of_bands c.split_bands.result.1.now)) (omega (arith, ints)) split.behind;
+      below = subst (λ y. AreBelow y (rows_of_bands c.split_bands.result.1.now)) (omega (arith, ints)) split.after;
     }
 
 pub returns-clause-own : goal.returns-clause-own

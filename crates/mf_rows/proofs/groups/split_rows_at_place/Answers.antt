@@ -9,5 +9,5 @@ returns c =
     record {
       all = split.all;
       above = subst (λ y. AreAbove y (slice_rows c.split_rows.result.0)) (omega (arith, ints)) split.up_to;
-      below = subst (λ y. AreBelow y (slice_rows c.split_rows.result.1)) (omega (arith, ints)) split.behind;
+      below = subst (λ y. AreBelow y (slice_rows c.split_rows.result.1)) (omega (arith, ints)) split.after;
     }

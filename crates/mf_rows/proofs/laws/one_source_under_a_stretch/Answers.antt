@@ -9,7 +9,7 @@ has_place : (s : Stretch) (p q : ℤ) → IsStretch s → source_of s q ≡ p �
 has_place s p q stretch is = (
   source_of-reached s p q stretch (omega (arith, ints)),
   by_lt_z q (target_of s (p +ℤ pos 1)) (λ before. omega (arith, ints))
-      (λ behind. let next = source_of-from s (p +ℤ pos 1) q stretch behind in absurd (omega (arith, ints))),
+      (λ after. let next = source_of-from s (p +ℤ pos 1) q stretch after in absurd (omega (arith, ints))),
 )
 
 pub returns : goal.returns

@@ -2,7 +2,7 @@ use Rattle.std.proofs.Common.{[], ◌∷◌, ◌++◌, ◌∙◌, subst, sym}
 use Rattle.std.proofs.lemmas.Bool.{false≢true}
 use Rattle.mf_rows.specs.Building.{open_rows, EndInRow}
 use Rattle.mf_rows.specs.Order.{Fits}
-use Rattle.mf_rows.proofs.BuildingLemmas.{ArePushed, pushed_behind}
+use Rattle.mf_rows.proofs.BuildingLemmas.{ArePushed, pushed_after}
 use Rattle.mf_rows.proofs.builder.RowBuilder.push_run.Goals as goal
 use Rattle.mf_rows.proofs.builder.RowBuilder.push_run.Goals.{In_ok-push}
 
@@ -11,7 +11,7 @@ pushed c =
     let rows = c.self.inside.rows.items in
     let fits = subst (λ ds. Fits ds c.args.run) (sym c.self.view_is) c.requires in
     let not_there = λ (there : EndInRow rows c.args.run.y). false≢true (sym c.if-end_in_row.false ∙ c.end_in_row.ensures.1 (rw c.deref.ensures.value there)) in
-    pushed_behind rows c.in_ok-with_run.field-0 c.args.run c.self.invariant fits not_there c.in_ok-with_run.ensures
+    pushed_after rows c.in_ok-with_run.field-0 c.args.run c.self.invariant fits not_there c.in_ok-with_run.ensures
 
 pub invariant_of-self-2 : goal.invariant_of-self-2
 invariant_of-self-2 c = rw c.in_ok-push.ensures.items (pushed c).rows

@@ -1,6 +1,6 @@
 use Rattle.std.proofs.Common.{◌≡◌, ◌<◌, ◌^◌, length, refl, arith}
 use Rattle.mf_edges.specs.Sums.{HasMoreEdges}
-use Rattle.mf_rows.proofs.CopiesLemmas.{copied_behind}
+use Rattle.mf_rows.proofs.CopiesLemmas.{copied_after}
 use Rattle.mf_rows.proofs.RowListLemmas.{heads_kept, rows_kept}
 use Rattle.mf_rows.proofs.row_list.RowList.push_all.Goals as goal
 
@@ -15,7 +15,7 @@ push_relocated-requires-clause-copied c =
     let base : c.len-base.result ≡ length c.self.inside.edges.items = omega arith in
     let fits : length edges.items < 2 ^ 64 = omega (arith, edges.ok, edges.small) in
     rw (c.deref.ensures.value, base)
-    (copied_behind c.args.rows _ _ _ _ c.edges_of-start.ensures.range c.edges_of-start.ensures.within c.in_ok-push_edges.ensures.pushed fits)
+    (copied_after c.args.rows _ _ _ _ c.edges_of-start.ensures.range c.edges_of-start.ensures.within c.in_ok-push_edges.ensures.pushed fits)
 
 pub returns : goal.returns
 returns c =

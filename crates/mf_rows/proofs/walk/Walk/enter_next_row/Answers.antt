@@ -16,9 +16,9 @@ invariant_of-self c =
       others = All-rest IsEdgeRow _ _ _ c.in-Some.ensures.steps self.others;
     }
 
-pub returns-in-Some-clause-left : goal.returns-in-Some-clause-left
+pub returns-in-Some-clause-runs : goal.returns-in-Some-clause-runs
 unfolding runs_of_edges
-returns-in-Some-clause-left c =
+returns-in-Some-clause-runs c =
     let y_fits : FitsSigned w32 c.in-Some.row.y = search rules in
     let y : to_z w32 (of_z w32 c.in-Some.row.y) ≡ c.in-Some.row.y = omega (arith, ints) in
     rw (y, c.in-Some.ensures.steps, c.requires, weight_none _ _ c.requires c.args.self.now.rest) refl

@@ -23,9 +23,9 @@ returns-clause-edge c =
     let row = c.enter_row.new.self in
     let edge = edge_taken _ _ _ _ c.in_ok-edge.ensures.first row.rest in
     record {
-      left = sym c.enter_row.ensures.left ∙ rw (c.in_ok-edge.ensures.first, edge.sum, edge.column, append_assoc) refl;
+      runs = sym c.enter_row.ensures.runs ∙ rw (c.in_ok-edge.ensures.first, edge.sum, edge.column, append_assoc) refl;
       column = rw edge.column edge.left;
-      behind = rw edge.column edge.behind;
+      right = rw edge.column edge.right;
     }
 
 pub returns-clause-changed : goal.returns-clause-changed

@@ -17,4 +17,4 @@ returns-clause-steps c =
     let x : to_z w32 (of_z w32 c.in_ok-x.x) ≡ c.in_ok-x.x = omega (arith, ints) in
     let weight : to_z w32 (of_z w32 now.weight) ≡ now.weight = omega (arith, ints) in
     let column : to_z w32 (of_z w32 c.in_ok-end.end.x) ≡ c.in_ok-end.end.x = omega (arith, ints) in
-    c.in_ok-x.ensures.start.left ∙ rw (c.in_ok-end.ensures.first, some, y, x, weight, c.abs_diff.ensures, column, x) refl
+    c.in_ok-x.ensures.start.runs ∙ rw (c.in_ok-end.ensures.first, some, y, x, weight, c.abs_diff.ensures, column, x) refl
