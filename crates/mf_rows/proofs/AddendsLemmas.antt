@@ -67,7 +67,7 @@ first_band s bs rest b rows from is same =
           (All-rows_of_bands (λ m. n ≤ℤ m) (λ y. y <ℤ lowest_of (n -ℤ pos 1)) (λ m y le of_band. omega (arith, ints, le, of_band.top)) bs.now
           (at_least n BAND_COUNT bs.now here));
       rows = subst (λ rs. AreSplitAtBand n (signed s (rows_of_bands bs.now)) (signed s rs) (signed s (rows_of_bands rest.now))) own (signed_split s parts);
-      left = (rows_of_rest parts from.0, rest_from split n here greatest);
+      after = (rows_of_rest parts from.0, rest_from split n here greatest);
       fewer = omega (arith, ap length is);
     }
 
@@ -108,6 +108,6 @@ first_rows number rows own rest r below lawful first of_number split =
       greatest = band.greatest;
       none_before = All-weaker (λ r. r.y <ℤ end) (λ r. r.y <ℤ lowest_of (n -ℤ pos 1)) (λ r lt. omega (arith, ints, lt)) (slice_rows rows) below_end;
       rows = split;
-      left = (rows_of_rest split lawful, subst (λ m. AreAfter m (slice_rows rest)) last split.after);
+      after = (rows_of_rest split lawful, subst (λ m. AreAfter m (slice_rows rest)) last split.after);
       fewer = fewer_after_first n (slice_rows rows) (slice_rows own) (slice_rows rest) r below first (omega (arith, ints, of_band.bottom)) split;
     }

@@ -123,5 +123,5 @@ module _ {f : ℤ → ℤ → ℤ} {sum bs : List (Arc Band Global)} {added : Ad
             next = part.number +ℤ pos 1;
             before = rising;
             left = rest_from own_split part.number others_left first.greatest;
-            right = first.left;
+            right = first.after;
           }

@@ -12,22 +12,22 @@ use Rattle.mf_rows.specs.declared.group.Group.{Group}
 use Rattle.mf_rows.specs.declared.group.TheConstants.{GROUP_HEIGHT}
 use Rattle.mf_rows.specs.Bands.{AreAbove}
 use Rattle.mf_rows.specs.EdgeRows.{EdgeRow, AreRowsFrom, AreRows, weight_in_rows}
-use Rattle.mf_rows.specs.Groups.{rows_at_place, rows_of_groups, IsLayer, AreLayersFrom, AreGroups, top_of_place, IsSplitAtPlace}
+use Rattle.mf_rows.specs.Groups.{rows_at_place, rows_of_groups, AreGroupRows, AreGroupsFrom, AreGroups, top_of_place, IsSplitAtPlace}
 use Rattle.mf_rows.specs.Sums.{weight_in_all, HaveRowWeights, IsUnlawfulSomewhere}
 use Rattle.mf_rows.proofs.EdgeRowsLemmas.{weight_in_rows-append, weight_in_rows-below, rows_from-below}
-use Rattle.mf_rows.proofs.GroupsLemmas.{Groups, rows_in_place, top_of, layer_at, rows_of_layers, sum_is_layer, weight_above_layer, weight_below_layer}
-use Rattle.mf_rows.proofs.GroupsMade.{own_is_layer, others_from, layers_from-more, rows_of_groups-more}
+use Rattle.mf_rows.proofs.GroupsLemmas.{Groups, rows_in_place, top_of, group_rows_at, rows_of_groups_from, sum_of_group, weight_above_group, weight_below_group}
+use Rattle.mf_rows.proofs.GroupsMade.{own_of_group, others_from, groups_from-more, rows_of_groups-more}
 
 -- ---- the groups from a place on
 
-layers_after : (top : ℤ) (gs : Groups) (i : ℕ) → AreLayersFrom top gs → AreLayersFrom (top_of top i) (drop i gs)
-layers_after top gs zero layers = subst (λ t. AreLayersFrom t gs) (omega (arith, ints)) layers
-layers_after top [] (suc i) layers = tt
-layers_after top (g ∷ gs) (suc i) layers =
-    subst (λ t. AreLayersFrom t (drop i gs)) (omega (arith, ints)) (layers_after (top -ℤ GROUP_HEIGHT) gs i layers.1)
+groups_from-after : (top : ℤ) (gs : Groups) (i : ℕ) → AreGroupsFrom top gs → AreGroupsFrom (top_of top i) (drop i gs)
+groups_from-after top gs zero groups = subst (λ t. AreGroupsFrom t gs) (omega (arith, ints)) groups
+groups_from-after top [] (suc i) groups = tt
+groups_from-after top (g ∷ gs) (suc i) groups =
+    subst (λ t. AreGroupsFrom t (drop i gs)) (omega (arith, ints)) (groups_from-after (top -ℤ GROUP_HEIGHT) gs i groups.1)
 
 rows_after : (gs : Groups) (i : ℕ) → AreGroups gs → AreRowsFrom (top_of_place i) (rows_of_groups (drop i gs))
-rows_after gs i groups = rows_of_layers (top_of_place i) (drop i gs) (layers_after last_in_field gs i groups.layers)
+rows_after gs i groups = rows_of_groups_from (top_of_place i) (drop i gs) (groups_from-after last_in_field gs i groups.groups)
 
 rows_split : (gs : Groups) (i : ℕ) → rows_of_groups (drop i gs) ≡ rows_in_place gs i ++ rows_of_groups (drop (suc i) gs)
 rows_split [] zero = refl
@@ -39,21 +39,21 @@ pub split_at_group : (gs : Groups) (i : ℕ) → AreGroups gs
     → IsSplitAtPlace i (rows_of_groups (drop i gs)) (rows_in_place gs i) (rows_of_groups (drop (i + 1) gs))
 split_at_group gs i groups =
     let next : suc i ≡ i + 1 = omega arith in
-    let layer = layer_at last_in_field gs i groups.layers in
+    let rows_in_group = group_rows_at last_in_field gs i groups.groups in
     record {
       all = subst (λ j. rows_of_groups (drop i gs) ≡ rows_in_place gs i ++ rows_of_groups (drop j gs)) next (rows_split gs i);
-      above = subst (λ y. AreAbove y (rows_in_place gs i)) (omega (arith, ints)) layer.above;
+      above = subst (λ y. AreAbove y (rows_in_place gs i)) (omega (arith, ints)) rows_in_group.above;
       below = rows_from-below (top_of_place (i + 1)) _ _ (rows_after gs (i + 1) groups) (omega (arith, ints));
     }
 
 -- groups have no weight below their last place
-weight_after : (top : ℤ) (gs : Groups) (x y : ℤ) → AreLayersFrom top gs → y ≤ℤ top_of top (length gs) → weight_in_rows (rows_of_groups gs) x y ≡ pos 0
+weight_after : (top : ℤ) (gs : Groups) (x y : ℤ) → AreGroupsFrom top gs → y ≤ℤ top_of top (length gs) → weight_in_rows (rows_of_groups gs) x y ≡ pos 0
 unfolding weight_in_rows
-weight_after top [] x y layers below = refl
-weight_after top (g ∷ gs) x y layers below =
+weight_after top [] x y groups below = refl
+weight_after top (g ∷ gs) x y groups below =
     let all = weight_in_rows-append (rows_at_place g) (rows_of_groups gs) x y in
-    let first = weight_below_layer top x y (rows_at_place g) layers.0 (omega (arith, ints, below)) in
-    let rest = weight_after (top -ℤ GROUP_HEIGHT) gs x y layers.1 (omega (arith, ints, below)) in
+    let first = weight_below_group top x y (rows_at_place g) groups.0 (omega (arith, ints, below)) in
+    let rest = weight_after (top -ℤ GROUP_HEIGHT) gs x y groups.1 (omega (arith, ints, below)) in
     omega (arith, ints)
 
 -- ---- bands are added at the places before place p
@@ -61,7 +61,7 @@ weight_after top (g ∷ gs) x y layers below =
 -- the groups that are made, those from place p on and the rows that are left weigh as much as all groups and all rows
 pub record IsAddedUpTo (p : ℕ) (whole : Groups × List EdgeRow) (sum : Groups) (rest : List EdgeRow) : Type 0 where
   pub place : length sum ≡ p
-  pub layers : AreLayersFrom last_in_field sum
+  pub groups : AreGroupsFrom last_in_field sum
   pub left : AreRowsFrom (top_of_place p) rest
   pub weights : (x y : ℤ)
       → weight_in_rows (rows_of_groups sum) x y +ℤ weight_in_all (rows_of_groups (drop p whole.0)) rest x y ≡ weight_in_all (rows_of_groups whole.0) whole.1 x y
@@ -70,18 +70,18 @@ pub added_none : (gs : Groups) (rs : List EdgeRow) → AreRows rs → IsAddedUpT
 unfolding weight_in_rows
 added_none gs rs rows = record {
   place = refl;
-  layers = tt;
+  groups = tt;
   left = subst (λ t. AreRowsFrom t rs) (omega (arith, ints)) rows.rows;
   weights = λ x y. omega (arith, ints);
 }
 
 module _ (p : ℕ) (gs : Groups) (rs : List EdgeRow) (sum : Groups) (rest own others : List EdgeRow)
     (groups : AreGroups gs) (so_far : IsAddedUpTo p (gs, rs) sum rest) (split : IsSplitAtPlace p rest own others) where
-  layer_of_own : IsLayer (top_of_place p) own
-  layer_of_own = own_is_layer p rest own others so_far.left split
+  own_rows : AreGroupRows (top_of_place p) own
+  own_rows = own_of_group p rest own others so_far.left split
 
-  layer_of_group : IsLayer (top_of_place p) (rows_in_place gs p)
-  layer_of_group = layer_at last_in_field gs p groups.layers
+  group_rows : AreGroupRows (top_of_place p) (rows_in_place gs p)
+  group_rows = group_rows_at last_in_field gs p groups.groups
 
   left_after : AreRowsFrom (top_of_place (p + 1)) others
   left_after = others_from p rest own others so_far.left split
@@ -102,9 +102,9 @@ module _ (p : ℕ) (gs : Groups) (rs : List EdgeRow) (sum : Groups) (rest own ot
       → HaveRowWeights (weight_in_all (rows_in_place gs p) own) (rows_at_place g) → IsAddedUpTo (p + 1) (gs, rs) (sum ++ g ∷ []) others
   added_more g rows weights = record {
     place = omega (arith, so_far.place, length-append sum (g ∷ []));
-    layers = layers_from-more last_in_field sum g so_far.layers
-        (subst (λ i. IsLayer (top_of_place i) (rows_at_place g)) (sym so_far.place)
-        (sum_is_layer (top_of_place p) (rows_in_place gs p) own (rows_at_place g) layer_of_group layer_of_own rows weights));
+    groups = groups_from-more last_in_field sum g so_far.groups
+        (subst (λ i. AreGroupRows (top_of_place i) (rows_at_place g)) (sym so_far.place)
+        (sum_of_group (top_of_place p) (rows_in_place gs p) own (rows_at_place g) group_rows own_rows rows weights));
     left = left_after;
     weights = λ x y.
         let all = weights_parted x y in
@@ -123,18 +123,18 @@ module _ (p : ℕ) (gs : Groups) (rs : List EdgeRow) (sum : Groups) (rest own ot
       let lawful : weight_in_rows (rows_in_place gs p) x y ≡ pos 0 → weight_in_rows own x y ≡ pos 0 → ⊥ =
       λ none_left none_right. found.unlawful (record { least = omega (arith, ints); greatest = omega (arith, ints) }) in
       by_lt_z top y
-      (λ above. absurd (lawful (weight_above_layer top x y _ layer_of_group above) (weight_above_layer top x y _ layer_of_own above)))
+      (λ above. absurd (lawful (weight_above_group top x y _ group_rows above) (weight_above_group top x y _ own_rows above)))
       (λ up_to.
       by_lt_z (top -ℤ GROUP_HEIGHT) y
       (λ within.
       let next : top_of_place (p + 1) <ℤ y = omega (arith, ints, within) in
-      let before = weight_after last_in_field sum x y so_far.layers (subst (λ i. y ≤ℤ top_of_place i) (sym so_far.place) up_to) in
+      let before = weight_after last_in_field sum x y so_far.groups (subst (λ i. y ≤ℤ top_of_place i) (sym so_far.place) up_to) in
       let groups_after = weight_in_rows-below _ x y (rows_from-below _ y _ (rows_after gs (p + 1) groups) next) in
       let rows_after = weight_in_rows-below _ x y (rows_from-below _ y _ left_after next) in
       let all = weights_parted x y in
       let same : weight_in_all (rows_of_groups gs) rs x y ≡ weight_in_all (rows_in_place gs p) own x y = omega (arith, ints) in
       record { x = x; y = y; in_field = found.in_field; unlawful = λ is. found.unlawful (subst IsLawfulWeight same is) })
-      (λ below. absurd (lawful (weight_below_layer top x y _ layer_of_group below) (weight_below_layer top x y _ layer_of_own below))))
+      (λ below. absurd (lawful (weight_below_group top x y _ group_rows below) (weight_below_group top x y _ own_rows below))))
 
 -- ---- where no group and no row is left, all are added
 

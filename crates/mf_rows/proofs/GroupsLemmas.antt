@@ -11,7 +11,7 @@ use Rattle.mf_rows.specs.declared.group.Group.{Group}
 use Rattle.mf_rows.specs.declared.group.TheConstants.{GROUP_HEIGHT}
 use Rattle.mf_rows.specs.Bands.{AreBelow, HasRow, HasNoRow}
 use Rattle.mf_rows.specs.EdgeRows.{EdgeRow, AreRowsFrom, AreRows, weight_in_rows}
-use Rattle.mf_rows.specs.Groups.{rows_at_place, rows_of_groups, IsLayer, AreLayersFrom, AreGroups, IsPlaceOfRow}
+use Rattle.mf_rows.specs.Groups.{rows_at_place, rows_of_groups, AreGroupRows, AreGroupsFrom, AreGroups, IsPlaceOfRow}
 use Rattle.mf_rows.specs.Sums.{weight_in_all, HaveRowWeights}
 use Rattle.mf_rows.proofs.EdgeRowsLemmas.{weight_in_rows-append, weight_in_rows-above, weight_in_rows-below, weight_in_rows-outside}
 use Rattle.mf_rows.proofs.EdgeRowsLemmas.{rows_from-higher, rows_from-below, rows_from-cut, rows_from-append}
@@ -23,17 +23,17 @@ Groups = List (Option (Arc Group Global))
 
 -- ---- groups in order have rows in order
 
-pub rows_of_layers : (top : ℤ) (gs : Groups) → AreLayersFrom top gs → AreRowsFrom top (rows_of_groups gs)
-rows_of_layers top [] layers = tt
-rows_of_layers top (g ∷ gs) layers =
-    let below = rows_of_layers (top -ℤ GROUP_HEIGHT) gs layers.1 in
-    rows_from-append top (rows_at_place g) (rows_of_groups gs) layers.0.rows
+pub rows_of_groups_from : (top : ℤ) (gs : Groups) → AreGroupsFrom top gs → AreRowsFrom top (rows_of_groups gs)
+rows_of_groups_from top [] groups = tt
+rows_of_groups_from top (g ∷ gs) groups =
+    let below = rows_of_groups_from (top -ℤ GROUP_HEIGHT) gs groups.1 in
+    rows_from-append top (rows_at_place g) (rows_of_groups gs) groups.0.rows
     (rows_from-higher top (top -ℤ GROUP_HEIGHT) (rows_of_groups gs) (omega (arith, ints)) below)
     (All-weaker (λ r. (top -ℤ GROUP_HEIGHT) <ℤ r.y) (λ r. AreBelow r.y (rows_of_groups gs))
-    (λ r above. rows_from-below (top -ℤ GROUP_HEIGHT) r.y (rows_of_groups gs) below above) (rows_at_place g) layers.0.above)
+    (λ r above. rows_from-below (top -ℤ GROUP_HEIGHT) r.y (rows_of_groups gs) below above) (rows_at_place g) groups.0.above)
 
 pub rows_of_groups_are_rows : (gs : Groups) → AreGroups gs → AreRows (rows_of_groups gs)
-rows_of_groups_are_rows gs groups = record { rows = rows_of_layers last_in_field gs groups.layers }
+rows_of_groups_are_rows gs groups = record { rows = rows_of_groups_from last_in_field gs groups.groups }
 
 -- ---- the group at place i
 
@@ -45,18 +45,19 @@ rows_in_place gs i = rows_at_place (get_or gs i None)
 abbrev pub top_of : ℤ → ℕ → ℤ
 top_of top i = top -ℤ (GROUP_HEIGHT *ℤ pos i)
 
-pub none_is_layer : (top : ℤ) → IsLayer top []
-none_is_layer top = record { rows = tt; above = All-nil (λ r. (top -ℤ GROUP_HEIGHT) <ℤ r.y) }
+pub none_of_group : (top : ℤ) → AreGroupRows top []
+none_of_group top = record { rows = tt; above = All-nil (λ r. (top -ℤ GROUP_HEIGHT) <ℤ r.y) }
 
-pub layer_at : (top : ℤ) (gs : Groups) (i : ℕ) → AreLayersFrom top gs → IsLayer (top_of top i) (rows_in_place gs i)
-layer_at top [] i layers = none_is_layer (top_of top i)
-layer_at top (g ∷ gs) zero layers = subst (λ t. IsLayer t (rows_at_place g)) (omega (arith, ints)) layers.0
-layer_at top (g ∷ gs) (suc i) layers =
-    subst (λ t. IsLayer t (rows_in_place gs i)) (omega (arith, ints)) (layer_at (top -ℤ GROUP_HEIGHT) gs i layers.1)
+pub group_rows_at : (top : ℤ) (gs : Groups) (i : ℕ) → AreGroupsFrom top gs → AreGroupRows (top_of top i) (rows_in_place gs i)
+group_rows_at top [] i groups = none_of_group (top_of top i)
+group_rows_at top (g ∷ gs) zero groups = subst (λ t. AreGroupRows t (rows_at_place g)) (omega (arith, ints)) groups.0
+group_rows_at top (g ∷ gs) (suc i) groups =
+    subst (λ t. AreGroupRows t (rows_in_place gs i)) (omega (arith, ints)) (group_rows_at (top -ℤ GROUP_HEIGHT) gs i groups.1)
 
 pub rows_in_place_are_rows : (gs : Groups) (i : ℕ) → AreGroups gs → AreRows (rows_in_place gs i)
 rows_in_place_are_rows gs i groups = record {
-  rows = rows_from-higher last_in_field (top_of last_in_field i) (rows_in_place gs i) (omega (arith, ints)) (layer_at last_in_field gs i groups.layers).rows;
+  rows = rows_from-higher last_in_field (top_of last_in_field i) (rows_in_place gs i) (omega (arith, ints))
+      (group_rows_at last_in_field gs i groups.groups).rows;
 }
 
 -- ---- the place that may have row y
@@ -67,27 +68,27 @@ pub record IsPlaceFrom (highest y : ℤ) (i : ℕ) : Type 0 where
   pub bottom : (top_of highest i -ℤ GROUP_HEIGHT) <ℤ y
 
 -- rows of another place have no weight in row y
-pub weight_above_layer : (top x y : ℤ) (rs : List EdgeRow) → IsLayer top rs → top <ℤ y → weight_in_rows rs x y ≡ pos 0
-weight_above_layer top x y rs layer above = weight_in_rows-below rs x y (rows_from-below top y rs layer.rows above)
+pub weight_above_group : (top x y : ℤ) (rs : List EdgeRow) → AreGroupRows top rs → top <ℤ y → weight_in_rows rs x y ≡ pos 0
+weight_above_group top x y rs rows_in_group above = weight_in_rows-below rs x y (rows_from-below top y rs rows_in_group.rows above)
 
-pub weight_below_layer : (top x y : ℤ) (rs : List EdgeRow) → IsLayer top rs → y ≤ℤ (top -ℤ GROUP_HEIGHT) → weight_in_rows rs x y ≡ pos 0
-weight_below_layer top x y rs layer below =
+pub weight_below_group : (top x y : ℤ) (rs : List EdgeRow) → AreGroupRows top rs → y ≤ℤ (top -ℤ GROUP_HEIGHT) → weight_in_rows rs x y ≡ pos 0
+weight_below_group top x y rs rows_in_group below =
     weight_in_rows-above rs x y
-    (All-weaker (λ r. (top -ℤ GROUP_HEIGHT) <ℤ r.y) (λ r. y <ℤ r.y) (λ r lt. omega (arith, ints)) rs layer.above)
+    (All-weaker (λ r. (top -ℤ GROUP_HEIGHT) <ℤ r.y) (λ r. y <ℤ r.y) (λ r lt. omega (arith, ints)) rs rows_in_group.above)
 
 -- and all weight in row y is that of its place
-pub weight_in_place : (top x y : ℤ) (gs : Groups) (i : ℕ) → AreLayersFrom top gs → IsPlaceFrom top y i
+pub weight_in_place : (top x y : ℤ) (gs : Groups) (i : ℕ) → AreGroupsFrom top gs → IsPlaceFrom top y i
     → weight_in_rows (rows_of_groups gs) x y ≡ weight_in_rows (rows_in_place gs i) x y
-weight_in_place top x y [] i layers place = refl
-weight_in_place top x y (g ∷ gs) zero layers place =
+weight_in_place top x y [] i groups place = refl
+weight_in_place top x y (g ∷ gs) zero groups place =
     let all = weight_in_rows-append (rows_at_place g) (rows_of_groups gs) x y in
     let others = weight_in_rows-below (rows_of_groups gs) x y
-    (rows_from-below (top -ℤ GROUP_HEIGHT) y (rows_of_groups gs) (rows_of_layers (top -ℤ GROUP_HEIGHT) gs layers.1) (omega (arith, ints, place.bottom))) in
+    (rows_from-below (top -ℤ GROUP_HEIGHT) y (rows_of_groups gs) (rows_of_groups_from (top -ℤ GROUP_HEIGHT) gs groups.1) (omega (arith, ints, place.bottom))) in
     omega (arith, ints)
-weight_in_place top x y (g ∷ gs) (suc i) layers place =
+weight_in_place top x y (g ∷ gs) (suc i) groups place =
     let all = weight_in_rows-append (rows_at_place g) (rows_of_groups gs) x y in
-    let first = weight_below_layer top x y (rows_at_place g) layers.0 (omega (arith, ints, place.top)) in
-    let rest = weight_in_place (top -ℤ GROUP_HEIGHT) x y gs i layers.1
+    let first = weight_below_group top x y (rows_at_place g) groups.0 (omega (arith, ints, place.top)) in
+    let rest = weight_in_place (top -ℤ GROUP_HEIGHT) x y gs i groups.1
     (record { top = omega (arith, ints, place.top); bottom = omega (arith, ints, place.bottom) }) in
     omega (arith, ints)
 
@@ -98,13 +99,13 @@ pub found_in_place : (gs : Groups) (y : ℤ) (i : ℕ) (es : List Edge) → AreG
     → HasRow (rows_in_place gs i) y es → HasRow (rows_of_groups gs) y es
 found_in_place gs y i es groups place found = record {
   edges = found.edges;
-  weights = λ x. weight_in_place last_in_field x y gs i groups.layers (in_field y i place) ∙ found.weights x;
+  weights = λ x. weight_in_place last_in_field x y gs i groups.groups (in_field y i place) ∙ found.weights x;
 }
 
 pub absent_in_place : (gs : Groups) (y : ℤ) (i : ℕ) → AreGroups gs → IsPlaceOfRow y i
     → HasNoRow (rows_in_place gs i) y → HasNoRow (rows_of_groups gs) y
 absent_in_place gs y i groups place absent =
-    record { weights = λ x. weight_in_place last_in_field x y gs i groups.layers (in_field y i place) ∙ absent.weights x }
+    record { weights = λ x. weight_in_place last_in_field x y gs i groups.groups (in_field y i place) ∙ absent.weights x }
 
 pub no_group_there : (rs : List EdgeRow) (y : ℤ) → [] ≡ rs → HasNoRow rs y
 unfolding weight_in_rows
@@ -112,14 +113,14 @@ no_group_there rs y none = subst (λ ss. HasNoRow ss y) none (record { weights =
 
 pub absent_outside : (gs : Groups) (y : ℤ) → AreGroups gs → ((x : ℤ) → IsInField x y → ⊥) → HasNoRow (rows_of_groups gs) y
 absent_outside gs y groups outside =
-    record { weights = λ x. weight_in_rows-outside last_in_field (rows_of_groups gs) x y (rows_of_layers last_in_field gs groups.layers) (outside x) }
+    record { weights = λ x. weight_in_rows-outside last_in_field (rows_of_groups gs) x y (rows_of_groups_from last_in_field gs groups.groups) (outside x) }
 
 -- ---- sums
 
--- a sum has no row outside the layer
-pub sum_is_layer : (top : ℤ) (rs ss sum : List EdgeRow) → IsLayer top rs → IsLayer top ss → AreRows sum
-    → HaveRowWeights (weight_in_all rs ss) sum → IsLayer top sum
-sum_is_layer top rs ss sum left right rows weights =
+-- a sum of rows of a group has no other rows
+pub sum_of_group : (top : ℤ) (rs ss sum : List EdgeRow) → AreGroupRows top rs → AreGroupRows top ss → AreRows sum
+    → HaveRowWeights (weight_in_all rs ss) sum → AreGroupRows top sum
+sum_of_group top rs ss sum left right rows weights =
     let within = stay_within rs ss sum rows weights in
     let below = within.below (top +ℤ pos 1) (rows_from-below top (top +ℤ pos 1) rs left.rows (omega (arith, ints)))
     (rows_from-below top (top +ℤ pos 1) ss right.rows (omega (arith, ints))) in

@@ -11,7 +11,7 @@ use Rattle.mf_rows.specs.declared.group.Group.{Group}
 use Rattle.mf_rows.specs.declared.group.TheConstants.{GROUP_COUNT, GROUP_HEIGHT}
 use Rattle.mf_rows.specs.Bands.{AreAbove}
 use Rattle.mf_rows.specs.EdgeRows.{EdgeRow, AreRowsFrom, AreRows}
-use Rattle.mf_rows.specs.Groups.{rows_at_place, rows_of_groups, IsLayer, AreLayersFrom, top_of_place, IsSplitAtPlace}
+use Rattle.mf_rows.specs.Groups.{rows_at_place, rows_of_groups, AreGroupRows, AreGroupsFrom, top_of_place, IsSplitAtPlace}
 use Rattle.mf_rows.proofs.EdgeRowsLemmas.{rows_from-higher, rows_from-front, rows_from-back, rows_from-cut}
 
 -- ---- rows that are split at a place
@@ -20,8 +20,8 @@ module _ (p : ℕ) (rs own others : List EdgeRow) (left : AreRowsFrom (top_of_pl
   from_here : AreRowsFrom (top_of_place p) (own ++ others)
   from_here = subst (AreRowsFrom (top_of_place p)) split.all left
 
-  pub own_is_layer : IsLayer (top_of_place p) own
-  own_is_layer = record {
+  pub own_of_group : AreGroupRows (top_of_place p) own
+  own_of_group = record {
     rows = rows_from-front (top_of_place p) own others from_here;
     above = subst (λ y. AreAbove y own) (omega (arith, ints)) split.above;
   }
@@ -48,11 +48,11 @@ place_of_rest p (r ∷ rest) rows some =
 
 -- ---- one more group
 
-pub layers_from-more : (top : ℤ) (gs : List (Option (Arc Group Global))) (g : Option (Arc Group Global)) → AreLayersFrom top gs
-    → IsLayer (top -ℤ (GROUP_HEIGHT *ℤ pos (length gs))) (rows_at_place g) → AreLayersFrom top (gs ++ g ∷ [])
-layers_from-more top [] g layers layer = (subst (λ t. IsLayer t (rows_at_place g)) (omega (arith, ints)) layer, tt)
-layers_from-more top (h ∷ gs) g layers layer =
-    (layers.0, layers_from-more (top -ℤ GROUP_HEIGHT) gs g layers.1 (subst (λ t. IsLayer t (rows_at_place g)) (omega (arith, ints)) layer))
+pub groups_from-more : (top : ℤ) (gs : List (Option (Arc Group Global))) (g : Option (Arc Group Global)) → AreGroupsFrom top gs
+    → AreGroupRows (top -ℤ (GROUP_HEIGHT *ℤ pos (length gs))) (rows_at_place g) → AreGroupsFrom top (gs ++ g ∷ [])
+groups_from-more top [] g groups rows_in_group = (subst (λ t. AreGroupRows t (rows_at_place g)) (omega (arith, ints)) rows_in_group, tt)
+groups_from-more top (h ∷ gs) g groups rows_in_group =
+    (groups.0, groups_from-more (top -ℤ GROUP_HEIGHT) gs g groups.1 (subst (λ t. AreGroupRows t (rows_at_place g)) (omega (arith, ints)) rows_in_group))
 
 pub rows_of_groups-more : (gs : List (Option (Arc Group Global))) (g : Option (Arc Group Global))
     → rows_of_groups (gs ++ g ∷ []) ≡ rows_of_groups gs ++ rows_at_place g
@@ -64,7 +64,7 @@ rows_of_groups-more gs g = flat_map-append rows_at_place gs (g ∷ []) ∙ ap (�
 pub record IsGroupedUpTo (p : ℕ) (whole : List EdgeRow) (gs : List (Option (Arc Group Global))) (rest : List EdgeRow) : Type 0 where
   pub place : length gs ≡ p
   pub all : rows_of_groups gs ++ rest ≡ whole
-  pub layers : AreLayersFrom last_in_field gs
+  pub groups : AreGroupsFrom last_in_field gs
   pub left : AreRowsFrom (top_of_place p) rest
 
 pub grouped_more : (p : ℕ) (whole : List EdgeRow) (gs : List (Option (Arc Group Global))) (rest own others : List EdgeRow)
@@ -76,8 +76,8 @@ grouped_more p whole gs rest own others so_far split g group = record {
       ∙ append_assoc (rows_of_groups gs) own others
       ∙ ap (λ rs. rows_of_groups gs ++ rs) (sym split.all)
       ∙ so_far.all;
-  layers = layers_from-more last_in_field gs g so_far.layers
-      (subst (λ i. IsLayer (top_of_place i) (rows_at_place g)) (sym so_far.place) (rw group (own_is_layer p rest own others so_far.left split)));
+  groups = groups_from-more last_in_field gs g so_far.groups
+      (subst (λ i. AreGroupRows (top_of_place i) (rows_at_place g)) (sym so_far.place) (rw group (own_of_group p rest own others so_far.left split)));
   left = others_from p rest own others so_far.left split;
 }
 

@@ -8,7 +8,7 @@ use Rattle.mf_rows.specs.declared.group.Group.{Group}
 use Rattle.mf_rows.specs.declared.group.TheConstants.{GROUP_HEIGHT}
 use Rattle.mf_rows.specs.Dots.{Dot}
 use Rattle.mf_rows.specs.EdgeRows.{EdgeRow, AreRows, weight_in_rows, picture_of_rows}
-use Rattle.mf_rows.specs.Groups.{rows_at_place, rows_of_groups, IsLayer, AreLayersFrom, AreGroups}
+use Rattle.mf_rows.specs.Groups.{rows_at_place, rows_of_groups, AreGroupRows, AreGroupsFrom, AreGroups}
 use Rattle.mf_rows.specs.Sums.{HaveRowWeights}
 use Rattle.mf_rows.proofs.EdgeRowsLemmas.{lawful_picture_of_rows, weight_at-picture_of_rows, picture_of_rows-from_weights}
 
@@ -38,12 +38,12 @@ rows_of_same (g ∷ gs) [] same = absurd (omega (arith, ap length same))
 rows_of_same (g ∷ gs) (h ∷ hs) same =
     ap (λ rows. rows ++ rows_of_groups gs) (first_same _ _ _ _ same) ∙ ap (λ rows. rows_at_place h ++ rows) (rows_of_same gs hs (others_same _ _ _ _ same))
 
-layers_from_same : (top : ℤ) (gs hs : List (Option (Arc Group Global))) → map rows_at_place gs ≡ map rows_at_place hs
-    → AreLayersFrom top hs → AreLayersFrom top gs
-layers_from_same top [] hs same layers = tt
-layers_from_same top (g ∷ gs) [] same layers = absurd (omega (arith, ap length same))
-layers_from_same top (g ∷ gs) (h ∷ hs) same layers =
-    (subst (IsLayer top) (sym (first_same _ _ _ _ same)) layers.0, layers_from_same (top -ℤ GROUP_HEIGHT) gs hs (others_same _ _ _ _ same) layers.1)
+groups_from-same : (top : ℤ) (gs hs : List (Option (Arc Group Global))) → map rows_at_place gs ≡ map rows_at_place hs
+    → AreGroupsFrom top hs → AreGroupsFrom top gs
+groups_from-same top [] hs same groups = tt
+groups_from-same top (g ∷ gs) [] same groups = absurd (omega (arith, ap length same))
+groups_from-same top (g ∷ gs) (h ∷ hs) same groups =
+    (subst (AreGroupRows top) (sym (first_same _ _ _ _ same)) groups.0, groups_from-same (top -ℤ GROUP_HEIGHT) gs hs (others_same _ _ _ _ same) groups.1)
 
-pub groups_from_same : (gs hs : List (Option (Arc Group Global))) → map rows_at_place gs ≡ map rows_at_place hs → AreGroups hs → AreGroups gs
-groups_from_same gs hs same groups = record { layers = layers_from_same last_in_field gs hs same groups.layers }
+pub groups-same : (gs hs : List (Option (Arc Group Global))) → map rows_at_place gs ≡ map rows_at_place hs → AreGroups hs → AreGroups gs
+groups-same gs hs same groups = record { groups = groups_from-same last_in_field gs hs same groups.groups }

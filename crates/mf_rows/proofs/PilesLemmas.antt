@@ -21,7 +21,7 @@ use Rattle.mf_rows.proofs.EdgeRowsLemmas.{lawful_weight_in_rows, weight_in_rows-
 use Rattle.mf_rows.proofs.RowSums.{by_same}
 use Rattle.mf_rows.proofs.GroupsLemmas.{Groups, rows_of_groups_are_rows}
 use Rattle.mf_rows.proofs.PictureRows.{unlawful_as}
-use Rattle.mf_rows.proofs.PictureGroups.{rows_of_same, groups_from_same}
+use Rattle.mf_rows.proofs.PictureGroups.{rows_of_same, groups-same}
 
 -- the rows of a pile: its older groups, and those to which contours are added
 abbrev pub piled : Groups → Groups → List EdgeRow
@@ -30,7 +30,7 @@ piled gs hs = rows_of_both (rows_of_groups hs) (rows_of_groups gs)
 pub piled_rows : (gs hs : Groups) (reach : ℤ) → ArePiled gs hs reach → AreRows (piled gs hs)
 unfolding weight_in_all
 piled_rows gs hs reach pile =
-    rows-both (rows_of_groups hs) (rows_of_groups gs) (rows_of_groups_are_rows hs pile.recent) (rows_of_groups_are_rows gs pile.groups)
+    rows-both (rows_of_groups hs) (rows_of_groups gs) (rows_of_groups_are_rows hs pile.newest) (rows_of_groups_are_rows gs pile.older)
     (λ x y. record {
       least = omega (arith, ints, pile.reached.least x y, pile.reached.most);
       greatest = omega (arith, ints, pile.reached.greatest x y, pile.reached.most);
@@ -38,13 +38,13 @@ piled_rows gs hs reach pile =
 
 pub rows_of_pile : (gs hs : Groups) (reach : ℤ) → ArePiled gs hs reach → AreRowsOfBoth (rows_of_groups hs) (rows_of_groups gs)
 rows_of_pile gs hs reach pile = record {
-  left = rows_of_groups_are_rows hs pile.recent;
-  right = rows_of_groups_are_rows gs pile.groups;
+  left = rows_of_groups_are_rows hs pile.newest;
+  right = rows_of_groups_are_rows gs pile.older;
   both = piled_rows gs hs reach pile;
 }
 
 pub none_are_groups : AreGroups []
-none_are_groups = record { layers = tt }
+none_are_groups = record { groups = tt }
 
 -- groups, none of them older
 pub piled_alone : (hs : Groups) → AreGroups hs → piled [] hs ≡ rows_of_groups hs
@@ -58,8 +58,8 @@ stay_as stay same = record { most = stay.most; least = λ x y. rw (same x y) (st
 pub are_piled_apart : (gs hs sum : Groups) (reach : ℤ) → AreGroups gs → AreGroups hs
     → HaveRowWeights (weight_in_all (rows_of_groups gs) (rows_of_groups hs)) (rows_of_groups sum) → IsReachOf reach (weight_in_rows (rows_of_groups sum))
     → ArePiled gs hs reach
-are_piled_apart gs hs sum reach groups recent apart stay =
-    record { groups = groups; recent = recent; reached = stay_as stay (λ x y. sym (apart.weights x y)) }
+are_piled_apart gs hs sum reach groups newest apart stay =
+    record { older = groups; newest = newest; reached = stay_as stay (λ x y. sym (apart.weights x y)) }
 
 -- the weights of a pile are the sums of those in both lists
 pub pile_is : (gs hs : Groups) (x y : ℤ) → weight_in_rows (piled gs hs) x y ≡ weight_in_all (rows_of_groups gs) (rows_of_groups hs) x y
@@ -82,8 +82,8 @@ alone_apart gs = record { weights = λ x y. omega (arith, ints) }
 pub none_is_piled : ArePiled [] [] (pos 0)
 unfolding weight_in_all weight_in_rows
 none_is_piled = record {
-  groups = none_are_groups;
-  recent = none_are_groups;
+  older = none_are_groups;
+  newest = none_are_groups;
   reached = record { most = omega (arith, ints); least = λ x y. omega (arith, ints); greatest = λ x y. omega (arith, ints) };
 }
 
@@ -91,8 +91,8 @@ none_is_piled = record {
 pub piled_as : (gs hs gs' hs' : Groups) (reach : ℤ) → map rows_at_place gs' ≡ map rows_at_place gs → map rows_at_place hs' ≡ map rows_at_place hs
     → ArePiled gs hs reach → ArePiled gs' hs' reach
 piled_as gs hs gs' hs' reach same other pile = record {
-  groups = groups_from_same gs' gs same pile.groups;
-  recent = groups_from_same hs' hs other pile.recent;
+  older = groups-same gs' gs same pile.older;
+  newest = groups-same hs' hs other pile.newest;
   reached = rw (rows_of_same gs' gs same, rows_of_same hs' hs other) pile.reached;
 }
 
@@ -122,8 +122,8 @@ pub piled_with : (gs hs sum : Groups) (rs : List EdgeRow) (reach more : ℤ) →
     → ArePiled gs sum (reach +ℤ more)
 unfolding weight_in_all
 piled_with gs hs sum rs reach more pile groups weights stay most = record {
-  groups = pile.groups;
-  recent = groups;
+  older = pile.older;
+  newest = groups;
   reached = record {
     most = most;
     least = λ x y. omega (arith, ints, weights.weights x y, pile.reached.least x y, stay.least x y);

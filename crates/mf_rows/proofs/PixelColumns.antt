@@ -3,17 +3,18 @@ use Rattle.std.proofs.Common.{◌≡◌, true, false, ℤ, pos, ◌+ℤ◌, ◌-
 use Rattle.std.proofs.Common.{to_z, of_z, w32, refl, sym, ap, subst, ◌∙◌, append_assoc, append-nil, arith}
 use Rattle.std.specs.List.{All}
 use Rattle.std.proofs.lemmas.Int.{ints, by_lt_z}
-use Rattle.std.proofs.lemmas.List.Elements.{All-nil, All-cons, All-head, All-push, All-tail, All-weaker}
+use Rattle.std.proofs.lemmas.List.Elements.{All-nil, All-cons, All-push, All-weaker}
 use Rattle.mf_geom.specs.Coordinates.{least_coordinate, greatest_coordinate}
 use Rattle.mf_edges.specs.declared.edge.Edge.{Edge}
 use Rattle.mf_edges.specs.Edges.{weight_in, AreEdgesFrom, AreEdges, IsEdge}
 use Rattle.mf_edges.specs.LawfulWeights.{IsLawfulWeight}
-use Rattle.mf_edges.specs.Merging.{BeginFrom}
+use Rattle.mf_edges.specs.Merging.{BeginFrom, EndAt}
 use Rattle.mf_edges.proofs.EdgesLemmas.{weight_in-append, weight_in-left, weight_in-before, weight_in-after}
 use Rattle.mf_rows.specs.declared.bounds.Pixels.{Pixels}
 use Rattle.mf_rows.specs.declared.bounds.Pixels.TheVariants.{Nonzero, Black}
 use Rattle.mf_rows.specs.Bounds.{is_among}
 use Rattle.mf_rows.specs.PixelsOfRows.{HasNone, IsFirstColumn, IsLastColumn}
+use Rattle.mf_rows.proofs.RunEdges.{weight_in-constant}
 
 -- a pixel of weight 0 is none of these
 pub zero_is_none : (p : Pixels) → is_among p (pos 0) ≡ false
@@ -44,15 +45,7 @@ edge_among low (f ∷ fs) e after edges =
       others = among.others;
     }
 
--- edges at or to the left of a column all count there, and none to the right of it
-weight_in-same : (es : List Edge) (x u : ℤ) → x ≤ℤ u → All (λ e. e.x ≤ℤ x) es → weight_in es u ≡ weight_in es x
-unfolding weight_in
-weight_in-same [] x u le left = refl
-weight_in-same (e ∷ es) x u le left =
-    let first : e.x ≤ℤ x = All-head (λ e. e.x ≤ℤ x) e es left in
-    let others = weight_in-same es x u le (All-tail (λ e. e.x ≤ℤ x) e es left) in
-    omega (arith, ints, weight_in-left e es u (omega (arith, ints)), weight_in-left e es x first)
-
+-- edges to the right of a column do not count there
 weight_in-none : (low : ℤ) (es : List Edge) (x : ℤ) → AreEdgesFrom low es → BeginFrom (x +ℤ pos 1) es → weight_in es x ≡ pos 0
 unfolding weight_in
 weight_in-none low [] x edges from = refl
@@ -85,21 +78,21 @@ module _ {es before : List Edge} {e : Edge} {after : List Edge} {w : ℤ} (cut :
   parts : (x : ℤ) → weight_in es x ≡ weight_in before x +ℤ weight_in (e ∷ after) x
   parts x = ap (λ fs. weight_in fs x) cut.split ∙ weight_in-append before (e ∷ after) x
 
-  up_to : (x : ℤ) → e.x ≤ℤ (x +ℤ pos 1) → All (λ f. f.x ≤ℤ x) before
+  up_to : (x : ℤ) → e.x ≤ℤ (x +ℤ pos 1) → EndAt x before
   up_to x le = All-weaker (λ f. f.x <ℤ e.x) (λ f. f.x ≤ℤ x) (λ f lt. omega (arith, ints)) before among.ended
 
-  weight_before : (x : ℤ) → All (λ f. f.x ≤ℤ x) before → x <ℤ e.x → weight_in es x ≡ w
+  weight_before : (x : ℤ) → EndAt x before → x <ℤ e.x → weight_in es x ≡ w
   weight_before x left lt =
-      let same = weight_in-same before x greatest_coordinate (omega (arith, ints, among.edge.right)) left in
+      let same = weight_in-constant before x greatest_coordinate left (omega (arith, ints, among.edge.right)) in
       let none = weight_in-none e.x (e ∷ after) x (among.edge, omega (arith, ints), among.others) (omega (arith, ints)) in
       omega (arith, ints, parts x, cut.weight)
 
   weight_after : (x : ℤ) → e.x ≤ℤ x → BeginFrom (x +ℤ pos 1) after → weight_in es x ≡ w +ℤ e.weight
   weight_after x le from =
       let left = up_to e.x (omega (arith, ints)) in
-      let same = weight_in-same before e.x greatest_coordinate among.edge.right left in
+      let same = weight_in-constant before e.x greatest_coordinate left among.edge.right in
       let none = weight_in-none (e.x +ℤ pos 1) after x among.others from in
-      omega (arith, ints, parts x, weight_in-same before e.x x le left, weight_in-left e after x le, cut.weight)
+      omega (arith, ints, parts x, weight_in-constant before e.x x left le, weight_in-left e after x le, cut.weight)
 
   weight_left : weight_in es (e.x -ℤ pos 1) ≡ w
   weight_left = weight_before (e.x -ℤ pos 1) (up_to (e.x -ℤ pos 1) (omega (arith, ints))) (omega (arith, ints))
@@ -177,12 +170,12 @@ pub record IsNoneAfter (p : Pixels) (es rest : List Edge) (w : ℤ) : Type 0 whe
   pub passed : List Edge
   pub split : es ≡ rest ++ passed
   pub weight : weight_in rest greatest_coordinate ≡ w
-  pub none : (x : ℤ) → All (λ e. e.x ≤ℤ x) rest → is_among p (weight_in es x) ≡ false
+  pub none : (x : ℤ) → EndAt x rest → is_among p (weight_in es x) ≡ false
 
 pub none_at_right : (p : Pixels) (es : List Edge) → AreEdges es → IsNoneAfter p es es (pos 0)
 none_at_right p es edges =
-    let same : (x : ℤ) → All (λ e. e.x ≤ℤ x) es → weight_in es x ≡ weight_in es greatest_coordinate = λ x left.
-    by_lt_z x greatest_coordinate (λ lt. sym (weight_in-same es x greatest_coordinate (omega (arith, ints, lt)) left))
+    let same : (x : ℤ) → EndAt x es → weight_in es x ≡ weight_in es greatest_coordinate = λ x left.
+    by_lt_z x greatest_coordinate (λ lt. sym (weight_in-constant es x greatest_coordinate left (omega (arith, ints, lt))))
     (weight_in-after least_coordinate es x edges.sorted) in
     record {
       passed = [];

@@ -38,8 +38,8 @@ module _ {f : ℤ → ℤ → ℤ} {sum rs ss : List EdgeRow} (y : ℤ) (so_far 
         let old = so_far.weights x y in
         let split = weight_in_all-split x y in
         let none_before = weight_in_rows-above sum x y above_first in
-        let none_left = weight_in_rows-below others_left x y (rows_from-below (y -ℤ pos 1) y others_left split_left.left (omega (arith, ints))) in
-        let none_right = weight_in_rows-below others_right x y (rows_from-below (y -ℤ pos 1) y others_right split_right.left (omega (arith, ints))) in
+        let none_left = weight_in_rows-below others_left x y (rows_from-below (y -ℤ pos 1) y others_left split_left.below (omega (arith, ints))) in
+        let none_right = weight_in_rows-below others_right x y (rows_from-below (y -ℤ pos 1) y others_right split_right.below (omega (arith, ints))) in
         omega (arith, ints)
 
     pub unlawful_somewhere : IsUnlawfulInRow (weight_in_all found_left found_right) y → IsUnlawfulSomewhere f
@@ -59,8 +59,8 @@ module _ {f : ℤ → ℤ → ℤ} {sum rs ss : List EdgeRow} (y : ℤ) (so_far 
           (All-weaker (λ r. y <ℤ r.y) (λ r. AreBelow r.y more.more) (λ r lt. rows_from-below y r.y more.more more.here.rows lt) sum above_first);
       above = All-append (λ r. (y -ℤ pos 1) <ℤ r.y) sum more.more
           (All-weaker (λ r. y <ℤ r.y) (λ r. (y -ℤ pos 1) <ℤ r.y) (λ r lt. omega (arith, ints)) sum above_first) more.here.above;
-      left = split_left.left;
-      right = split_right.left;
+      left = split_left.below;
+      right = split_right.below;
       weights = λ x c.
           let old = so_far.weights x c in
           let split = weight_in_all-split x c in

@@ -185,7 +185,7 @@ module _ {f : ℤ → ℤ → ℤ} {sum left right : List EdgeRow} (so_far : IsR
   added_split = record {
     all = right_is;
     here = row_of_edges added.y added added_rows.0 refl;
-    left = added_rows.2;
+    below = added_rows.2;
   }
 
   pub sum_with_above : (next : IsRowSumSoFar f (sum ++ above) others right) × (added.y ≤ℤ next.top)

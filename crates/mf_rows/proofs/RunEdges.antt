@@ -6,9 +6,10 @@ use Rattle.std.proofs.lemmas.List.Elements.{All-head, All-tail}
 use Rattle.mf_geom.specs.Coordinates.{least_coordinate, greatest_coordinate}
 use Rattle.mf_edges.specs.declared.edge.Edge.{Edge}
 use Rattle.mf_rows.specs.declared.run.Run.{Run}
-use Rattle.mf_rows.specs.Building.{EndAt, HasRun}
+use Rattle.mf_rows.specs.Building.{HasRun}
 use Rattle.mf_edges.specs.LawfulWeights.{IsLawfulWeight}
 use Rattle.mf_edges.specs.Edges.{weight_in, AreEdgesFrom, AreEdges, AreOpenEdges}
+use Rattle.mf_edges.specs.Merging.{EndAt}
 use Rattle.mf_rows.specs.EdgeRows.{EdgeRow}
 use Rattle.mf_rows.specs.Order.{IsRun}
 use Rattle.mf_edges.specs.Sums.{HaveWeights, with_edge_in}

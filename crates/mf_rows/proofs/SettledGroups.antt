@@ -10,14 +10,14 @@ use Rattle.mf_geom.specs.Coordinates.{last_in_field}
 use Rattle.mf_rows.specs.declared.group.Group.{Group}
 use Rattle.mf_rows.specs.declared.group.TheConstants.{GROUP_HEIGHT}
 use Rattle.mf_rows.specs.EdgeRows.{EdgeRow, AreRows, AreRowsFrom, weight_in_rows}
-use Rattle.mf_rows.specs.Groups.{rows_at_place, rows_of_groups, IsLayer, AreLayersFrom, AreGroups, AreSameBefore, top_of_place, IsSplitAtPlace}
+use Rattle.mf_rows.specs.Groups.{rows_at_place, rows_of_groups, AreGroupRows, AreGroupsFrom, AreGroups, AreSameBefore, top_of_place, IsSplitAtPlace}
 use Rattle.mf_rows.specs.Piles.{HaveSameSum, ArePiled}
 use Rattle.mf_rows.specs.Sums.{weight_in_all, HaveRowWeights, IsUnlawfulSomewhere}
 use Rattle.mf_rows.proofs.BothRowsLemmas.{weight_in_rows-both}
 use Rattle.mf_rows.proofs.EdgeRowsLemmas.{weight_in_rows-append, weight_in_rows-above, weight_in_rows-below, lawful_weight_in_rows}
-use Rattle.mf_rows.proofs.GroupsLemmas.{Groups, rows_in_place, top_of, none_is_layer, layer_at, sum_is_layer, sum_with_none}
-use Rattle.mf_rows.proofs.GroupsLemmas.{rows_of_groups_are_rows, weight_above_layer, weight_below_layer, weight_in_place}
-use Rattle.mf_rows.proofs.GroupsMade.{own_is_layer}
+use Rattle.mf_rows.proofs.GroupsLemmas.{Groups, rows_in_place, top_of, none_of_group, group_rows_at, sum_of_group, sum_with_none}
+use Rattle.mf_rows.proofs.GroupsLemmas.{rows_of_groups_are_rows, weight_above_group, weight_below_group, weight_in_place}
+use Rattle.mf_rows.proofs.GroupsMade.{own_of_group}
 use Rattle.mf_rows.proofs.PictureRows.{unlawful_as}
 use Rattle.mf_rows.proofs.PilesLemmas.{piled}
 
@@ -36,12 +36,12 @@ weight_set (h ∷ gs) (suc i) g x y inside =
     let new = weight_in_rows-append (rows_at_place h) (rows_of_groups (set gs i g)) x y in
     omega (arith, ints, old, new, weight_set gs i g x y (omega arith))
 
-layers_set : (top : ℤ) (gs : Groups) (i : ℕ) (g : Option (Arc Group Global)) → AreLayersFrom top gs → IsLayer (top_of top i) (rows_at_place g)
-    → AreLayersFrom top (set gs i g)
-layers_set top [] i g layers layer = tt
-layers_set top (h ∷ gs) zero g layers layer = (subst (λ t. IsLayer t (rows_at_place g)) (omega (arith, ints)) layer, layers.1)
-layers_set top (h ∷ gs) (suc i) g layers layer =
-    (layers.0, layers_set (top -ℤ GROUP_HEIGHT) gs i g layers.1 (subst (λ t. IsLayer t (rows_at_place g)) (omega (arith, ints)) layer))
+groups_from-set : (top : ℤ) (gs : Groups) (i : ℕ) (g : Option (Arc Group Global)) → AreGroupsFrom top gs → AreGroupRows (top_of top i) (rows_at_place g)
+    → AreGroupsFrom top (set gs i g)
+groups_from-set top [] i g groups rows_in_group = tt
+groups_from-set top (h ∷ gs) zero g groups rows_in_group = (subst (λ t. AreGroupRows t (rows_at_place g)) (omega (arith, ints)) rows_in_group, groups.1)
+groups_from-set top (h ∷ gs) (suc i) g groups rows_in_group =
+    (groups.0, groups_from-set (top -ℤ GROUP_HEIGHT) gs i g groups.1 (subst (λ t. AreGroupRows t (rows_at_place g)) (omega (arith, ints)) rows_in_group))
 
 place_set : (gs : Groups) (i : ℕ) (g : Option (Arc Group Global)) → i < length gs → rows_in_place (set gs i g) i ≡ rows_at_place g
 place_set [] i g inside = absurd (omega arith)
@@ -61,12 +61,12 @@ none_left (g ∷ gs) none =
 
 -- ---- no group at a further place
 
-layers_more : (top : ℤ) (gs : Groups) → AreLayersFrom top gs → AreLayersFrom top (gs ++ None ∷ [])
-layers_more top [] layers = (none_is_layer top, tt)
-layers_more top (g ∷ gs) layers = (layers.0, layers_more (top -ℤ GROUP_HEIGHT) gs layers.1)
+groups_from-longer : (top : ℤ) (gs : Groups) → AreGroupsFrom top gs → AreGroupsFrom top (gs ++ None ∷ [])
+groups_from-longer top [] groups = (none_of_group top, tt)
+groups_from-longer top (g ∷ gs) groups = (groups.0, groups_from-longer (top -ℤ GROUP_HEIGHT) gs groups.1)
 
 pub groups_more : (gs : Groups) → AreGroups gs → AreGroups (gs ++ None ∷ [])
-groups_more gs groups = record { layers = layers_more last_in_field gs groups.layers }
+groups_more gs groups = record { groups = groups_from-longer last_in_field gs groups.groups }
 
 pub rows_more : (gs : Groups) → rows_of_groups (gs ++ None ∷ []) ≡ rows_of_groups gs
 rows_more [] = refl
@@ -104,10 +104,10 @@ module _ (i : ℕ) (gs : Groups) (rs own others : List EdgeRow)
       → AreAddedFrom i gs rs (set later i g)
   unfolding weight_in_all
   added_in_place later g rows weights added =
-      let layer = sum_is_layer (top_of last_in_field i) (rows_in_place gs i) own (rows_at_place g) (layer_at last_in_field gs i groups.layers)
-      (own_is_layer i rs own others from split) rows weights in
+      let rows_in_group = sum_of_group (top_of last_in_field i) (rows_in_place gs i) own (rows_at_place g) (group_rows_at last_in_field gs i groups.groups)
+      (own_of_group i rs own others from split) rows weights in
       record {
-        groups = record { layers = layers_set last_in_field later i g added.groups.layers layer };
+        groups = record { groups = groups_from-set last_in_field later i g added.groups.groups rows_in_group };
         before = record { rows = λ k less. place_kept later i k g less ∙ added.before.rows k (omega arith) };
         count = omega (arith, length-set later i g, added.count);
         weights = record {
@@ -133,22 +133,22 @@ module _ (i : ℕ) (gs : Groups) (rs own others : List EdgeRow)
       let x = found.x in
       let y = found.y in
       let top = top_of_place i in
-      let group = layer_at last_in_field gs i groups.layers in
-      let added = own_is_layer i rs own others from split in
+      let group = group_rows_at last_in_field gs i groups.groups in
+      let added = own_of_group i rs own others from split in
       let lawful : weight_in_rows (rows_in_place gs i) x y ≡ pos 0 → weight_in_rows own x y ≡ pos 0 → ⊥ =
       λ none_left none_right. found.unlawful (record { least = omega (arith, ints); greatest = omega (arith, ints) }) in
       unlawful_as found (λ inside.
       by_lt_z top y
-      (λ above. absurd (lawful (weight_above_layer top x y _ group above) (weight_above_layer top x y _ added above)))
+      (λ above. absurd (lawful (weight_above_group top x y _ group above) (weight_above_group top x y _ added above)))
       (λ up_to.
       by_lt_z (top -ℤ GROUP_HEIGHT) y
       (λ within.
-      let there = weight_in_place last_in_field x y gs i groups.layers (record { top = up_to; bottom = within }) in
+      let there = weight_in_place last_in_field x y gs i groups.groups (record { top = up_to; bottom = within }) in
       let none =
       weight_in_rows-below others x y
       (All-weaker (λ r. r.y <ℤ (top_of_place (i + 1) +ℤ pos 1)) (λ r. r.y <ℤ y) (λ r lt. omega (arith, ints, within)) others split.below) in
       omega (arith, ints, there, none, weight_parted x y))
-      (λ below. absurd (lawful (weight_below_layer top x y _ group below) (weight_below_layer top x y _ added below)))))
+      (λ below. absurd (lawful (weight_below_group top x y _ group below) (weight_below_group top x y _ added below)))))
 
   -- and so is one at a later place
   pub unlawful_later : IsUnlawfulSomewhere (weight_in_all (rows_of_groups gs) others) → IsUnlawfulSomewhere (weight_in_all (rows_of_groups gs) rs)
@@ -178,7 +178,7 @@ added_nothing gs gs' rs none same = rw (none, same) (sum_with_none (rows_of_grou
 
 pub record AreSettledTo (i : ℕ) (old new : Groups × Groups) : Type 0 where
   pub groups : AreGroups new.0
-  pub recent : AreGroups new.1
+  pub newest : AreGroups new.1
   pub count : length new.1 ≡ length old.1
   pub places : length new.1 ≤ length new.0
   pub done : (k : ℕ) → k < i → rows_in_place new.1 k ≡ []
@@ -186,9 +186,9 @@ pub record AreSettledTo (i : ℕ) (old new : Groups × Groups) : Type 0 where
 
 pub settled_none : (gs hs gs' : Groups) → AreGroups gs' → AreGroups hs → length hs ≤ length gs' → rows_of_groups gs' ≡ rows_of_groups gs
     → AreSettledTo 0 (gs, hs) (gs', hs)
-settled_none gs hs gs' groups recent places same = record {
+settled_none gs hs gs' groups newest places same = record {
   groups = groups;
-  recent = recent;
+  newest = newest;
   count = refl;
   places = places;
   done = λ k less. absurd (omega arith);
@@ -206,11 +206,11 @@ pub settled_more : (i : ℕ) (gs hs gs' hs' : Groups) (g : Option (Arc Group Glo
     → AreSettledTo (i + 1) (gs, hs) (set gs' i g, set hs' i None)
 unfolding weight_in_all weight_in_rows
 settled_more i gs hs gs' hs' g inside so_far rows weights =
-    let layer = sum_is_layer (top_of last_in_field i) (rows_in_place gs' i) (rows_in_place hs' i) (rows_at_place g)
-    (layer_at last_in_field gs' i so_far.groups.layers) (layer_at last_in_field hs' i so_far.recent.layers) rows weights in
+    let rows_in_group = sum_of_group (top_of last_in_field i) (rows_in_place gs' i) (rows_in_place hs' i) (rows_at_place g)
+    (group_rows_at last_in_field gs' i so_far.groups.groups) (group_rows_at last_in_field hs' i so_far.newest.groups) rows weights in
     record {
-      groups = record { layers = layers_set last_in_field gs' i g so_far.groups.layers layer };
-      recent = record { layers = layers_set last_in_field hs' i None so_far.recent.layers (none_is_layer (top_of last_in_field i)) };
+      groups = record { groups = groups_from-set last_in_field gs' i g so_far.groups.groups rows_in_group };
+      newest = record { groups = groups_from-set last_in_field hs' i None so_far.newest.groups (none_of_group (top_of last_in_field i)) };
       count = length-set hs' i None ∙ so_far.count;
       places = omega (arith, length-set gs' i g, length-set hs' i None, so_far.places);
       done = λ k less. by_last i k less (λ before. place_kept hs' i k None before ∙ so_far.done k before)
@@ -235,9 +235,9 @@ all_settled i gs hs gs' hs' all so_far = none_left hs' (λ k inside. so_far.done
 
 pub piled_same : (gs hs gs' hs' : Groups) (reach : ℤ) → ArePiled gs hs reach → AreGroups gs' → AreGroups hs' → HaveSameSum gs hs gs' hs'
     → ArePiled gs' hs' reach
-piled_same gs hs gs' hs' reach pile groups recent same = record {
-  groups = groups;
-  recent = recent;
+piled_same gs hs gs' hs' reach pile groups newest same = record {
+  older = groups;
+  newest = newest;
   reached = record {
     most = pile.reached.most;
     least = λ x y. omega (arith, ints, same.weights x y, pile.reached.least x y);

@@ -45,5 +45,5 @@ pub record IsSplitAtFirst (added : Addend) (part : Part) (rest : Addend) : Type 
   pub greatest : part.number <ℤ BAND_COUNT
   pub none_before : AreAfter (part.number -ℤ pos 1) (addend_rows added)
   pub rows : AreSplitAtBand part.number (addend_rows added) (part_rows part) (addend_rows rest)
-  pub left : IsAddedFrom (part.number +ℤ pos 1) rest
+  pub after : IsAddedFrom (part.number +ℤ pos 1) rest
   pub fewer : addend_size rest < addend_size added

@@ -4,10 +4,10 @@ use Rattle.mf_rows.specs.EdgeRows.{EdgeRow}
 use Rattle.mf_edges.specs.declared.edge.Edge.{Edge}
 
 -- a row, unless this list of edges is empty
-abbrev pub unless_blank_from : List Edge → EdgeRow → List EdgeRow
-unless_blank_from [] r = []
-unless_blank_from (e ∷ es) r = r ∷ []
+abbrev pub unless_empty : List Edge → EdgeRow → List EdgeRow
+unless_empty [] r = []
+unless_empty (e ∷ es) r = r ∷ []
 
 -- a row, unless it is blank
 abbrev pub unless_blank : EdgeRow → List EdgeRow
-unless_blank r = unless_blank_from r.edges r
+unless_blank r = unless_empty r.edges r

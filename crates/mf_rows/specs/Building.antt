@@ -1,11 +1,12 @@
 -- The rows of a picture that is being built.
-use Rattle.std.specs.Prelude.{◌≡◌, ◌<◌, ◌≤◌, ◌+◌, ◌-◌, ℤ, pos, ◌+ℤ◌, ◌≤ℤ◌, ◌<ℤ◌, All, List, map, length}
+use Rattle.std.specs.Prelude.{◌≡◌, ◌<◌, ◌≤◌, ◌+◌, ◌-◌, ℤ, pos, ◌+ℤ◌, ◌≤ℤ◌, ◌<ℤ◌, List, map, length}
 use Rattle.std.specs.List.{HoldsAt}
 use Rattle.std.specs.Vec.{vec_len, vec_capacity}
 use Rattle.mf_edges.specs.declared.edge.Edge.{Edge}
 use Rattle.mf_rows.specs.declared.builder.OpenRow.{OpenRow}
 use Rattle.mf_rows.specs.declared.run.Run.{Run}
 use Rattle.mf_edges.specs.Edges.{AreEdges, weight_in}
+use Rattle.mf_edges.specs.Merging.{EndAt}
 use Rattle.mf_rows.specs.EdgeRows.{EdgeRow}
 
 -- a row that is being built, as its edges
@@ -24,10 +25,6 @@ pub record EndInRow (rows : List OpenRow) (y : ℤ) : Type 0 where
 -- a row has room for the two edges of a run
 abbrev pub HasRoom : OpenRow → Type 0
 HasRoom r = vec_len r.edges + 2 ≤ vec_capacity r.edges
-
--- edges at or to the left of column x
-abbrev pub EndAt : ℤ → List Edge → Type 0
-EndAt x es = All (λ e. e.x ≤ℤ x) es
 
 -- a row ends before a run: the run is in a row below, or it is in this row and begins at or to the right of all edges
 pub record EndsBefore (last : EdgeRow) (r : Run) : Type 0 where

@@ -16,27 +16,27 @@ rows_at_place None = []
 rows_at_place (Some g) = rows_of_bands (arc_value g).bands.items
 
 -- the rows of a group that was found, where one was
-abbrev pub group_found : Option (Bor (Arc Group Global)) → List EdgeRow
-group_found None = []
-group_found (Some g) = rows_of_bands (arc_value g.now).bands.items
+abbrev pub found_rows : Option (Bor (Arc Group Global)) → List EdgeRow
+found_rows None = []
+found_rows (Some g) = rows_of_bands (arc_value g.now).bands.items
 
 -- the rows of groups, one place after another
 abbrev pub rows_of_groups : List (Option (Arc Group Global)) → List EdgeRow
 rows_of_groups gs = flat_map rows_at_place gs
 
 -- rows among those of a group whose highest row is row `top`
-pub record IsLayer (top : ℤ) (rs : List EdgeRow) : Type 0 where
+pub record AreGroupRows (top : ℤ) (rs : List EdgeRow) : Type 0 where
   pub rows : AreRowsFrom top rs
   pub above : AreAbove (top -ℤ GROUP_HEIGHT) rs
 
 -- groups at their places, the first of which has row `top` as its highest
-abbrev pub AreLayersFrom : ℤ → List (Option (Arc Group Global)) → Type 0
-AreLayersFrom top [] = Unit {0}
-AreLayersFrom top (g ∷ gs) = IsLayer top (rows_at_place g) × AreLayersFrom (top -ℤ GROUP_HEIGHT) gs
+abbrev pub AreGroupsFrom : ℤ → List (Option (Arc Group Global)) → Type 0
+AreGroupsFrom top [] = Unit {0}
+AreGroupsFrom top (g ∷ gs) = AreGroupRows top (rows_at_place g) × AreGroupsFrom (top -ℤ GROUP_HEIGHT) gs
 
 -- the groups of a picture, from the top of the field down
 pub record AreGroups (gs : List (Option (Arc Group Global))) : Type 0 where
-  pub layers : AreLayersFrom last_in_field gs
+  pub groups : AreGroupsFrom last_in_field gs
 
 -- the highest row of the field that belongs to the group at place i
 abbrev pub top_of_place : ℕ → ℤ

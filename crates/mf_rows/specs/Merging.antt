@@ -17,11 +17,11 @@ abbrev pub row_found : Option Row → List EdgeRow
 row_found None = []
 row_found (Some r) = edge_row r ∷ []
 
--- row y is found, where there is one, and the rows below it are left
+-- rows are split into row y, where there is one, and the rows below it
 pub record IsSplitAtHeight (rs : List EdgeRow) (y : ℤ) (found others : List EdgeRow) : Type 0 where
   pub all : rs ≡ found ++ others
   pub here : IsRowAt y found
-  pub left : AreRowsFrom (y -ℤ pos 1) others
+  pub below : AreRowsFrom (y -ℤ pos 1) others
 
 -- row y was appended, with the weights f, unless it is blank
 pub record HasNewRow (f : ℤ → ℤ → ℤ) (y : ℤ) (before after : List EdgeRow) : Type 0 where

@@ -19,8 +19,8 @@ IsReachOfSum a b reach = (((a +ℤ b) ≤ℤ greatest_weight) × (reach ≡ (a +
 
 -- two lists of groups, whose weights together stay in a reach
 pub record ArePiled (gs hs : List (Option (Arc Group Global))) (reach : ℤ) : Type 0 where
-  pub groups : AreGroups gs
-  pub recent : AreGroups hs
+  pub older : AreGroups gs
+  pub newest : AreGroups hs
   pub reached : IsReachOf reach (weight_in_all (rows_of_groups gs) (rows_of_groups hs))
 
 -- two lists of groups have the same weights together as two others

@@ -1,9 +1,10 @@
 //! Pictures built from runs.
 ghost use Rattle.std.specs.Prelude.{◌≡◌, ◌-◌, [], ◌++◌, ◌↔◌, length, IsTrue, IsOk, IfOk, OnOk, OnErr};
 ghost use Rattle.std.specs.List.{HoldsAt};
-ghost use Rattle.mf_rows.specs.Building.{open_row, open_rows, EndInRow, EndAt, EndsBefore, HasRoom, HasRun};
-ghost use Rattle.mf_rows.specs.Dots.{place};
 ghost use Rattle.mf_edges.specs.Edges.{AreEdges};
+ghost use Rattle.mf_edges.specs.Merging.{EndAt};
+ghost use Rattle.mf_rows.specs.Building.{open_row, open_rows, EndInRow, EndsBefore, HasRoom, HasRun};
+ghost use Rattle.mf_rows.specs.Dots.{place};
 ghost use Rattle.mf_rows.specs.EdgeRows.{AreRows, picture_of_rows};
 ghost use Rattle.mf_rows.specs.Order.{AreBefore, IsRun, Fits};
 ghost use Rattle.mf_rows.specs.Runs.{dots_of};

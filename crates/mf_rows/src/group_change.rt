@@ -72,28 +72,28 @@ fn add_rows_from(
 pub(crate) fn take_up(
     alloc: Global,
     groups: &mut Vec<Option<Arc<Group>>>,
-    recent: &mut Vec<Option<Arc<Group>>>,
+    newest: &mut Vec<Option<Arc<Group>>>,
 ) -> Result<(), OutOfMemory>
     requires groups { AreGroups groups.old.items }
-    requires recent { AreGroups recent.old.items }
+    requires newest { AreGroups newest.old.items }
     ensures groups { AreGroups groups.new.items }
-    ensures recent { AreGroups recent.new.items }
-    ensures weights { HaveSameSum groups.old.items recent.old.items groups.new.items recent.new.items }
-    ensures none { IsOk result → rows_of_groups recent.new.items ≡ [] }
+    ensures newest { AreGroups newest.new.items }
+    ensures weights { HaveSameSum groups.old.items newest.old.items groups.new.items newest.new.items }
+    ensures none { IsOk result → rows_of_groups newest.new.items ≡ [] }
 {
-    lengthen(groups, recent.len())?;
-    for place in 0..recent.len() {
+    lengthen(groups, newest.len())?;
+    for place in 0..newest.len() {
         // The weights are lawful as they are, so only memory can be wanting.
         let Ok(sum) = sum_of_two(
             alloc,
             group_at(groups, place),
-            group_at(recent, place),
+            group_at(newest, place),
             Sign::Plus,
         ) else {
             return Err(OutOfMemory);
         };
         groups[place] = sum;
-        recent[place] = None;
+        newest[place] = None;
     }
     Ok(())
 }

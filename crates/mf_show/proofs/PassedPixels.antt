@@ -11,7 +11,8 @@ use Rattle.mf_rows.specs.Dots.{Dot, IsPicture, place, weight_at}
 use Rattle.mf_rows.specs.Order.{AreRuns, IsRun}
 use Rattle.mf_rows.specs.Runs.{equal_dots, dots_of, runs_of, with_next}
 use Rattle.mf_rows.proofs.DotsLemmas.{weight_at-before}
-use Rattle.mf_rows.proofs.RunDots.{IsOnRun, dots_from-runs, runs-rest, weight_at-on_run, weight_at-off_run, weight_at-append_after, weight_at-append_none, before_equal_dots-end}
+use Rattle.mf_rows.proofs.RunDots.{IsOnRun, before_equal_dots-end, dots_from-runs, runs-rest}
+use Rattle.mf_rows.proofs.RunDots.{weight_at-on_run, weight_at-off_run, weight_at-append_after, weight_at-append_none}
 use Rattle.mf_rows.proofs.RunsLemmas.{dots_of-runs_of, with_next-some}
 use Rattle.mf_rows.proofs.PassedRuns.{ordered_runs_of}
 use Rattle.mf_show.specs.Grid.{shown_at, shown_row}

@@ -3,7 +3,7 @@ use Rattle.std.proofs.lemmas.Bool.{false≢true}
 use Rattle.std.proofs.lemmas.Result.{err_from_is_err_and}
 use Rattle.mf_rows.proofs.AddendsLemmas.{rows_are_added}
 use Rattle.mf_rows.proofs.GroupsLemmas.{rows_in_place_are_rows}
-use Rattle.mf_rows.proofs.GroupsMade.{lawful_from, others_from, own_is_layer, place_of_rest}
+use Rattle.mf_rows.proofs.GroupsMade.{lawful_from, others_from, own_of_group, place_of_rest}
 use Rattle.mf_rows.proofs.SettledGroups.{added_in_place, added_nothing, unlawful_here, unlawful_later}
 use Rattle.mf_rows.proofs.group_change.+add_rows_from.Goals as goal
 
@@ -23,7 +23,7 @@ sum_with-requires-clause-group t c = rw (c.group_at.ensures, c.deref.ensures.val
 
 pub sum_with-requires-clause-added : goal.sum_with-requires-clause-added
 sum_with-requires-clause-added t c =
-    let own = own_is_layer c.args.place _ _ _ c.requires.rows c.split_rows_at_place.ensures in
+    let own = own_of_group c.args.place _ _ _ c.requires.rows c.split_rows_at_place.ensures in
     rows_are_added c.split_rows_at_place.result.0 (lawful_from c.args.place _ own.rows)
 
 pub returns-in_err-group-clause-too_large : goal.returns-in_err-group-clause-too_large

@@ -5,7 +5,7 @@ use Rattle.mf_rows.proofs.group_change.take_up.Goals as goal
 pub loop-place-init : goal.loop-place-init
 loop-place-init c =
     let lengthened = c.in_ok-lengthen.ensures in
-    settled_none _ _ _ lengthened.groups c.requires.recent (omega (arith, lengthened.count refl, c.len.ensures)) lengthened.rows
+    settled_none _ _ _ lengthened.groups c.requires.newest (omega (arith, lengthened.count refl, c.len.ensures)) lengthened.rows
 
 pub loop-place-preserved : goal.loop-place-preserved
 loop-place-preserved c =

@@ -35,7 +35,7 @@ loop-place-preserved c =
     (rw (c.group_at.ensures, c.group_at-in-loop-place.ensures) at c.in_ok-sum_of_two.ensures.weights))
 
 pub returns-clause-groups : goal.returns-clause-groups
-returns-clause-groups c = record { layers = c.loop-place.invariant.layers }
+returns-clause-groups c = record { groups = c.loop-place.invariant.groups }
 
 pub returns-clause-weights : goal.returns-clause-weights
 returns-clause-weights c =

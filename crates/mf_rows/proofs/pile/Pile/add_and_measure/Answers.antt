@@ -8,7 +8,7 @@ use Rattle.mf_rows.proofs.pile.Pile.add_and_measure.Goals as goal
 
 pub returns-in_err-take_up-clause-rows : goal.returns-in_err-take_up-clause-rows
 returns-in_err-take_up-clause-rows c =
-    piled_rows _ _ _ (piled_same _ _ _ _ _ c.self.invariant c.take_up.ensures.groups c.take_up.ensures.recent c.take_up.ensures.weights)
+    piled_rows _ _ _ (piled_same _ _ _ _ _ c.self.invariant c.take_up.ensures.groups c.take_up.ensures.newest c.take_up.ensures.weights)
 
 pub returns-in_err-take_up-clause-unchanged : goal.returns-in_err-take_up-clause-unchanged
 returns-in_err-take_up-clause-unchanged c =
@@ -18,15 +18,15 @@ returns-in_err-take_up-clause-unchanged c =
 
 pub returns-in_err-add_rows-clause-rows : goal.returns-in_err-add_rows-clause-rows
 returns-in_err-add_rows-clause-rows c =
-    piled_rows _ _ _ (piled_same _ _ _ _ _ c.self.invariant c.add_rows.ensures.groups c.take_up.ensures.recent
-    (same_among _ _ c.take_up.new.groups.items c.take_up.new.recent.items c.add_rows.new.groups.items c.take_up.ensures.weights
+    piled_rows _ _ _ (piled_same _ _ _ _ _ c.self.invariant c.add_rows.ensures.groups c.take_up.ensures.newest
+    (same_among _ _ c.take_up.new.groups.items c.take_up.new.newest.items c.add_rows.new.groups.items c.take_up.ensures.weights
     c.in_err-add_rows.ensures.unchanged))
 
 pub returns-in_err-add_rows-clause-unchanged : goal.returns-in_err-add_rows-clause-unchanged
 returns-in_err-add_rows-clause-unchanged c =
     let p = err_from_is_err_and c.from_residual-in_err-add_rows.result c.from_residual-in_err-add_rows.ensures.1 in
     let same =
-    rows_same _ _ _ _ (same_among _ _ c.take_up.new.groups.items c.take_up.new.recent.items c.add_rows.new.groups.items c.take_up.ensures.weights
+    rows_same _ _ _ _ (same_among _ _ c.take_up.new.groups.items c.take_up.new.newest.items c.add_rows.new.groups.items c.take_up.ensures.weights
     c.in_err-add_rows.ensures.unchanged) in
     rw p.1 (same_picture _ _ (piled_rows _ _ _ c.self.invariant) (returns-in_err-add_rows-clause-rows c) same ∙ ap picture_of_rows c.self.view_is)
 

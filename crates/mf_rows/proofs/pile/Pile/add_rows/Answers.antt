@@ -34,12 +34,12 @@ returns-in-Ok-clause-rows c = piled_rows _ _ _ (invariant_of-self c)
 
 pub returns-in-Err-OutOfMemory-clause-rows : goal.returns-in-Err-OutOfMemory-clause-rows
 returns-in-Err-OutOfMemory-clause-rows c =
-    piled_rows _ _ _ (piled_same _ _ _ _ _ c.self.invariant c.self.invariant.groups c.add_rows.ensures.groups
+    piled_rows _ _ _ (piled_same _ _ _ _ _ c.self.invariant c.self.invariant.older c.add_rows.ensures.groups
     (same_beside c.self.inside.older.items c.self.inside.groups.items c.add_rows.new.groups.items c.in-Err-OutOfMemory.ensures.unchanged))
 
 pub invariant_of-self-in-Err-WeightTooLarge : goal.invariant_of-self-in-Err-WeightTooLarge
 invariant_of-self-in-Err-WeightTooLarge c =
-    piled_same _ _ _ _ _ c.self.invariant c.self.invariant.groups c.add_rows.ensures.groups
+    piled_same _ _ _ _ _ c.self.invariant c.self.invariant.older c.add_rows.ensures.groups
     (same_beside c.self.inside.older.items c.self.inside.groups.items c.add_rows.new.groups.items c.in-Err-WeightTooLarge.ensures.unchanged)
 
 pub returns-in-Err-WeightTooLarge-clause-too_large : goal.returns-in-Err-WeightTooLarge-clause-too_large

@@ -7,5 +7,5 @@ pub invariant_of-result : goal.invariant_of-result
 invariant_of-result c =
     let reach : to_z w32 (of_z w32 c.self.inside.reach) ≡ c.self.inside.reach = omega (arith, ints) in
     let groups = rw c.deref.ensures.value at c.in_ok-share.ensures in
-    let recent = rw c.deref-2.ensures.value at c.in_ok-share-2.ensures in
-    rw reach (piled_as _ _ _ _ _ groups recent c.self.invariant)
+    let newest = rw c.deref-2.ensures.value at c.in_ok-share-2.ensures in
+    rw reach (piled_as _ _ _ _ _ groups newest c.self.invariant)

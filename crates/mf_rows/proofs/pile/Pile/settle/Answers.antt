@@ -9,7 +9,7 @@ pub returns-then-is_empty-clause-rows : goal.returns-then-is_empty-clause-rows
 returns-then-is_empty-clause-rows c = rw c.self.view_is at (piled_rows _ _ _ c.self.invariant)
 
 pub invariant_of-self : goal.invariant_of-self
-invariant_of-self c = piled_same _ _ _ _ _ c.self.invariant c.take_up.ensures.groups c.take_up.ensures.recent c.take_up.ensures.weights
+invariant_of-self c = piled_same _ _ _ _ _ c.self.invariant c.take_up.ensures.groups c.take_up.ensures.newest c.take_up.ensures.weights
 
 pub returns-clause-rows : goal.returns-clause-rows
 returns-clause-rows c = piled_rows _ _ _ (invariant_of-self c)

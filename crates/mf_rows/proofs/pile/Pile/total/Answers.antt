@@ -8,7 +8,7 @@ both : (c : goal.After-total_of_groups-2) → IsTotalOfBoth (rows_of_groups c.se
     c.total_of_groups.result c.total_of_groups-2.result
 both c =
     let pile = c.self.invariant in
-    total_with _ _ _ _ (rows_of_groups_are_rows _ pile.recent) (rows_of_groups_are_rows _ pile.groups)
+    total_with _ _ _ _ (rows_of_groups_are_rows _ pile.newest) (rows_of_groups_are_rows _ pile.older)
     (rw c.deref.ensures.value at c.total_of_groups.ensures) (rw c.deref-2.ensures.value at c.total_of_groups-2.ensures)
 
 pub overflow_add-result : goal.overflow_add-result

@@ -11,5 +11,5 @@ split_here r rs y here rows = record {
     rows = (rows.0, rows.1, tt);
     above = All-cons (λ s. (y -ℤ pos 1) <ℤ s.y) r [] (omega (arith, ints, here)) (All-nil (λ s. (y -ℤ pos 1) <ℤ s.y));
   };
-  left = subst (λ height. AreRowsFrom (height -ℤ pos 1) rs) here rows.2;
+  below = subst (λ height. AreRowsFrom (height -ℤ pos 1) rs) here rows.2;
 }
