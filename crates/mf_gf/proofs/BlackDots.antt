@@ -14,7 +14,7 @@ use Rattle.mf_rows.proofs.DotsLemmas.{dots_from-lower}
 use Rattle.mf_rows.proofs.RunsLemmas.{dots_of-runs_of}
 use Rattle.mf_rows.proofs.PassedRuns.{ordered_runs_of}
 use Rattle.mf_rows.proofs.RunDots.{runs_from-lower}
-use Rattle.mf_gf.specs.Ahead.{blacks, AreBlackRuns}
+use Rattle.mf_gf.specs.Ahead.{black_runs, AreBlackRuns}
 use Rattle.mf_gf.specs.Pixels.{black}
 
 -- ---- all dots of a run are black, or none is
@@ -36,18 +36,18 @@ black-skip y x w (suc n) ds not_positive =
     cond-false (int_lt (pos 0) w) (record { y = y; x = x; weight = pos 1 } ∷ black others) (black others) not_positive
     ∙ black-skip y (x +ℤ pos 1) w n ds not_positive
 
-black-runs : (rs : List Run) → black (flat_map dots_of rs) ≡ flat_map dots_of (blacks rs)
-unfolding black blacks dots_of
+black-runs : (rs : List Run) → black (flat_map dots_of rs) ≡ flat_map dots_of (black_runs rs)
+unfolding black black_runs dots_of
 black-runs [] = refl
 black-runs (r ∷ rs) =
-    cond_both (int_lt (pos 0) r.weight) (record { y = r.y; x = r.x; len = r.len; weight = pos 1 } ∷ blacks rs)
-    (blacks rs) (λ all. black (dots_of r ++ flat_map dots_of rs) ≡ flat_map dots_of all)
+    cond_both (int_lt (pos 0) r.weight) (record { y = r.y; x = r.x; len = r.len; weight = pos 1 } ∷ black_runs rs)
+    (black_runs rs) (λ all. black (dots_of r ++ flat_map dots_of rs) ≡ flat_map dots_of all)
     (λ yes. black-equal_dots r.y r.x r.weight r.len (flat_map dots_of rs) yes ∙ ap (λ dots. equal_dots r.y r.x (pos 1) r.len ++ dots) (black-runs rs))
     (λ no. black-skip r.y r.x r.weight r.len (flat_map dots_of rs) no ∙ black-runs rs)
 
 -- the black pixels are those of the black runs
-pub black-blacks : (ds : List Dot) → flat_map dots_of (blacks (runs_of ds)) ≡ black ds
-black-blacks ds = sym (black-runs (runs_of ds)) ∙ ap black (dots_of-runs_of ds)
+pub black-black_runs : (ds : List Dot) → flat_map dots_of (black_runs (runs_of ds)) ≡ black ds
+black-black_runs ds = sym (black-runs (runs_of ds)) ∙ ap black (dots_of-runs_of ds)
 
 -- ---- black pixels are in reading order
 
@@ -82,47 +82,47 @@ as_black r run = record {
   nonzero = λ none. omega (arith, ints);
 }
 
-blacks-from : (low : ℤ) (rs : List Run) → AreRunsFrom low rs → AreRunsFrom low (blacks rs)
-unfolding blacks place
-blacks-from low [] runs = tt
-blacks-from low (r ∷ rs) runs =
+black_runs-from : (low : ℤ) (rs : List Run) → AreRunsFrom low rs → AreRunsFrom low (black_runs rs)
+unfolding black_runs place
+black_runs-from low [] runs = tt
+black_runs-from low (r ∷ rs) runs =
     let end = place (r.x +ℤ pos r.len) r.y in
-    let others = blacks-from end rs runs.2 in
-    cond_both (int_lt (pos 0) r.weight) (record { y = r.y; x = r.x; len = r.len; weight = pos 1 } ∷ blacks rs) (blacks rs) (AreRunsFrom low)
+    let others = black_runs-from end rs runs.2 in
+    cond_both (int_lt (pos 0) r.weight) (record { y = r.y; x = r.x; len = r.len; weight = pos 1 } ∷ black_runs rs) (black_runs rs) (AreRunsFrom low)
     (λ yes. (as_black r runs.0, runs.1, others))
-    (λ no. runs_from-lower low end (blacks rs) (omega (arith, ints, runs.1)) others)
+    (λ no. runs_from-lower low end (black_runs rs) (omega (arith, ints, runs.1)) others)
 
-blacks-ones : (rs : List Run) → All IsBlack (blacks rs)
-unfolding blacks
-blacks-ones [] = All-nil IsBlack
-blacks-ones (r ∷ rs) =
+black_runs-ones : (rs : List Run) → All IsBlack (black_runs rs)
+unfolding black_runs
+black_runs-ones [] = All-nil IsBlack
+black_runs-ones (r ∷ rs) =
     let first : Run = record { y = r.y; x = r.x; len = r.len; weight = pos 1 } in
-    cond_both (int_lt (pos 0) r.weight) (first ∷ blacks rs) (blacks rs) (All IsBlack)
-    (λ yes. All-cons IsBlack first (blacks rs) refl (blacks-ones rs))
-    (λ no. blacks-ones rs)
+    cond_both (int_lt (pos 0) r.weight) (first ∷ black_runs rs) (black_runs rs) (All IsBlack)
+    (λ yes. All-cons IsBlack first (black_runs rs) refl (black_runs-ones rs))
+    (λ no. black_runs-ones rs)
 
-pub blacks_in_order : (ds : List Dot) → IsPicture ds → AreBlackRuns (blacks (runs_of ds))
-blacks_in_order ds picture = record {
-  order = record { runs = blacks-from start_of_field (runs_of ds) (ordered_runs_of ds picture).runs };
-  ones = blacks-ones (runs_of ds);
+pub black_runs_in_order : (ds : List Dot) → IsPicture ds → AreBlackRuns (black_runs (runs_of ds))
+black_runs_in_order ds picture = record {
+  order = record { runs = black_runs-from start_of_field (runs_of ds) (ordered_runs_of ds picture).runs };
+  ones = black_runs-ones (runs_of ds);
 }
 
 -- ---- the runs of an iterator, passed one after another
 
 -- a run of positive weight is the next black run
 pub black_taken : (rs others : List Run) (r : Run) → rs ≡ r ∷ others → int_lt (pos 0) r.weight ≡ true
-    → blacks rs ≡ record { y = r.y; x = r.x; len = r.len; weight = pos 1 } ∷ blacks others
-unfolding blacks
+    → black_runs rs ≡ record { y = r.y; x = r.x; len = r.len; weight = pos 1 } ∷ black_runs others
+unfolding black_runs
 black_taken rs others r first positive =
-    ap blacks first ∙ cond-true (int_lt (pos 0) r.weight) (record { y = r.y; x = r.x; len = r.len; weight = pos 1 } ∷ blacks others) (blacks others) positive
+    ap black_runs first ∙ cond-true (int_lt (pos 0) r.weight) (record { y = r.y; x = r.x; len = r.len; weight = pos 1 } ∷ black_runs others) (black_runs others) positive
 
 -- any other run is skipped
-pub other_passed : (rs others : List Run) (r : Run) → rs ≡ r ∷ others → int_lt (pos 0) r.weight ≡ false → blacks rs ≡ blacks others
-unfolding blacks
+pub other_passed : (rs others : List Run) (r : Run) → rs ≡ r ∷ others → int_lt (pos 0) r.weight ≡ false → black_runs rs ≡ black_runs others
+unfolding black_runs
 other_passed rs others r first not_positive =
-    ap blacks first ∙ cond-false (int_lt (pos 0) r.weight) (record { y = r.y; x = r.x; len = r.len; weight = pos 1 } ∷ blacks others)
-    (blacks others) not_positive
+    ap black_runs first ∙ cond-false (int_lt (pos 0) r.weight) (record { y = r.y; x = r.x; len = r.len; weight = pos 1 } ∷ black_runs others)
+    (black_runs others) not_positive
 
-pub blacks-none : (rs : List Run) → rs ≡ [] → blacks rs ≡ []
-unfolding blacks
-blacks-none rs none = rw none refl
+pub black_runs-none : (rs : List Run) → rs ≡ [] → black_runs rs ≡ []
+unfolding black_runs
+black_runs-none rs none = rw none refl

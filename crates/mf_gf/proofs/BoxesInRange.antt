@@ -11,7 +11,7 @@ use Rattle.mf_rows.proofs.RunDots.{picture-runs}
 use Rattle.mf_rows.proofs.RunsLemmas.{dots_of-runs_of}
 use Rattle.mf_gf.specs.declared.boxes.CharacterBox.{CharacterBox}
 use Rattle.mf_gf.specs.declared.stretches.Stretches.{Stretches}
-use Rattle.mf_gf.specs.Ahead.{AreBlackRuns, blacks_ahead, stretches_left}
+use Rattle.mf_gf.specs.Ahead.{AreBlackRuns, black_runs_ahead, stretches_ahead}
 use Rattle.mf_gf.specs.Boxes.{box_of_pixels}
 
 pub record IsBoxInRange (b : CharacterBox) : Type 0 where
@@ -37,12 +37,12 @@ box_in_range (d ∷ ds) picture =
     }
 
 -- where the stretches of these dots are those ahead of an iterator, the dots are a picture
-picture_ahead : (s : Stretches) (ds : List Dot) → AreBlackRuns (blacks_ahead s) → stretches_left s ≡ runs_of ds → IsPicture ds
-picture_ahead s ds blacks ahead =
-    let dots = flat_map dots_of (blacks_ahead s) in
+picture_ahead : (s : Stretches) (ds : List Dot) → AreBlackRuns (black_runs_ahead s) → stretches_ahead s ≡ runs_of ds → IsPicture ds
+picture_ahead s ds black_runs ahead =
+    let dots = flat_map dots_of (black_runs_ahead s) in
     let same : dots ≡ ds = sym (dots_of-runs_of dots) ∙ ap (flat_map dots_of) ahead ∙ dots_of-runs_of ds in
-    subst IsPicture same (picture-runs (blacks_ahead s) blacks.order)
+    subst IsPicture same (picture-runs (black_runs_ahead s) black_runs.order)
 
-pub bounds_in_range : (s : Stretches) (ds : List Dot) (b : CharacterBox) → b ≡ box_of_pixels ds → AreBlackRuns (blacks_ahead s)
-    → stretches_left s ≡ runs_of ds → IsBoxInRange b
-bounds_in_range s ds b bounds blacks ahead = subst IsBoxInRange (sym bounds) (box_in_range ds (picture_ahead s ds blacks ahead))
+pub bounds_in_range : (s : Stretches) (ds : List Dot) (b : CharacterBox) → b ≡ box_of_pixels ds → AreBlackRuns (black_runs_ahead s)
+    → stretches_ahead s ≡ runs_of ds → IsBoxInRange b
+bounds_in_range s ds b bounds black_runs ahead = subst IsBoxInRange (sym bounds) (box_in_range ds (picture_ahead s ds black_runs ahead))

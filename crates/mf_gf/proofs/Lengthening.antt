@@ -17,14 +17,14 @@ use Rattle.mf_gf.proofs.BlackDots.{IsBlack}
 
 -- ---- runs in order
 
-pub blacks-rest : (r : Run) (rs : List Run) → AreBlackRuns (r ∷ rs) → AreBlackRuns rs
-blacks-rest r rs blacks = record { order = runs-rest r rs blacks.order; ones = All-tail IsBlack r rs blacks.ones }
+pub black_runs-rest : (r : Run) (rs : List Run) → AreBlackRuns (r ∷ rs) → AreBlackRuns rs
+black_runs-rest r rs black_runs = record { order = runs-rest r rs black_runs.order; ones = All-tail IsBlack r rs black_runs.ones }
 
 -- ---- a stretch so far
 
 -- a stretch and the runs ahead together have the dots of all these runs
 pub record IsBegun (all : List Run) (r : Run) (rs : List Run) : Type 0 where
-  pub blacks : AreBlackRuns (r ∷ rs)
+  pub black_runs : AreBlackRuns (r ∷ rs)
   pub same : flat_map dots_of (r ∷ rs) ≡ flat_map dots_of all
 
 -- two stretches side by side are one
@@ -75,7 +75,7 @@ lengthened all r s rs next so_far =
     let end : place (s.x +ℤ pos s.len) s.y ≡ place (r.x +ℤ pos (r.len + s.len)) r.y = rw (next.row, next.column) (omega (arith, ints)) in
     let others = subst (λ low. AreRunsFrom low rs) end runs.2.2 in
     record {
-      blacks = record {
+      black_runs = record {
         order = record { runs = (lengthened_run r s runs.0 runs.2.0 next, runs.1, others) };
         ones = All-cons IsBlack (with_more r s) rs one (All-tail IsBlack s rs ones);
       };

@@ -1,6 +1,6 @@
 use Rattle.std.proofs.Common.{◌≡◌, ◌+ℤ◌, to_z, of_z, w32, ap, arith}
 use Rattle.std.proofs.lemmas.Int.{ints}
-use Rattle.mf_gf.proofs.Lengthening.{blacks-rest, IsAdjacent, begun_before, next_is_run, first_is_run, one_more_joined, ended_at_run, ended_at_none}
+use Rattle.mf_gf.proofs.Lengthening.{black_runs-rest, IsAdjacent, begun_before, next_is_run, first_is_run, one_more_joined, ended_at_run, ended_at_none}
 use Rattle.mf_gf.proofs.stretches.Stretches.lengthen.Goals as goal
 use Rattle.mf_gf.proofs.stretches.Stretches.lengthen.Goals.{then-run-stretch-via-then-run-stretch, then-run-stretch-via-else-run-stretch+then-run-stretch-2}
 
@@ -24,7 +24,7 @@ loop-self-preserved c =
     one_more_joined _ _ _ _ _ c.in-Some.is follows (begun_before _ _ _ _ _ c.next_black-self.ensures.next c.loop-self.invariant)
 
 pub returns-then-run-stretch-clause-order : goal.returns-then-run-stretch-clause-order
-returns-then-run-stretch-clause-order c = blacks-rest _ _ (begun_before _ _ _ _ _ c.next_black-self.ensures.next c.loop-self.invariant).blacks
+returns-then-run-stretch-clause-order c = black_runs-rest _ _ (begun_before _ _ _ _ _ c.next_black-self.ensures.next c.loop-self.invariant).blacks
 
 pub returns-then-run-stretch-clause-stretch : goal.returns-then-run-stretch-clause-stretch
 returns-then-run-stretch-clause-stretch c =
@@ -39,7 +39,7 @@ returns-then-run-stretch-clause-stretch c =
     ended_at_run _ _ _ _ _ c.in-Some.is apart (begun_before _ _ _ _ _ c.next_black-self.ensures.next c.loop-self.invariant)
 
 pub returns-in_default-clause-order : goal.returns-in_default-clause-order
-returns-in_default-clause-order c = blacks-rest _ _ (begun_before _ _ _ _ _ c.next_black-self.ensures.next c.loop-self.invariant).blacks
+returns-in_default-clause-order c = black_runs-rest _ _ (begun_before _ _ _ _ _ c.next_black-self.ensures.next c.loop-self.invariant).blacks
 
 pub returns-in_default-clause-stretch : goal.returns-in_default-clause-stretch
 returns-in_default-clause-stretch c = ended_at_none _ _ _ _ c.in_default.is (begun_before _ _ _ _ _ c.next_black-self.ensures.next c.loop-self.invariant)
