@@ -13,7 +13,7 @@ use Rattle.mf_rows.specs.Runs.{equal_dots, dots_of, runs_of}
 use Rattle.mf_rows.proofs.DotsLemmas.{dots_from-lower}
 use Rattle.mf_rows.proofs.RunsLemmas.{dots_of-runs_of}
 use Rattle.mf_rows.proofs.PassedRuns.{lawful_runs_of}
-use Rattle.mf_gf.specs.Ahead.{blacks, AreBlackRuns}
+use Rattle.mf_gf.specs.Ahead.{black_runs, AreBlackRuns}
 use Rattle.mf_gf.specs.Pixels.{black}
 
 -- ---- all dots of a run are black, or none is
@@ -35,18 +35,18 @@ black-skip y x w (suc n) ds not_positive =
     cond-false (int_lt (pos 0) w) (record { y = y; x = x; weight = pos 1 } ∷ black others) (black others) not_positive
     ∙ black-skip y (x +ℤ pos 1) w n ds not_positive
 
-black-runs : (rs : List Run) → black (flat_map dots_of rs) ≡ flat_map dots_of (blacks rs)
-unfolding black blacks dots_of
-black-runs [] = refl
-black-runs (r ∷ rs) =
-    cond_both (int_lt (pos 0) r.weight) (record { y = r.y; x = r.x; len = r.len; weight = pos 1 } ∷ blacks rs)
-    (blacks rs) (λ all. black (dots_of r ++ flat_map dots_of rs) ≡ flat_map dots_of all)
-    (λ yes. black-equal_dots r.y r.x r.weight r.len (flat_map dots_of rs) yes ∙ ap (λ dots. equal_dots r.y r.x (pos 1) r.len ++ dots) (black-runs rs))
-    (λ no. black-skip r.y r.x r.weight r.len (flat_map dots_of rs) no ∙ black-runs rs)
+black-dots_of : (rs : List Run) → black (flat_map dots_of rs) ≡ flat_map dots_of (black_runs rs)
+unfolding black black_runs dots_of
+black-dots_of [] = refl
+black-dots_of (r ∷ rs) =
+    cond_both (int_lt (pos 0) r.weight) (record { y = r.y; x = r.x; len = r.len; weight = pos 1 } ∷ black_runs rs)
+    (black_runs rs) (λ all. black (dots_of r ++ flat_map dots_of rs) ≡ flat_map dots_of all)
+    (λ yes. black-equal_dots r.y r.x r.weight r.len (flat_map dots_of rs) yes ∙ ap (λ dots. equal_dots r.y r.x (pos 1) r.len ++ dots) (black-dots_of rs))
+    (λ no. black-skip r.y r.x r.weight r.len (flat_map dots_of rs) no ∙ black-dots_of rs)
 
 -- the black pixels are those of the black runs
-pub black-blacks : (ds : List Dot) → flat_map dots_of (blacks (runs_of ds)) ≡ black ds
-black-blacks ds = sym (black-runs (runs_of ds)) ∙ ap black (dots_of-runs_of ds)
+pub black-black_runs : (ds : List Dot) → flat_map dots_of (black_runs (runs_of ds)) ≡ black ds
+black-black_runs ds = sym (black-dots_of (runs_of ds)) ∙ ap black (dots_of-runs_of ds)
 
 -- ---- black pixels are in reading order
 
@@ -81,49 +81,50 @@ as_black r run = record {
   nonzero = λ none. omega (arith, ints);
 }
 
-blacks-lawful : (rs : List Run) → All IsRun rs → All IsRun (blacks rs)
-unfolding blacks
-blacks-lawful [] runs = All-nil IsRun
-blacks-lawful (r ∷ rs) runs =
-    let others = blacks-lawful rs (All-tail IsRun r rs runs) in
+black_runs-lawful : (rs : List Run) → All IsRun rs → All IsRun (black_runs rs)
+unfolding black_runs
+black_runs-lawful [] runs = All-nil IsRun
+black_runs-lawful (r ∷ rs) runs =
+    let others = black_runs-lawful rs (All-tail IsRun r rs runs) in
     let first : Run = record { y = r.y; x = r.x; len = r.len; weight = pos 1 } in
-    cond_both (int_lt (pos 0) r.weight) (first ∷ blacks rs) (blacks rs) (All IsRun)
-    (λ yes. All-cons IsRun first (blacks rs) (as_black r (All-head IsRun r rs runs)) others)
+    cond_both (int_lt (pos 0) r.weight) (first ∷ black_runs rs) (black_runs rs) (All IsRun)
+    (λ yes. All-cons IsRun first (black_runs rs) (as_black r (All-head IsRun r rs runs)) others)
     (λ no. others)
 
-blacks-ones : (rs : List Run) → All IsBlack (blacks rs)
-unfolding blacks
-blacks-ones [] = All-nil IsBlack
-blacks-ones (r ∷ rs) =
+black_runs-ones : (rs : List Run) → All IsBlack (black_runs rs)
+unfolding black_runs
+black_runs-ones [] = All-nil IsBlack
+black_runs-ones (r ∷ rs) =
     let first : Run = record { y = r.y; x = r.x; len = r.len; weight = pos 1 } in
-    cond_both (int_lt (pos 0) r.weight) (first ∷ blacks rs) (blacks rs) (All IsBlack)
-    (λ yes. All-cons IsBlack first (blacks rs) refl (blacks-ones rs))
-    (λ no. blacks-ones rs)
+    cond_both (int_lt (pos 0) r.weight) (first ∷ black_runs rs) (black_runs rs) (All IsBlack)
+    (λ yes. All-cons IsBlack first (black_runs rs) refl (black_runs-ones rs))
+    (λ no. black_runs-ones rs)
 
-pub blacks_in_order : (ds : List Dot) → IsPicture ds → AreBlackRuns (blacks (runs_of ds))
-blacks_in_order ds picture = record {
-  runs = blacks-lawful (runs_of ds) (lawful_runs_of ds picture);
-  ones = blacks-ones (runs_of ds);
+pub black_runs_in_order : (ds : List Dot) → IsPicture ds → AreBlackRuns (black_runs (runs_of ds))
+black_runs_in_order ds picture = record {
+  runs = black_runs-lawful (runs_of ds) (lawful_runs_of ds picture);
+  ones = black_runs-ones (runs_of ds);
   low = start_of_field;
-  dots = rw (black-blacks ds) (black_picture ds picture).dots;
+  dots = rw (black-black_runs ds) (black_picture ds picture).dots;
 }
 
 -- ---- the runs of an iterator, passed one after another
 
 -- a run of positive weight is the next black run
 pub black_taken : (rs others : List Run) (r : Run) → rs ≡ r ∷ others → int_lt (pos 0) r.weight ≡ true
-    → blacks rs ≡ record { y = r.y; x = r.x; len = r.len; weight = pos 1 } ∷ blacks others
-unfolding blacks
+    → black_runs rs ≡ record { y = r.y; x = r.x; len = r.len; weight = pos 1 } ∷ black_runs others
+unfolding black_runs
 black_taken rs others r first positive =
-    ap blacks first ∙ cond-true (int_lt (pos 0) r.weight) (record { y = r.y; x = r.x; len = r.len; weight = pos 1 } ∷ blacks others) (blacks others) positive
+    ap black_runs first ∙ cond-true (int_lt (pos 0) r.weight) (record { y = r.y; x = r.x; len = r.len; weight = pos 1 } ∷ black_runs others)
+    (black_runs others) positive
 
 -- any other run is skipped
-pub other_passed : (rs others : List Run) (r : Run) → rs ≡ r ∷ others → int_lt (pos 0) r.weight ≡ false → blacks rs ≡ blacks others
-unfolding blacks
+pub other_passed : (rs others : List Run) (r : Run) → rs ≡ r ∷ others → int_lt (pos 0) r.weight ≡ false → black_runs rs ≡ black_runs others
+unfolding black_runs
 other_passed rs others r first not_positive =
-    ap blacks first ∙ cond-false (int_lt (pos 0) r.weight) (record { y = r.y; x = r.x; len = r.len; weight = pos 1 } ∷ blacks others)
-    (blacks others) not_positive
+    ap black_runs first ∙ cond-false (int_lt (pos 0) r.weight) (record { y = r.y; x = r.x; len = r.len; weight = pos 1 } ∷ black_runs others)
+    (black_runs others) not_positive
 
-pub blacks-none : (rs : List Run) → rs ≡ [] → blacks rs ≡ []
-unfolding blacks
-blacks-none rs none = rw none refl
+pub black_runs-none : (rs : List Run) → rs ≡ [] → black_runs rs ≡ []
+unfolding black_runs
+black_runs-none rs none = rw none refl

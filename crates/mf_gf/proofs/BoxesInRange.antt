@@ -10,7 +10,7 @@ use Rattle.mf_rows.proofs.BoxesOfDots.{least_box_of_dots, least_box_of_field}
 use Rattle.mf_rows.proofs.RunsLemmas.{dots_of-runs_of}
 use Rattle.mf_gf.specs.declared.boxes.CharacterBox.{CharacterBox}
 use Rattle.mf_gf.specs.declared.stretches.Stretches.{Stretches}
-use Rattle.mf_gf.specs.Ahead.{AreBlackRuns, blacks_ahead, stretches_left}
+use Rattle.mf_gf.specs.Ahead.{AreBlackRuns, black_runs_ahead, stretches_ahead}
 use Rattle.mf_gf.specs.Boxes.{box_of_pixels}
 use Rattle.mf_gf.proofs.SpelledRows.{picture_from}
 
@@ -37,12 +37,12 @@ box_in_range (d ∷ ds) picture =
     }
 
 -- where the stretches of these dots are those ahead of an iterator, the dots are a picture
-picture_ahead : (s : Stretches) (ds : List Dot) → AreBlackRuns (blacks_ahead s) → stretches_left s ≡ runs_of ds → IsPicture ds
+picture_ahead : (s : Stretches) (ds : List Dot) → AreBlackRuns (black_runs_ahead s) → stretches_ahead s ≡ runs_of ds → IsPicture ds
 picture_ahead s ds order ahead =
-    let dots = flat_map dots_of (blacks_ahead s) in
+    let dots = flat_map dots_of (black_runs_ahead s) in
     let same : dots ≡ ds = sym (dots_of-runs_of dots) ∙ ap (flat_map dots_of) ahead ∙ dots_of-runs_of ds in
     subst IsPicture same (picture_from order.low dots order.dots)
 
-pub bounds_in_range : (s : Stretches) (ds : List Dot) (b : CharacterBox) → b ≡ box_of_pixels ds → AreBlackRuns (blacks_ahead s)
-    → stretches_left s ≡ runs_of ds → IsBoxInRange b
+pub bounds_in_range : (s : Stretches) (ds : List Dot) (b : CharacterBox) → b ≡ box_of_pixels ds → AreBlackRuns (black_runs_ahead s)
+    → stretches_ahead s ≡ runs_of ds → IsBoxInRange b
 bounds_in_range s ds b bounds order ahead = subst IsBoxInRange (sym bounds) (box_in_range ds (picture_ahead s ds order ahead))

@@ -21,7 +21,7 @@ dots_behind : (low : ℤ) (ds es : List Dot) → AreDotsFrom low (ds ++ es) → 
 dots_behind low [] es dots = (low, dots)
 dots_behind low (d ∷ ds) es dots = dots_behind (place d.x d.y +ℤ pos 1) ds es dots.2
 
-pub order_behind : (r : Run) (rs : List Run) → AreBlackRuns (r ∷ rs) → AreBlackRuns rs
+order_behind : (r : Run) (rs : List Run) → AreBlackRuns (r ∷ rs) → AreBlackRuns rs
 order_behind r rs ordered =
     let behind = dots_behind ordered.low (dots_of r) (flat_map dots_of rs) ordered.dots in
     record { runs = All-tail IsRun r rs ordered.runs; ones = All-tail IsBlack r rs ordered.ones; low = behind.0; dots = behind.1 }
@@ -143,37 +143,32 @@ ended_before all r s rs apart so_far =
 
 -- ---- a stretch before the next black run of an iterator
 
-next_first : (o : Option Run) (s : Run) (rs : List Run) → o ≡ Some s → with_next o rs ≡ s ∷ rs
-next_first o s rs some = rw some refl
+module _ (all : List Run) (r : Run) (o : Option Run) (rs others : List Run) (ahead : rs ≡ with_next o others) (begun : IsBegun all r rs) where
+  so_far : IsBegun all r (with_next o others)
+  so_far = subst (IsBegun all r) ahead begun
 
-pub begun_before : (all : List Run) (r : Run) (o : Option Run) (rs others : List Run) → rs ≡ with_next o others → IsBegun all r rs
-    → IsBegun all r (with_next o others)
-begun_before all r o rs others ahead so_far = subst (IsBegun all r) ahead so_far
+  before_run : (s : Run) → o ≡ Some s → IsBegun all r (s ∷ others)
+  before_run s some = subst (λ next. IsBegun all r (with_next next others)) some so_far
 
-pub next_is_run : (all : List Run) (r s : Run) (o : Option Run) (rs : List Run) → o ≡ Some s → IsBegun all r (with_next o rs) → IsRun s
-next_is_run all r s o rs some so_far =
-    All-head IsRun s rs (subst (All IsRun) (next_first o s rs some) (order_behind r (with_next o rs) so_far.order).runs)
+  pub order_ahead : AreBlackRuns (with_next o others)
+  order_ahead = order_behind r (with_next o others) so_far.order
 
-pub first_is_run : (all : List Run) (r : Run) (rs : List Run) → IsBegun all r rs → IsRun r
-first_is_run all r rs so_far = All-head IsRun r rs so_far.order.runs
+  pub both_are_runs : (s : Run) → o ≡ Some s → IsRun r × IsRun s
+  both_are_runs s some =
+      let order = (before_run s some).order in
+      (All-head IsRun r (s ∷ others) order.runs, All-head IsRun s others (order_behind r (s ∷ others) order).runs)
 
-pub one_more_joined : (all : List Run) (r s : Run) (o : Option Run) (rs : List Run) → o ≡ Some s → IsAdjacent r s
-    → IsBegun all r (with_next o rs) → IsBegun all (with_more r s) rs
-one_more_joined all r s o rs some next so_far = lengthened all r s rs next (subst (IsBegun all r) (next_first o s rs some) so_far)
+  pub one_more_joined : (s : Run) → o ≡ Some s → IsAdjacent r s → IsBegun all (with_more r s) others
+  one_more_joined s some next = lengthened all r s others next (before_run s some)
 
--- the stretch ends where the next run does not continue it
-pub ended_at_run : (all : List Run) (r s : Run) (o : Option Run) (rs : List Run) → o ≡ Some s → (IsAdjacent r s → ⊥) → IsBegun all r (with_next o rs)
-    → runs_of (flat_map dots_of all) ≡ r ∷ runs_of (flat_map dots_of (with_next o rs))
-ended_at_run all r s o rs some apart so_far =
-    let first = next_first o s rs some in
-    rw first (ended_before all r s rs apart (subst (IsBegun all r) first so_far))
+  -- the stretch ends where the next run does not continue it
+  pub ended_at_run : (s : Run) → o ≡ Some s → (IsAdjacent r s → ⊥) → runs_of (flat_map dots_of all) ≡ r ∷ runs_of (flat_map dots_of (with_next o others))
+  ended_at_run s some apart = rw some (ended_before all r s others apart (before_run s some))
 
--- the stretch also ends where there is no next run
-pub ended_at_none : (all : List Run) (r : Run) (o : Option Run) (rs : List Run) → o ≡ None → IsBegun all r (with_next o rs)
-    → runs_of (flat_map dots_of all) ≡ r ∷ runs_of (flat_map dots_of (with_next o rs))
-unfolding runs_of
-ended_at_none all r None rs none so_far = stretch_first all r [] tt so_far
-ended_at_none all r (Some s) rs none so_far = absurd cc
+  -- the stretch also ends where there is no next run
+  pub ended_at_none : o ≡ None → runs_of (flat_map dots_of all) ≡ r ∷ runs_of (flat_map dots_of (with_next o others))
+  unfolding runs_of
+  ended_at_none none = rw none (stretch_first all r [] tt (subst (λ next. IsBegun all r (with_next next others)) none so_far))
 
 -- where no run is ahead, no stretch is left
 pub none_left : (o : Option Run) (rs : List Run) → o ≡ None → runs_of (flat_map dots_of (with_next o rs)) ≡ []

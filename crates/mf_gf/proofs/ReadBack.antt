@@ -6,7 +6,7 @@ use Rattle.std.proofs.lemmas.Iterator.Adapters.{option_map_id}
 use Rattle.byteorder.specs.Endian.{big_bytes, big_number}
 use Rattle.byteorder.specs.Numbers.{big_number-reads_back}
 use Rattle.mf_gf.specs.Format as gf
-use Rattle.mf_gf.specs.Numbers.{greatest_byte, greatest_half}
+use Rattle.mf_gf.specs.Numbers.{greatest_byte, greatest_halfword}
 use Rattle.mf_gf.specs.Painting.{Stroke, Paint, Skip, NewRow, Read, with_bytes, read_stroke, strokes_at_end, strokes_within, strokes}
 use Rattle.mf_gf.specs.Spelling.{with_parameter, paint, skip, new_row}
 
@@ -20,7 +20,7 @@ pub record IsCommand (bytes : List ℕ) (stroke : Stroke) : Type 0 where
   pub read : (rest : List ℕ) → read_stroke (bytes ++ rest) ≡ read_as stroke rest
 
 -- a parameter of one or two bytes after the opcodes of a command is read back
-writes_parameter : (command : ℕ → Stroke) (opcode n : ℕ) → n ≤ greatest_half
+writes_parameter : (command : ℕ → Stroke) (opcode n : ℕ) → n ≤ greatest_halfword
     → ((bytes : List ℕ) → read_stroke (opcode ∷ bytes) ≡ Some (with_bytes command 1 bytes))
     → ((bytes : List ℕ) → read_stroke ((opcode + 1) ∷ bytes) ≡ Some (with_bytes command 2 bytes))
     → IsCommand (with_parameter opcode n) (command n)
@@ -37,14 +37,14 @@ writes_parameter command opcode n fits one two =
       read = λ rest. two (big_bytes 2 n ++ rest) ∙ ap (λ m. read_as (command m) rest) (big_number-reads_back 2 n rest (omega arith));
     })
 
-pub writes_paint : (n : ℕ) → n ≤ greatest_half → IsCommand (paint n) (Paint n)
+pub writes_paint : (n : ℕ) → n ≤ greatest_halfword → IsCommand (paint n) (Paint n)
 unfolding paint read_stroke
 writes_paint n fits =
     cond_both (nat_le n gf.most_painted) (n ∷ []) (with_parameter gf.paint1 n) (λ bytes. IsCommand bytes (Paint n))
     (λ yes. record { some = omega arith; read = λ rest. cond-true (nat_le n gf.most_painted) _ _ yes })
     (λ no. writes_parameter Paint gf.paint1 n fits (λ bytes. refl) (λ bytes. refl))
 
-pub writes_skip : (n : ℕ) → n ≤ greatest_half → IsCommand (skip n) (Skip n)
+pub writes_skip : (n : ℕ) → n ≤ greatest_halfword → IsCommand (skip n) (Skip n)
 unfolding skip read_stroke
 writes_skip n fits =
     cond_both (n == 0) (gf.skip0 ∷ []) (with_parameter gf.skip1 n) (λ bytes. IsCommand bytes (Skip n))

@@ -49,6 +49,6 @@ and_else x true b fails x_is = cc
 and_else x false b fails x_is = x_is
 
 -- such a number may be cast to one byte
-pub byte_fits : (z : ℤ) → IsByte z → T (non_neg z) × Fits w8 (nat_abs z)
-byte_fits (pos n) byte = (tt, record { fits = omega (arith, ints, byte.greatest) })
-byte_fits (negsuc n) byte = absurd (omega (arith, ints, byte.least))
+pub byte_fits : (y z : ℤ) → y ≡ z → IsByte z → T (non_neg y) × Fits w8 (nat_abs y)
+byte_fits (pos n) z is byte = (tt, record { fits = omega (arith, ints, is, byte) })
+byte_fits (negsuc n) z is byte = absurd (omega (arith, ints, is, byte))

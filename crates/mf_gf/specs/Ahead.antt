@@ -7,9 +7,9 @@ use Rattle.mf_rows.specs.Runs.{dots_of, runs_of}
 use Rattle.mf_gf.specs.declared.stretches.Stretches.{Stretches}
 
 -- the runs of positive weight among these, as runs of weight 1
-unfoldable pub blacks : List Run → List Run
-blacks [] = []
-blacks (r ∷ rs) = if int_lt (pos 0) r.weight then record { y = r.y; x = r.x; len = r.len; weight = pos 1 } ∷ blacks rs else blacks rs
+unfoldable pub black_runs : List Run → List Run
+black_runs [] = []
+black_runs (r ∷ rs) = if int_lt (pos 0) r.weight then record { y = r.y; x = r.x; len = r.len; weight = pos 1 } ∷ black_runs rs else black_runs rs
 
 abbrev pub with_next : Option Run → List Run → List Run
 with_next None rs = []
@@ -23,9 +23,9 @@ pub record AreBlackRuns (rs : List Run) : Type 0 where
   pub dots : AreDotsFrom low (flat_map dots_of rs)
 
 -- the black runs that an iterator still has ahead
-abbrev pub blacks_ahead : Stretches → List Run
-blacks_ahead s = with_next s.next (blacks s.runs)
+abbrev pub black_runs_ahead : Stretches → List Run
+black_runs_ahead s = with_next s.next (black_runs s.runs)
 
 -- the stretches that these black runs make
-abbrev pub stretches_left : Stretches → List Run
-stretches_left s = runs_of (flat_map dots_of (blacks_ahead s))
+abbrev pub stretches_ahead : Stretches → List Run
+stretches_ahead s = runs_of (flat_map dots_of (black_runs_ahead s))

@@ -60,8 +60,8 @@ abbrev pub greatest_unsigned : ℕ
 greatest_unsigned = 4294967295
 
 -- the box of a character
-abbrev pub box_of : Character → CharacterBox
-box_of c = box_of_pixels c.black
+abbrev pub box_of_character : Character → CharacterBox
+box_of_character c = box_of_pixels c.black
 
 -- a box lies in another
 pub record IsWithin (outer inner : CharacterBox) : Type 0 where
@@ -72,8 +72,8 @@ pub record IsWithin (outer inner : CharacterBox) : Type 0 where
 
 -- the least box around the boxes of characters: each of them lies in it, and one is at each of its sides
 pub record IsLeastAround (characters : List Character) (b : CharacterBox) : Type 0 where
-  pub within : All (λ (c : Character). IsWithin b (box_of c)) characters
-  pub left : Any (λ (c : Character). (box_of c).min_m ≡ b.min_m) characters
-  pub right : Any (λ (c : Character). (box_of c).max_m ≡ b.max_m) characters
-  pub bottom : Any (λ (c : Character). (box_of c).min_n ≡ b.min_n) characters
-  pub top : Any (λ (c : Character). (box_of c).max_n ≡ b.max_n) characters
+  pub within : All (λ (c : Character). IsWithin b (box_of_character c)) characters
+  pub left : Any (λ (c : Character). (box_of_character c).min_m ≡ b.min_m) characters
+  pub right : Any (λ (c : Character). (box_of_character c).max_m ≡ b.max_m) characters
+  pub bottom : Any (λ (c : Character). (box_of_character c).min_n ≡ b.min_n) characters
+  pub top : Any (λ (c : Character). (box_of_character c).max_n ≡ b.max_n) characters

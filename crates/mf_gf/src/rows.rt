@@ -1,7 +1,7 @@
 //! The rows of a character: the commands that paint its stretches of black pixels.
 ghost use Rattle.std.specs.Prelude.{◌≡◌, ◌++◌, List, ℕ};
 ghost use Rattle.mf_geom.specs.Coordinates.{IsCoordinate};
-ghost use Rattle.mf_gf.specs.Ahead.{AreBlackRuns, blacks_ahead, stretches_left};
+ghost use Rattle.mf_gf.specs.Ahead.{AreBlackRuns, black_runs_ahead, stretches_ahead};
 ghost use Rattle.mf_gf.specs.Spelling.{approach, paint, stretches_text};
 ghost use Rattle.mf_gf.specs.Spellings.{Holds};
 ghost use Rattle.mf_rows.specs.Order.{IsRun};
@@ -26,11 +26,11 @@ struct Place {
 /// function of its own, with all that it does for a stretch inlined: so the registers are for the walk over the runs.
 #[inline(never)]
 pub(crate) fn spell_rows(out: &mut Spelling, stretches: Stretches<'_>, bounds: &CharacterBox)
-    requires order { AreBlackRuns (blacks_ahead stretches) }
+    requires order { AreBlackRuns (black_runs_ahead stretches) }
     requires left { IsCoordinate bounds.now.min_m }
     requires top { IsCoordinate bounds.now.max_n }
     ensures held { (text : List ℕ) → Holds out.old text
-        → Holds out.new (text ++ stretches_text bounds.now.min_m bounds.now.max_n bounds.now.min_m (stretches_left stretches.entry)) }
+        → Holds out.new (text ++ stretches_text bounds.now.min_m bounds.now.max_n bounds.now.min_m (stretches_ahead stretches.entry)) }
     ensures room { out.new.room ≡ out.old.room }
 {
     let mut place = Place {

@@ -1,6 +1,6 @@
 //! The stretches of black pixels of a picture, one after another.
 ghost use Rattle.std.specs.Prelude.{◌≡◌, ◌∷◌, flat_map};
-ghost use Rattle.mf_gf.specs.Ahead.{AreBlackRuns, blacks, blacks_ahead, stretches_left, with_next};
+ghost use Rattle.mf_gf.specs.Ahead.{AreBlackRuns, black_runs, black_runs_ahead, stretches_ahead, with_next};
 ghost use Rattle.mf_gf.specs.Pixels.{black};
 ghost use Rattle.mf_rows.specs.Dots.{IsPicture};
 ghost use Rattle.mf_rows.specs.Runs.{dots_of, runs_of};
@@ -20,8 +20,8 @@ pub(crate) struct Stretches<'a> {
 impl<'a> Stretches<'a> {
     /// An iterator over the stretches of a picture.
     pub(crate) fn over(picture: &'a Picture) -> Stretches<'a>
-        ensures order { AreBlackRuns (blacks_ahead result) }
-        ensures stretches { stretches_left result ≡ runs_of (black picture.now) }
+        ensures order { AreBlackRuns (black_runs_ahead result) }
+        ensures stretches { stretches_ahead result ≡ runs_of (black picture.now) }
         ensures lawful { IsPicture picture.now }
     {
         let mut runs = picture.runs();
@@ -33,9 +33,9 @@ impl<'a> Stretches<'a> {
     /// after these.
     #[inline(always)]
     fn lengthen(&mut self, begun: Run) -> Run
-        requires order { AreBlackRuns (begun ∷ blacks self.old.runs) }
-        ensures order { AreBlackRuns (blacks_ahead self.new) }
-        ensures stretch { runs_of (flat_map dots_of (begun ∷ blacks self.old.runs)) ≡ result ∷ stretches_left self.new }
+        requires order { AreBlackRuns (begun ∷ black_runs self.old.runs) }
+        ensures order { AreBlackRuns (black_runs_ahead self.new) }
+        ensures stretch { runs_of (flat_map dots_of (begun ∷ black_runs self.old.runs)) ≡ result ∷ stretches_ahead self.new }
     {
         let mut stretch = begun;
         loop {
@@ -53,15 +53,15 @@ impl<'a> Stretches<'a> {
 
 impl Iterator for Stretches<'_> {
     ghost use Rattle.std.specs.Iterator.{YieldsFirst, item_count};
-    ghost use Rattle.mf_gf.specs.Ahead.{AreBlackRuns, blacks_ahead, stretches_left};
+    ghost use Rattle.mf_gf.specs.Ahead.{AreBlackRuns, black_runs_ahead, stretches_ahead};
 
     type Item = Run;
 
-    ghost can_next = { λ s. AreBlackRuns (blacks_ahead s) };
+    ghost can_next = { λ s. AreBlackRuns (black_runs_ahead s) };
 
-    ghost next_gives = { YieldsFirst stretches_left };
+    ghost next_gives = { YieldsFirst stretches_ahead };
 
-    ghost remaining = { item_count stretches_left };
+    ghost remaining = { item_count stretches_ahead };
 
     #[inline(always)]
     fn next(&mut self) -> Option<Run> {
@@ -73,7 +73,7 @@ impl Iterator for Stretches<'_> {
 /// The next run of positive weight, returned with weight 1.
 #[inline(always)]
 pub(crate) fn next_black(runs: &mut Runs<'_>) -> Option<Run>
-    ensures next { blacks runs.old ≡ with_next result (blacks runs.new) }
+    ensures next { black_runs runs.old ≡ with_next result (black_runs runs.new) }
 {
     while let Some(run) = runs.next() {
         if run.weight > 0 {

@@ -1,6 +1,6 @@
 use Rattle.std.proofs.Common.{FitsSigned, w32, ◌∙◌, rules}
 use Rattle.std.proofs.lemmas.Int.{to_z-of_z}
-use Rattle.mf_gf.proofs.BlackDots.{black_taken, other_passed, blacks-none}
+use Rattle.mf_gf.proofs.BlackDots.{black_taken, other_passed, black_runs-none}
 use Rattle.mf_gf.proofs.stretches.next_black.Goals as goal
 
 pub returns-then-run-gt0 : goal.returns-then-run-gt0
@@ -19,4 +19,4 @@ loop-run-preserved c =
     c.loop-run.invariant ∙ other_passed _ _ _ c.in-Some.ensures.steps (rw (to_z-of_z w32 r.weight weight_fits) at c.if-run-gt0.false)
 
 pub returns : goal.returns
-returns c = record { next = c.loop-run.invariant ∙ blacks-none _ c.in_default.ensures.steps.0 }
+returns c = record { next = c.loop-run.invariant ∙ black_runs-none _ c.in_default.ensures.steps.0 }
