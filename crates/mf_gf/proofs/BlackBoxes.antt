@@ -86,11 +86,4 @@ box_fits ds b picture box =
     let sides = bounds_in_field (black ds) b (black_picture ds picture) (least_black ds b picture box) in
     let low = sides.0 in
     let high = sides.1 in
-    record {
-      left = omega (arith, ints, low.left, low.right);
-      right = omega (arith, ints, high.left, high.right);
-      behind = omega (arith, ints, high.left, high.right);
-      fits = omega (arith, ints, high.left, high.right);
-      bottom = omega (arith, ints, low.bottom, low.top);
-      top = omega (arith, ints, high.bottom, high.top);
-    }
+    omega (arith, ints, low, high)

@@ -56,7 +56,7 @@ black-from low [] dots = tt
 black-from low (d ∷ ds) dots =
     let start : low ≤ℤ place d.x d.y = dots.1 in
     let others = black-from (place d.x d.y +ℤ pos 1) ds dots.2 in
-    let lawful : IsLawfulWeight (pos 1) = record { least = omega (arith, ints); greatest = omega (arith, ints) } in
+    let lawful : IsLawfulWeight (pos 1) = omega (arith, ints) in
     cond_both (int_lt (pos 0) d.weight) (record { y = d.y; x = d.x; weight = pos 1 } ∷ black ds) (black ds) (AreDotsFrom low)
     (λ yes. (record { in_field = dots.0.in_field; lawful = lawful; nonzero = λ none. omega (arith, ints) }, start, others))
     (λ no. dots_from-lower low (place d.x d.y +ℤ pos 1) (black ds) (omega (arith, ints)) others)
@@ -77,7 +77,7 @@ as_black r run = record {
   right = run.right;
   bottom = run.bottom;
   top = run.top;
-  lawful = record { least = omega (arith, ints); greatest = omega (arith, ints) };
+  lawful = omega (arith, ints);
   nonzero = λ none. omega (arith, ints);
 }
 

@@ -57,8 +57,8 @@ word-reads_back (negsuc n) rest fits =
     ∙ omega (arith, ints)
 
 -- coordinates that the field allows are such numbers
-coordinate_fits : (z : ℤ) → IsCoordinate z → IsWord z
-coordinate_fits z range = record { least = omega (arith, ints, range.least); greatest = omega (arith, ints, range.greatest) }
+pub coordinate_fits : (z : ℤ) → IsCoordinate z → IsWord z
+coordinate_fits z range = omega (arith, ints, range)
 
 byte-reads_back : (z : ℤ) → is_byte z ≡ true → pos (unsigned_abs z) ≡ z
 byte-reads_back (pos n) fits = refl
@@ -100,7 +100,7 @@ head-begin code p b rest fits p_fits range =
     }))
     (λ long.
     let numbers = word b.min_m ++ word b.max_m ++ word b.min_n ++ word b.max_n ++ rest in
-    let code_is = word-reads_back (pos code) (word p ++ numbers) (record { least = omega (arith, ints); greatest = omega (arith, ints) }) in
+    let code_is = word-reads_back (pos code) (word p ++ numbers) (omega (arith, ints)) in
     let earlier_is = word-reads_back p numbers p_fits in
     let left = word-reads_back b.min_m (word b.max_m ++ word b.min_n ++ word b.max_n ++ rest) (coordinate_fits _ range.columns.0) in
     let right = word-reads_back b.max_m (word b.min_n ++ word b.max_n ++ rest) (coordinate_fits _ range.columns.1) in

@@ -21,18 +21,18 @@ pub record IsBoxInRange (b : CharacterBox) : Type 0 where
 pub box_in_range : (ds : List Dot) → IsPicture ds → IsBoxInRange (box_of_pixels ds)
 unfolding box_of_pixels
 box_in_range [] picture =
-    let zero : IsCoordinate (pos 0) = record { least = omega (arith, ints); greatest = omega (arith, ints) } in
+    let zero : IsCoordinate (pos 0) = omega (arith, ints) in
     record { columns = (zero, zero); rows = (zero, zero) }
 box_in_range (d ∷ ds) picture =
     let box = least_box_of_field (d ∷ ds) (box_of_dots d ds) picture (least_box_of_dots d ds) in
     record {
       columns = (
         record { least = box.left; greatest = omega (arith, ints, box) },
-        record { least = omega (arith, ints, box); greatest = omega (arith, ints, box) },
+        omega (arith, ints, box),
       );
       rows = (
         record { least = box.bottom; greatest = omega (arith, ints, box) },
-        record { least = omega (arith, ints, box); greatest = omega (arith, ints, box) },
+        omega (arith, ints, box),
       );
     }
 

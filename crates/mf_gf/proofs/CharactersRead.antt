@@ -1,5 +1,5 @@
 -- The characters of a file, read back from p to p.
-use Rattle.std.proofs.Common.{◌≡◌, ◌<◌, ◌≤◌, ◌==◌, ◌||◌, ℕ, Bool, true, false, ℤ, pos, if◌then◌else◌, List, [], ◌∷◌, ◌++◌, map, reverse, length, take}
+use Rattle.std.proofs.Common.{◌≡◌, ◌<◌, ◌≤◌, ◌==◌, ◌||◌, ℕ, Bool, false, ℤ, pos, if◌then◌else◌, List, [], ◌∷◌, ◌++◌, map, reverse, length, take}
 use Rattle.std.proofs.Common.{drop, Some, option_map, is_some, refl, ap, sym, subst, ◌∙◌, append_assoc, append-nil, length-append, eqb-true, arith}
 use Rattle.std.specs.List.{All, filter, list_any}
 use Rattle.std.proofs.Math.Seq.{drop-append_seam, take-append_seam}
@@ -112,10 +112,10 @@ last_stands bytes code s (t ∷ shipped) stand is =
 pointer_fits : (bytes : List ℕ) (code : ℕ) (shipped : List Shipment) → length bytes ≤ greatest_word
     → AllStand bytes shipped → IsWord (pointer (last_place code shipped))
 unfolding last_shipment
-pointer_fits bytes code [] short stand = record { least = omega (arith, ints); greatest = omega (arith, ints) }
+pointer_fits bytes code [] short stand = omega (arith, ints)
 pointer_fits bytes code (s ∷ shipped) short stand =
     split (λ test. IsWord (pointer (option_map (λ (it : Shipment). it.place) (if test then Some s else last_shipment code shipped)))) (s.character.code == code)
-    (λ yes. let before = stand.0.before in record { least = omega (arith, ints); greatest = omega (arith, ints, before, short) })
+    (λ yes. let before = stand.0.before in omega (arith, ints, before, short))
     (λ no. pointer_fits bytes code shipped short stand.1)
 
 -- ---- from one to the next
@@ -192,14 +192,10 @@ has_last-cons code s shipped =
     (s.character.code == code) (λ yes. refl) (λ no. refl)
 
 or_swap : (a b c : Bool) → ((a || b) || c) ≡ (b || (a || c))
-or_swap true true c = refl
-or_swap true false c = refl
-or_swap false true c = refl
-or_swap false false c = refl
+or_swap a b c = grind arith
 
 or_none : (a : Bool) → a ≡ (a || false)
-or_none true = refl
-or_none false = refl
+or_none a = grind arith
 
 has_last-with : (code : ℕ) (f : FileSoFar) (cs : List Character)
     → has_last code (with_characters f cs).shipped ≡ (has_last code f.shipped || list_any (λ (c : Character). c.code == code) cs)

@@ -11,6 +11,7 @@ use Rattle.mf_gf.specs.FontNumbers.{IsLeastAround, IsWithin, box_of_character}
 use Rattle.mf_gf.specs.Numbers.{IsWord}
 use Rattle.mf_gf.specs.Pointers.{IsShippable}
 use Rattle.mf_gf.proofs.BoxesInRange.{box_in_range}
+use Rattle.mf_gf.proofs.BoxOfDots.{coordinate_fits}
 
 -- ---- the numbers of a box fit into four bytes
 
@@ -24,10 +25,10 @@ box_fits : (c : Character) → IsShippable c → FitsWords (box_of_character c)
 box_fits c shippable =
     let range = box_in_range c.black shippable.black.picture in
     record {
-      left = record { least = omega (arith, ints, range.columns.0.least); greatest = omega (arith, ints, range.columns.0.greatest) };
-      right = record { least = omega (arith, ints, range.columns.1.least); greatest = omega (arith, ints, range.columns.1.greatest) };
-      bottom = record { least = omega (arith, ints, range.rows.0.least); greatest = omega (arith, ints, range.rows.0.greatest) };
-      top = record { least = omega (arith, ints, range.rows.1.least); greatest = omega (arith, ints, range.rows.1.greatest) };
+      left = coordinate_fits _ range.columns.0;
+      right = coordinate_fits _ range.columns.1;
+      bottom = coordinate_fits _ range.rows.0;
+      top = coordinate_fits _ range.rows.1;
     }
 
 join_fits : (a b : CharacterBox) → FitsWords a → FitsWords b → FitsWords (join a b)
@@ -56,23 +57,13 @@ any_first : (P : Character → Type 0) (c : Character) (cs : List Character) →
 any_first P c cs this = (0, c, omega arith, refl, this)
 
 within_itself : (b : CharacterBox) → IsWithin b b
-within_itself b = record { left = omega (arith, ints); right = omega (arith, ints); bottom = omega (arith, ints); top = omega (arith, ints) }
+within_itself b = omega (arith, ints)
 
 within_first : (a b : CharacterBox) → IsWithin (join a b) a
-within_first a b = record {
-  left = omega (arith, ints, clamps);
-  right = omega (arith, ints, clamps);
-  bottom = omega (arith, ints, clamps);
-  top = omega (arith, ints, clamps);
-}
+within_first a b = omega (arith, ints, clamps)
 
 within_second : (a b inner : CharacterBox) → IsWithin b inner → IsWithin (join a b) inner
-within_second a b inner inside = record {
-  left = omega (arith, ints, clamps, inside.left);
-  right = omega (arith, ints, clamps, inside.right);
-  bottom = omega (arith, ints, clamps, inside.bottom);
-  top = omega (arith, ints, clamps, inside.top);
-}
+within_second a b inner inside = omega (arith, ints, clamps, inside)
 
 least_of_more : (c : Character) (cs : List Character) (b : CharacterBox) → IsLeastAround cs b → IsLeastAround (c ∷ cs) (join (box_of_character c) b)
 least_of_more c cs b least =

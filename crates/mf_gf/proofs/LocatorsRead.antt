@@ -71,10 +71,6 @@ read_on n next = elim next [
   ]
 ]
 
-within-suc : (n : ℕ) (bytes : List ℕ) → locators_within (suc n) bytes ≡ read_on n (read_item bytes)
-unfolding locators_within
-within-suc n bytes = refl
-
 -- post_post ends the locators
 end_within : (n place before : ℕ) → 1 ≤ n → locators_within n (ending place before) ≡ Some []
 unfolding locators_within read_item
@@ -86,13 +82,13 @@ module _ (shipped : List Shipment) (fits : (code : ℕ) (s : Shipment) → last_
       → ((k : ℕ) → n < k → locators_within k (locators_from (code + 1) n shipped ++ ending place before) ≡ Some (lasts_from (code + 1) n shipped))
       → locators_within m (locator_if (option_map locator_of last) ++ locators_from (code + 1) n shipped ++ ending place before)
       ≡ Some (with_last last (lasts_from (code + 1) n shipped))
+  unfolding locators_within
   one_read code n m None few is others = others m (omega (arith, few))
   one_read code n zero (Some s) few is others = absurd (omega (arith, few))
   one_read code n (suc m) (Some s) few is others =
       let l = locator_of s in
       let rest = locators_from (code + 1) n shipped ++ ending place before in
-      within-suc m (locator_text l ++ locators_from (code + 1) n shipped ++ ending place before)
-      ∙ ap (λ bytes. read_on m (read_item bytes)) (append_assoc (locator_text l) (locators_from (code + 1) n shipped) (ending place before))
+      ap (λ bytes. read_on m (read_item bytes)) (append_assoc (locator_text l) (locators_from (code + 1) n shipped) (ending place before))
       ∙ ap (read_on m) (locator_reads l rest (fits code s is))
       ∙ ap (option_map (λ more. l ∷ more)) (others m (omega (arith, few)))
 

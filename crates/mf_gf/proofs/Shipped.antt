@@ -66,12 +66,16 @@ keeps-more before after comment cs c appended widened keeps = record {
   bounds = widened ∙ ap (λ bounds. Some (widen bounds (box_of_pixels c.black))) keeps.bounds ∙ sym (bounds_of-more cs c);
 }
 
+-- the bytes of a file after post: its locators and its ending
+abbrev pub bytes_after_post : FontWords → List ℕ → List Character → List ℕ
+bytes_after_post words comment cs =
+    locators_from 0 code_count (shipments comment cs) ++ ending (length (bytes_so_far comment cs)) (length (body words comment cs))
+
+pub file_of-parts : (words : FontWords) (comment : List ℕ) (cs : List Character) → file_of words comment cs
+    ≡ bytes_so_far comment cs ++ (post_text words (box_of_all cs) (length (bytes_so_far comment cs)) ++ bytes_after_post words comment cs)
+unfolding file_of
+file_of-parts words comment cs = simp append_assoc
+
 -- a file begins with its preamble and its characters
 pub file-begins : (words : FontWords) (comment : List ℕ) (cs : List Character) → (rest : List ℕ) × (file_of words comment cs ≡ bytes_so_far comment cs ++ rest)
-unfolding file_of
-file-begins words comment cs =
-    let before = bytes_so_far comment cs in
-    let behind = post_text words (box_of_all cs) (length before) in
-    let locators = locators_from 0 code_count (shipments comment cs) in
-    let last = ending (length before) (length (body words comment cs)) in
-    (behind ++ (locators ++ last), append_assoc (before ++ behind) locators last ∙ append_assoc before behind (locators ++ last))
+file-begins words comment cs = (_, file_of-parts words comment cs)

@@ -50,5 +50,5 @@ and_else x false b fails x_is = x_is
 
 -- such a number may be cast to one byte
 pub byte_fits : (y z : ℤ) → y ≡ z → IsByte z → T (non_neg y) × Fits w8 (nat_abs y)
-byte_fits (pos n) z is byte = (tt, record { fits = omega (arith, ints, is, byte) })
+byte_fits (pos n) z is byte = (tt, omega (arith, ints, is, byte))
 byte_fits (negsuc n) z is byte = absurd (omega (arith, ints, is, byte))

@@ -60,15 +60,6 @@ none_spelled before c runs row_in_range column_in_range = record {
   column_in_range = column_in_range;
 }
 
-stretches_text-cons : (left row column : ℤ) (r : Run) (rs : List Run)
-    → stretches_text left row column (r ∷ rs) ≡ approach left row column r ++ paint r.len ++ stretches_text left r.y (r.x +ℤ pos r.len) rs
-unfolding stretches_text
-stretches_text-cons left row column r rs = refl
-
-stretches_text-nil : (left row column : ℤ) → stretches_text left row column [] ≡ []
-unfolding stretches_text
-stretches_text-nil left row column = refl
-
 module _ (before out : Spelling) (text : List ℕ) (c : Coming) where
   pub next_is_run : (r : Run) (others : List Run) → c.runs ≡ r ∷ others → AreSpelled before out text c → IsRun r
   next_is_run r others first so_far = All-head IsRun r others (All-same IsRun (r ∷ others) c.runs (sym first) so_far.runs)
@@ -76,6 +67,7 @@ module _ (before out : Spelling) (text : List ℕ) (c : Coming) where
   pub one_more_spelled : (r : Run) (others : List Run) (painted : Spelling) → c.runs ≡ r ∷ others
       → Writes out painted (approach c.left c.row c.column r ++ paint r.len) → painted.room ≡ out.room → AreSpelled before out text c
       → AreSpelled before painted text (record { left = c.left; row = r.y; column = r.x +ℤ pos r.len; runs = others })
+  unfolding stretches_text
   one_more_spelled r others painted first puts same_room so_far =
       let run = next_is_run r others first so_far in
       let stroke = approach c.left c.row c.column r ++ paint r.len in
@@ -84,7 +76,6 @@ module _ (before out : Spelling) (text : List ℕ) (c : Coming) where
         writes = write_both _ _ _ _ _ so_far.writes puts;
         rest =
             append_assoc so_far.written stroke (stretches_text c.left r.y (r.x +ℤ pos r.len) others)
-            ∙ ap (λ bytes. so_far.written ++ bytes) (sym (stretches_text-cons c.left c.row c.column r others))
             ∙ ap (λ rs. so_far.written ++ stretches_text c.left c.row c.column rs) (sym first) ∙ so_far.rest;
         room = same_room ∙ so_far.room;
         runs = All-rest IsRun r others c.runs first so_far.runs;
@@ -93,11 +84,10 @@ module _ (before out : Spelling) (text : List ℕ) (c : Coming) where
       }
 
   pub all_spelled : c.runs ≡ [] → AreSpelled before out text c → Writes before out text
+  unfolding stretches_text
   all_spelled none so_far =
       write_same _ _ _ _
-      (sym (append-nil so_far.written) ∙ ap (λ bytes. so_far.written ++ bytes) (sym (stretches_text-nil c.left c.row c.column))
-      ∙ ap (λ rs. so_far.written ++ stretches_text c.left c.row c.column rs) (sym none) ∙ so_far.rest)
-      so_far.writes
+      (sym (append-nil so_far.written) ∙ ap (λ rs. so_far.written ++ stretches_text c.left c.row c.column rs) (sym none) ∙ so_far.rest) so_far.writes
 
 pub spell-is : (code : ℕ) (p : ℤ) (ds : List Dot) (b : CharacterBox) (rs : List Run) → b ≡ box_of_pixels ds → rs ≡ runs_of ds
     → begin code p b ++ stretches_text b.min_m b.max_n b.min_m rs ++ gf.eoc ∷ [] ≡ spell code p ds

@@ -1,6 +1,7 @@
 -- What a reader finds in a finished file besides its characters: the comment in the preamble, and what post says (The METAFONTbook,
 -- Appendix G; gftype.web). The opcodes are numerals, so that the law does not rest on those of `Format`, which files are made with.
 use Rattle.std.specs.Prelude.{◌≡◌, ◌+◌, ◌-◌, ◌*◌, ◌==◌, ◌&&◌, ℕ, ℤ, ◌≤ℤ◌, All, Any, List, take, drop, slice_index, Option, None, Some, if◌then◌else◌}
+use Rattle.std.specs.Option.{option_and_then}
 use Rattle.mf_gf.specs.declared.boxes.CharacterBox.{CharacterBox}
 use Rattle.mf_gf.specs.declared.file.FontWords.{FontWords}
 use Rattle.mf_gf.specs.Boxes.{box_of_pixels}
@@ -40,10 +41,7 @@ post_at place file = if slice_index file place == 248 then Some (read_post (drop
 
 -- post, at the place that the end of the file names
 unfoldable pub post_of : List ℕ → Option Post
-post_of file = elim (post_place file) [
-  | None ↦ None
-  | Some place ↦ post_at place file
-]
+post_of file = option_and_then (λ place. post_at place file) (post_place file)
 
 -- ---- what the reader finds
 

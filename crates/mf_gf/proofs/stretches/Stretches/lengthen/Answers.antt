@@ -13,10 +13,8 @@ overflow_add-stretch-in-loop-self c =
 pub loop-self-preserved : goal.loop-self-preserved
 loop-self-preserved c =
     let (first, next) = both_are_runs _ _ _ _ _ c.next_black-self.ensures.next c.loop-self.invariant _ c.in-Some.is in
-    let follows : IsAdjacent c.loop-self.stretch c.in-Some.run' = record {
-      row = omega (arith, ints, ap (to_z w32) c.if-run-stretch.false, first, next);
-      column = omega (arith, ints, ap (to_z w32) c.if-run-stretch-2.false, first, next);
-    } in
+    let follows : IsAdjacent c.loop-self.stretch c.in-Some.run' =
+    omega (arith, ints, ap (to_z w32) c.if-run-stretch.false, ap (to_z w32) c.if-run-stretch-2.false, first, next) in
     one_more_joined _ _ _ _ _ c.next_black-self.ensures.next c.loop-self.invariant _ c.in-Some.is follows
 
 pub returns-then-run-stretch-clause-order : goal.returns-then-run-stretch-clause-order
