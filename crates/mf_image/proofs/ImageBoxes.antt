@@ -28,14 +28,7 @@ unfolding image_box
 box_of_blank ds blank =
     record {
       is = rw blank refl;
-      field = record {
-        left = omega (arith, ints);
-        right = omega (arith, ints);
-        bottom = omega (arith, ints);
-        top = omega (arith, ints);
-        columns = omega (arith, ints);
-        rows = omega (arith, ints);
-      };
+      field = omega (arith, ints);
     }
 
 pub blank_is_small : (ds : List Dot) → ds ≡ [] → IsTooLargeForImage ds → ⊥
@@ -53,12 +46,7 @@ pub signed : (n : ℕ) → n ≤ field_size → to_z w32 n ≡ pos n
 signed n small = omega (arith, ints)
 
 pub small_box : (b : Box4) → IsBoxOfField b → IsSmallBox (view_box_of b)
-small_box b field = record {
-  left = record { least = omega (arith, ints, field.left); greatest = omega (arith, ints, field.columns, field.right) };
-  top = record { least = omega (arith, ints, field.top); greatest = omega (arith, ints, field.rows, field.bottom) };
-  width = record { least = omega (arith, ints); greatest = omega (arith, ints, field.left, field.right, field.columns) };
-  height = record { least = omega (arith, ints); greatest = omega (arith, ints, field.bottom, field.top, field.rows) };
-}
+small_box b field = omega (arith, ints, field)
 
 -- a small number stays itself as a value of 32 bits
 abbrev StaysItself : ℤ → Type 0

@@ -4,13 +4,13 @@ use Rattle.std.proofs.Common.{inl, inr, refl, sym, ap, ◌∙◌, subst, arith}
 use Rattle.std.specs.List.{All, flat_map}
 use Rattle.std.specs.Ordering.{int_eq}
 use Rattle.std.proofs.lemmas.Bool.{cond_both, cond-true, cond-false, cases_Bool, false≢true}
-use Rattle.std.proofs.lemmas.Bool.Decides.{Decides-int_eq}
+use Rattle.std.proofs.lemmas.Bool.Decides.{Decides-and, Decides-int_eq}
 use Rattle.std.proofs.lemmas.Int.{ints}
 use Rattle.std.proofs.lemmas.List.Elements.{All-head, All-tail, All-cons, All-nil, All-weaker}
 use Rattle.mf_rows.specs.declared.run.Run.{Run}
-use Rattle.mf_rows.specs.Dots.{Dot, AreDotsFrom, place, weight_at}
+use Rattle.mf_rows.specs.Dots.{Dot, AreDotsFrom, IsDot, place, weight_at}
 use Rattle.mf_rows.specs.Runs.{equal_dots, dots_of}
-use Rattle.mf_rows.proofs.DotsLemmas.{IsAt, weight_at-here, weight_at-elsewhere}
+use Rattle.mf_rows.proofs.DotsLemmas.{IsAt, dots_from-after, dots_from-lawful, weight_at-here, weight_at-elsewhere}
 use Rattle.mf_image.specs.Svg.{weights_of}
 
 -- the dots of this weight
@@ -48,12 +48,10 @@ dots_with-other w v y x (suc n) other = cond-false (int_eq v w) _ _ other ∙ do
 -- a pixel is there, or is not
 at_or_not : (P : Type 0) (d : Dot) (x y : ℤ) → (IsAt d x y → P) → ((IsAt d x y → ⊥) → P) → P
 at_or_not P d x y here elsewhere =
-    elim (cases_Bool (int_eq d.x x)) [
-      | inl column ↦ elim (cases_Bool (int_eq d.y y)) [
-        | inl row ↦ here (record { column = (Decides-int_eq d.x x).0 column; row = (Decides-int_eq d.y y).0 row })
-        | inr other ↦ elsewhere (λ at. false≢true (sym other ∙ (Decides-int_eq d.y y).1 at.row))
-      ]
-      | inr other ↦ elsewhere (λ at. false≢true (sym other ∙ (Decides-int_eq d.x x).1 at.column))
+    let both = Decides-and (int_eq d.x x) (int_eq d.y y) (Decides-int_eq d.x x) (Decides-int_eq d.y y) in
+    elim (cases_Bool (int_eq d.x x && int_eq d.y y)) [
+      | inl test ↦ (let at = both.0 test in here (record { column = at.0; row = at.1 }))
+      | inr other ↦ elsewhere (λ at. false≢true (sym other ∙ both.1 (at.column, at.row)))
     ]
 
 -- no dot of weight w is at the pixel, so the dots of weight w do not affect it
@@ -86,12 +84,9 @@ present w (d ∷ ds) es x y nonzero weight =
 
 -- dots from a place on are not at a pixel before it
 none_before : (low : ℤ) (ds : List Dot) (x y : ℤ) → AreDotsFrom low ds → place x y <ℤ low → All (λ d. IsAt d x y → ⊥) ds
-none_before low [] x y dots below = All-nil (λ d. IsAt d x y → ⊥)
-none_before low (d ∷ ds) x y dots below =
-    let start : low ≤ℤ place d.x d.y = dots.1 in
-    All-cons (λ d. IsAt d x y → ⊥) d ds
-    (λ at. let same : place d.x d.y ≡ place x y = rw (at.column, at.row) refl in omega (arith, ints))
-    (none_before (place d.x d.y +ℤ pos 1) ds x y dots.2 (omega (arith, ints)))
+none_before low ds x y dots below =
+    All-weaker (λ d. low ≤ℤ place d.x d.y) (λ d. IsAt d x y → ⊥)
+    (λ d start at. let same : place d.x d.y ≡ place x y = rw (at.column, at.row) refl in omega (arith, ints)) ds (dots_from-after low ds dots)
 
 -- no dot of a weight is at a pixel that has another weight, nor where the weight is 0
 none_of : (low w : ℤ) (ds : List Dot) (x y : ℤ) → AreDotsFrom low ds → weight_at ds x y ≢ w → All (λ d. d.weight ≡ w → IsAt d x y → ⊥) ds
@@ -108,9 +103,8 @@ none_of low w (d ∷ ds) x y dots other =
     (none_of (place d.x d.y +ℤ pos 1) w ds x y dots.2 (λ same. other (weight_at-elsewhere d ds x y elsewhere ∙ same))))
 
 none_of_zero : (low : ℤ) (ds : List Dot) (x y : ℤ) → AreDotsFrom low ds → All (λ d. d.weight ≡ pos 0 → IsAt d x y → ⊥) ds
-none_of_zero low [] x y dots = All-nil (λ d. d.weight ≡ pos 0 → IsAt d x y → ⊥)
-none_of_zero low (d ∷ ds) x y dots =
-    All-cons (λ d. d.weight ≡ pos 0 → IsAt d x y → ⊥) d ds (λ zero _. dots.0.nonzero zero) (none_of_zero (place d.x d.y +ℤ pos 1) ds x y dots.2)
+none_of_zero low ds x y dots =
+    All-weaker IsDot (λ d. d.weight ≡ pos 0 → IsAt d x y → ⊥) (λ d lawful zero _. lawful.nonzero zero) ds (dots_from-lawful low ds dots)
 
 -- a weight below all of those that are gathered is not found
 below : (low : ℤ) (ds : List Dot) (w : ℤ) (n : ℕ) (x y : ℤ) → AreDotsFrom low ds → weight_at ds x y <ℤ w → weight_at (gathered ds w n) x y ≡ pos 0
