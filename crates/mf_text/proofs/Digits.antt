@@ -16,7 +16,7 @@ use Rattle.std.proofs.lemmas.Str.Parse.{numerals_by_value, tells_digits, digits_
 use Rattle.mf_text.specs.Limits.{most_digits}
 use Rattle.mf_text.specs.Token.{value_in}
 use Rattle.mf_text.specs.Token as token
-use Rattle.mf_text.specs.Tokens.{Finds, Taken, first_token, number_token}
+use Rattle.mf_text.specs.Tokens.{Finds, SizedToken, first_token, number_token}
 use Rattle.mf_text.proofs.Found.{number_lacking}
 use Rattle.mf_text.proofs.TokenTexts.{digits_first}
 
@@ -102,8 +102,8 @@ number-found text i value to ends =
           → Finds value_in text (Some (value, i))
       found first =
           let count = length-prefix_len is_ascii_digit text in (
-            ap (λ (t : Taken). value_in t.token) first ∙ ap value_in (sym (number-ends text i value to ends)),
-            sym (ap (λ (t : Taken). t.bytes) first ∙ count ∙ sym ends),
+            ap (λ (t : SizedToken). value_in t.token) first ∙ ap value_in (sym (number-ends text i value to ends)),
+            sym (ap (λ (t : SizedToken). t.bytes) first ∙ count ∙ sym ends),
             omega (arith, ends, prefix_len-le-length is_ascii_digit text),
           )
 

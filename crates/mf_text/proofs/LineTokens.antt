@@ -4,13 +4,13 @@ use Rattle.std.proofs.Common.{get_or, take, drop, refl, sym, ap, subst, ◌∙�
 use Rattle.std.proofs.lemmas.Bool.{ne_eqb}
 use Rattle.std.proofs.lemmas.List.{take_rest}
 use Rattle.mf_text.specs.Limits.{percent_sign}
-use Rattle.mf_text.specs.Tokens.{IsClear, is_blank, Taken, token_at, first_token, tokens_within, tokens_from}
+use Rattle.mf_text.specs.Tokens.{IsClear, is_blank, SizedToken, token_at, first_token, tokens_within, tokens_from}
 use Rattle.mf_text.proofs.TokenTexts.{Front, Other, Text, begins, front, text_first, unknown_first}
 
 -- ---- how many bytes a token takes
 
 -- the token takes at least one byte, and at most n
-pub record TakesSome (n : ℕ) (t : Taken) : Type 0 where
+pub record TakesSome (n : ℕ) (t : SizedToken) : Type 0 where
   pub some : 0 < t.bytes
   pub within : t.bytes ≤ n
 
@@ -21,7 +21,7 @@ first_taken b bs = by_front (front (b ∷ bs)) where
       subst (TakesSome (suc (length bs))) (sym (ap first_token parts ∙ text_first t text rest is))
       (record { some = (begins t text rest is).some; within = omega (arith, ap length parts, length-append text rest) })
   by_front (Other no_letter no_digit none) =
-      subst (TakesSome (suc (length bs))) (sym (unknown_first (b ∷ bs) no_letter no_digit none)) (record { some = omega arith; within = omega arith })
+      subst (TakesSome (suc (length bs))) (sym (unknown_first (b ∷ bs) no_letter no_digit none)) (omega arith)
 
 -- ---- a line from its front
 

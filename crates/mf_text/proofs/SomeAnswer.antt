@@ -18,7 +18,7 @@ use Rattle.mf_text.specs.Meaning.{Value, Points, AWeight, ACull, AScale, Angle, 
 use Rattle.mf_text.specs.Meaning.{Refuses, meaning, CycleFault, IsContourWeight, IsLawfulCull, CullRule, Keeping, Dropping, Quarter, Command, TextFault}
 use Rattle.mf_text.specs.Rests.{from, line}
 use Rattle.mf_text.specs.Syntax.{IsLine}
-use Rattle.mf_text.specs.Tokens.{kinds, tokens}
+use Rattle.mf_text.specs.Tokens.{without_columns, tokens}
 use Rattle.mf_text.proofs.LineAnswers.{of_values, refusals_of_values}
 use Rattle.mf_text.proofs.LineReading.{goes_wrong, is_line}
 
@@ -131,7 +131,7 @@ abbrev HasAnswer : List ℕ → Type 0
 HasAnswer bytes =
     ((given : Command) × Gives bytes given) ⊎ ((fault : TextFault) × (fault ≢ faults.OutOfMemory) × IsRefused bytes fault)
 
-line_answered : (bytes : List ℕ) → IsText bytes → (line : IsLine (kinds (tokens bytes))) → MeansSomething (meaning line.tree.form) → HasAnswer bytes
+line_answered : (bytes : List ℕ) → IsText bytes → (line : IsLine (without_columns (tokens bytes))) → MeansSomething (meaning line.tree.form) → HasAnswer bytes
 line_answered bytes text line (inl (given, is)) =
     inl (given, record { line = line.tree; line_is = record { text = text; spelled = line.spelled }; so = is })
 line_answered bytes text line (inr (fault, is)) =

@@ -11,8 +11,9 @@ use Rattle.mf_text.specs.Grammar.{Form, Nothing, AddContour, AddPicture, CullKee
 use Rattle.mf_text.specs.Grammar.{ShowPicture, ShowProof, ShipOut, SetCheck, PublishAll, Shifted, Scaled, XScaled, YScaled, Rotated}
 use Rattle.mf_text.specs.Grammar.{Line, Path, spell_form, spell_weight, spell_int, spell_pair, spell_name, spell_source, spell_corner}
 use Rattle.mf_text.specs.Grammar.{spell_path, spell_line, Plus, Minus, Code, Name, Current, Register, Source, Null, Named, Int, Pair}
-use Rattle.mf_text.specs.Rests.{Kind, Of, This, Names, Codes, Rest, Ends, Take, OrTake, Corners, One, Or, ACode, CodeNumber, corner, ends, if_kind, inner}
-use Rattle.mf_text.specs.Rests.{int, is_code_number, pair, path, source, step, assignment, line, line_end, name_token, transform, value, weighable, Token}
+use Rattle.mf_text.specs.Rests.{Kind, Of, This, Names, Codes, Rest, Ends, Take, OrTake, Corners, One, Or, CodeNumber, ends, if_kind}
+use Rattle.mf_text.specs.Rests.{character_code, int, is_code_number, pair, path, rest_of_corner, rest_of_pair, source, step, assignment, line, line_end}
+use Rattle.mf_text.specs.Rests.{name_token, transform, value, weight_at_end, Token}
 use Rattle.mf_text.specs.Syntax.{is_negative_code}
 use Rattle.mf_text.proofs.Rests.{HasSign, token_of, value_is, is_code_number_at, reads}
 
@@ -85,14 +86,14 @@ sound_int {past} each = record {
 }
 
 sound_code : {past : List Token} {next : Code → Rest} → ((s : Token) × (past ++ token.Mark mark.Minus ∷ [] ≡ to_number s))
-    → ((c : Code) → Sound (past ++ spell_int c.int) (next c)) → Sound past (ACode next)
+    → ((c : Code) → Sound (past ++ spell_int c.int) (next c)) → Sound past (character_code next)
 sound_code {past} place each = record {
   by = ((place, λ c is. (sound_at (minus_tokens past c.int is) (each c)).by), λ c is. (sound_at (plain_tokens past c.int is) (each c)).by);
 }
 
 -- a pair after its `(`
 sound_inner : (past : List Token) {next : Pair → Rest} → ((p : Pair) → Sound (past ++ spell_pair p) (next p))
-    → Sound (past ++ token.Mark mark.Open ∷ []) (inner next)
+    → Sound (past ++ token.Mark mark.Open ∷ []) (rest_of_pair next)
 sound_inner past each =
     sound_int (λ across. sound_one (sound_int (λ up. sound_one
     (sound_at (simp append_assoc) (each (record { across = across; up = up }))))))
@@ -102,7 +103,7 @@ sound_pair {past} each = sound_one (sound_inner past each)
 
 -- a corner after its `(`
 sound_corner : (past : List Token) (next : Pair → Rest) → ((p : Pair) → Sound (past ++ spell_corner p) (next p))
-    → Sound (past ++ token.Mark mark.Open ∷ []) (corner next)
+    → Sound (past ++ token.Mark mark.Open ∷ []) (rest_of_corner next)
 sound_corner past next each = sound_inner past (λ p. sound_one (sound_at (sym (append_assoc past (spell_pair p) _)) (each p)))
 
 sound_path : {past : List Token} {next : Path → Rest} → ((p : Path) → Sound (past ++ spell_path p) (next p)) → Sound past (path next)
@@ -113,7 +114,7 @@ sound_path {past} {next} each =
 
 -- after some corners, one more
 one_more : (past : List Token) (next : List Pair → Rest) → Spells past (Corners next)
-    → Sound (past ++ token.Mark mark.Open ∷ []) (corner (λ p. Corners (λ ps. next (p ∷ ps))))
+    → Sound (past ++ token.Mark mark.Open ∷ []) (rest_of_corner (λ p. Corners (λ ps. next (p ∷ ps))))
 one_more past next spells = sound_corner past (λ p. Corners (λ ps. next (p ∷ ps))) (λ p. record {
   by = λ more. subst (λ ts. Spells ts (next (p ∷ more))) (simp append_assoc) (spells (p ∷ more));
 })
@@ -183,7 +184,7 @@ sound_end form spelled = record { by = (ap (λ ts. ts ++ token.Mark mark.Semicol
 
 -- a weight that may be left out
 sound_weight : {past : List Token} (form : Option Int → Form) → ((w : Option Int) → spell_form (form w) ≡ past ++ spell_weight w)
-    → Sound past (weighable form)
+    → Sound past (weight_at_end form)
 sound_weight {past} form spelled =
     sound_or (sound_int (λ n. sound_end (form (Some n)) (spelled (Some n) ∙ sym (append_assoc past (token.Word word.WithWeight ∷ []) (spell_int n)))))
     (sound_end (form None) (spelled None ∙ append-nil past))

@@ -17,7 +17,7 @@ use Rattle.mf_text.specs.declared.token.Mark.TheVariants as mark
 use Rattle.mf_text.specs.declared.token.Word.TheVariants as word
 use Rattle.mf_text.specs.Limits.{letter_a, letter_z, most_digits, percent_sign, space, tab}
 use Rattle.mf_text.specs.Token as token
-use Rattle.mf_text.specs.Tokens.{Taken, first_token, first_is, is_blank, is_letter, is_longer, mark_among, mark_text, marks}
+use Rattle.mf_text.specs.Tokens.{SizedToken, first_token, first_is, is_blank, is_letter, is_longer, mark_among, mark_text, marks}
 use Rattle.mf_text.specs.Tokens.{number_token, word_among, word_text, word_token, words, is_token, Mark, Token, Word}
 use Rattle.mf_text.specs.TokenTexts.{AMark, Digits, IsRow, IsTokenText, Letters, OtherByte}
 
@@ -276,12 +276,12 @@ pub mark_length : (m : Mark) (text rest : List ℕ) → IsTokenText (token.Mark 
 mark_length m text rest is =
     let said = text_says (token.Mark m) text rest is in
     let parts = starts-drop (text ++ rest) (mark_text m) said.0 in
-    ap (λ (f : Taken). f.bytes) (sym (text_first (token.Mark m) text rest is) ∙ ap first_token parts ∙ counts m _ (ap (is_longer m) (sym parts) ∙ said.1))
+    ap (λ (f : SizedToken). f.bytes) (sym (text_first (token.Mark m) text rest is) ∙ ap first_token parts ∙ counts m _ (ap (is_longer m) (sym parts) ∙ said.1))
 
 pub said : (bs : List ℕ) → IsSaid (first_token bs).token bs
 said bs = by_front (front bs) where
   by_front : Front bs → IsSaid (first_token bs).token bs
   by_front (Text t text rest parts is) =
       subst (λ xs. IsSaid (first_token xs).token xs) (sym parts)
-      (subst (λ (f : Taken). IsSaid f.token (text ++ rest)) (sym (text_first t text rest is)) (text_says t text rest is))
-  by_front (Other no_letter no_digit none) = subst (λ (f : Taken). IsSaid f.token bs) (sym (unknown_first bs no_letter no_digit none)) tt
+      (subst (λ (f : SizedToken). IsSaid f.token (text ++ rest)) (sym (text_first t text rest is)) (text_says t text rest is))
+  by_front (Other no_letter no_digit none) = subst (λ (f : SizedToken). IsSaid f.token bs) (sym (unknown_first bs no_letter no_digit none)) tt
