@@ -28,12 +28,7 @@ max_assoc : (a b c : ℤ) → int_max a (int_max b c) ≡ int_max (int_max a b) 
 max_assoc a b c = omega (arith, ints, clamps)
 
 pub join-assoc : (a b c : CharacterBox) → join a (join b c) ≡ join (join a b) c
-join-assoc a b c = λ i. record {
-  min_m = min_assoc a.min_m b.min_m c.min_m i;
-  max_m = max_assoc a.max_m b.max_m c.max_m i;
-  min_n = min_assoc a.min_n b.min_n c.min_n i;
-  max_n = max_assoc a.max_n b.max_n c.max_n i;
-}
+join-assoc a b c = grind (arith, ints, min_assoc, max_assoc)
 
 -- ---- the box of pixels is that of the least one
 

@@ -71,15 +71,7 @@ abbrev pub IsBlack : Run → Type 0
 IsBlack r = r.weight ≡ pos 1
 
 as_black : (r : Run) → IsRun r → IsRun (record { y = r.y; x = r.x; len = r.len; weight = pos 1 })
-as_black r run = record {
-  some = run.some;
-  left = run.left;
-  right = run.right;
-  bottom = run.bottom;
-  top = run.top;
-  lawful = omega (arith, ints);
-  nonzero = λ none. omega (arith, ints);
-}
+as_black r run = omega (arith, ints, run)
 
 black_runs-lawful : (rs : List Run) → All IsRun rs → All IsRun (black_runs rs)
 unfolding black_runs

@@ -1,5 +1,5 @@
 -- The ends of the box of a picture are coordinates that the field allows.
-use Rattle.std.proofs.Common.{◌≡◌, pos, List, [], ◌∷◌, sym, ap, subst, ◌∙◌, arith}
+use Rattle.std.proofs.Common.{◌≡◌, List, [], ◌∷◌, sym, ap, subst, ◌∙◌, arith}
 use Rattle.std.specs.List.{flat_map}
 use Rattle.std.proofs.lemmas.Int.{ints}
 use Rattle.mf_geom.specs.Coordinates.{IsCoordinate}
@@ -20,21 +20,8 @@ pub record IsBoxInRange (b : CharacterBox) : Type 0 where
 
 pub box_in_range : (ds : List Dot) → IsPicture ds → IsBoxInRange (box_of_pixels ds)
 unfolding box_of_pixels
-box_in_range [] picture =
-    let zero : IsCoordinate (pos 0) = omega (arith, ints) in
-    record { columns = (zero, zero); rows = (zero, zero) }
-box_in_range (d ∷ ds) picture =
-    let box = least_box_of_field (d ∷ ds) (box_of_dots d ds) picture (least_box_of_dots d ds) in
-    record {
-      columns = (
-        record { least = box.left; greatest = omega (arith, ints, box) },
-        omega (arith, ints, box),
-      );
-      rows = (
-        record { least = box.bottom; greatest = omega (arith, ints, box) },
-        omega (arith, ints, box),
-      );
-    }
+box_in_range [] picture = omega (arith, ints)
+box_in_range (d ∷ ds) picture = omega (arith, ints, least_box_of_field (d ∷ ds) (box_of_dots d ds) picture (least_box_of_dots d ds))
 
 -- where the stretches of these dots are those ahead of an iterator, the dots are a picture
 picture_ahead : (s : Stretches) (ds : List Dot) → AreBlackRuns (black_runs_ahead s) → stretches_ahead s ≡ runs_of ds → IsPicture ds

@@ -76,12 +76,7 @@ all_before bytes more (s ∷ shipped) stand = (stands_before bytes more s _ stan
 
 one_stands : (f : FileSoFar) (c : Character) → IsShippable c
     → StandsAt (f.bytes ++ spell_after f c) (shipment_after f.bytes c) (pointer (last_place c.code f.shipped))
-one_stands f c shippable = record {
-  shippable = shippable;
-  before = let both = length-append f.bytes (spell_after f c) in omega (arith, both);
-  rest = [];
-  there = drop-append_seam f.bytes (spell_after f c) ∙ sym (append-nil (spell_after f c));
-}
+one_stands f c shippable = grind (arith, ints, length-append, drop-append_seam, append-nil)
 
 stand_from : (f : FileSoFar) (cs : List Character) → All IsShippable cs → AllStand f.bytes f.shipped
     → AllStand (with_characters f cs).bytes (with_characters f cs).shipped

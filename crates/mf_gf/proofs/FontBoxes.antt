@@ -11,7 +11,6 @@ use Rattle.mf_gf.specs.FontNumbers.{IsLeastAround, IsWithin, box_of_character}
 use Rattle.mf_gf.specs.Numbers.{IsWord}
 use Rattle.mf_gf.specs.Pointers.{IsShippable}
 use Rattle.mf_gf.proofs.BoxesInRange.{box_in_range}
-use Rattle.mf_gf.proofs.BoxOfDots.{coordinate_fits}
 
 -- ---- the numbers of a box fit into four bytes
 
@@ -24,20 +23,10 @@ pub record FitsWords (b : CharacterBox) : Type 0 where
 box_fits : (c : Character) → IsShippable c → FitsWords (box_of_character c)
 box_fits c shippable =
     let range = box_in_range c.black shippable.black.picture in
-    record {
-      left = coordinate_fits _ range.columns.0;
-      right = coordinate_fits _ range.columns.1;
-      bottom = coordinate_fits _ range.rows.0;
-      top = coordinate_fits _ range.rows.1;
-    }
+    omega (arith, ints, range.columns.0, range.columns.1, range.rows.0, range.rows.1)
 
 join_fits : (a b : CharacterBox) → FitsWords a → FitsWords b → FitsWords (join a b)
-join_fits a b first second = record {
-  left = either_min IsWord a.min_m b.min_m first.left second.left;
-  right = either_max IsWord a.max_m b.max_m first.right second.right;
-  bottom = either_min IsWord a.min_n b.min_n first.bottom second.bottom;
-  top = either_max IsWord a.max_n b.max_n first.top second.top;
-}
+join_fits a b first second = grind (arith, ints, either_min, either_max)
 
 pub all_fit : (c : Character) (cs : List Character) → All IsShippable (c ∷ cs) → FitsWords (box_of_all (c ∷ cs))
 unfolding box_of_all
@@ -85,16 +74,7 @@ least_of_more c cs b least =
     }
 
 least_of_one : (c : Character) → IsLeastAround (c ∷ []) (box_of_character c)
-least_of_one c =
-    let b = box_of_character c in
-    let Inside = λ (d : Character). IsWithin b (box_of_character d) in
-    record {
-      within = All-cons Inside c [] (within_itself b) (All-nil Inside);
-      left = any_first (λ d. (box_of_character d).min_m ≡ b.min_m) c [] refl;
-      right = any_first (λ d. (box_of_character d).max_m ≡ b.max_m) c [] refl;
-      bottom = any_first (λ d. (box_of_character d).min_n ≡ b.min_n) c [] refl;
-      top = any_first (λ d. (box_of_character d).max_n ≡ b.max_n) c [] refl;
-    }
+least_of_one c = grind (arith, ints, All-cons, within_itself, All-nil, any_first)
 
 pub least_of_all : (c : Character) (cs : List Character) → IsLeastAround (c ∷ cs) (box_of_all (c ∷ cs))
 unfolding box_of_all

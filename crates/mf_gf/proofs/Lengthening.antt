@@ -58,15 +58,7 @@ unfolding dots_of
 dots_of-joined r s weight next = rw (weight, next.row, next.column) (equal_dots-joined r.y r.x s.weight r.len s.len)
 
 lengthened_run : (r s : Run) → IsRun r → IsRun s → IsAdjacent r s → IsRun (with_more r s)
-lengthened_run r s run further next = record {
-  some = omega (arith, run.some);
-  left = run.left;
-  right = omega (arith, ints, further.right, next.column);
-  bottom = run.bottom;
-  top = run.top;
-  lawful = run.lawful;
-  nonzero = run.nonzero;
-}
+lengthened_run r s run further next = omega (arith, ints, run, further, next)
 
 -- such a run lengthens the stretch
 pub lengthened : (all : List Run) (r s : Run) (rs : List Run) → IsAdjacent r s → IsBegun all r (s ∷ rs) → IsBegun all (with_more r s) rs
@@ -117,11 +109,7 @@ stretch_first all r rs maximal so_far =
 
 maximal_before : (r : Run) (d : Dot) (ds : List Dot) → (IsFollowedBy r (run_from d 0) → ⊥) → AreMaximal (r ∷ runs_of (d ∷ ds))
 unfolding run_from
-maximal_before r d ds apart =
-    rw (runs_of-first d ds) (
-      (λ followed. apart (record { row = followed.row; column = followed.column; weight = followed.weight })),
-      rw (runs_of-first d ds) at (maximal_runs_of (d ∷ ds)),
-    )
+maximal_before r d ds apart = grind (arith, ints, runs_of-first, maximal_runs_of)
 
 maximal_apart : (r : Run) (y x w : ℤ) (n : ℕ) (ds : List Dot) → 1 ≤ n → (IsFollowedBy r (record { y = y; x = x; len = n; weight = w }) → ⊥)
     → AreMaximal (r ∷ runs_of (equal_dots y x w n ++ ds))

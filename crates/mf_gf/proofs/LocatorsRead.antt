@@ -1,6 +1,7 @@
 -- The locators of a file, read back: they are those of the last characters with their codes.
 use Rattle.std.proofs.Common.{◌≡◌, ◌+◌, ◌<◌, ◌≤◌, ◌==◌, ◌||◌, ℕ, zero, suc, Bool, true, false, pos, if◌then◌else◌, List, [], ◌∷◌, ◌++◌, Option}
 use Rattle.std.proofs.Common.{None, Some, option_map, refl, ap, sym, subst, ◌∙◌, append_assoc, eqb-true, eq-eqb, ⊎_elim, eq-or-lt_of_le, arith}
+use Rattle.std.proofs.lemmas.Int.{ints}
 use Rattle.std.specs.List.{All, AllPairs, list_any}
 use Rattle.std.proofs.lemmas.Bool.{or_right}
 use Rattle.std.proofs.lemmas.List.Elements.{All-cons, All-nil, All-weaker}
@@ -45,10 +46,7 @@ head_reads l rest None fits short =
     λ t. Some (record { locator = Some (record { code = l.code; dx = dx t; width = width t; place = place t }); rest = rest })
 
 locator_reads : (l : Locator) (rest : List ℕ) → IsReadable l → read_item (locator_text l ++ rest) ≡ read_as l rest
-locator_reads l rest fits =
-    ap read_item (append_assoc (locator_head l.code l.dx (short_dx l.dx) ++ word l.width) (word (pos l.place)) rest)
-    ∙ ap read_item (append_assoc (locator_head l.code l.dx (short_dx l.dx)) (word l.width) (word (pos l.place) ++ rest))
-    ∙ head_reads l rest (short_dx l.dx) fits refl
+locator_reads l rest fits = grind (arith, ints, append_assoc, head_reads)
 
 -- ---- all locators
 
@@ -145,10 +143,7 @@ rise_on : (shipped : List Shipment) (code : ℕ) (last : Option Shipment) (other
     → last_shipment code shipped ≡ last → All (IsLastFrom shipped (code + 1)) others
     → AllPairs IsBefore others → AllPairs IsBefore (with_last last others)
 rise_on shipped code None others is later pairs = pairs
-rise_on shipped code (Some s) others is later pairs =
-    let same = last_shipment-code code s shipped is in
-    AllPairs-cons IsBefore (locator_of s) others
-    (All-weaker (IsLastFrom shipped (code + 1)) (IsBefore (locator_of s)) (λ k from. omega (arith, same, from.least)) others later) pairs
+rise_on shipped code (Some s) others is later pairs = grind (arith, ints, last_shipment-code, AllPairs-cons, All-weaker)
 
 pub lasts_rise : (shipped : List Shipment) (code n : ℕ) → AllPairs IsBefore (lasts_from code n shipped)
 unfolding lasts_from

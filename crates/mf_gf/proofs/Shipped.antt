@@ -1,12 +1,13 @@
 -- The characters of a file, with one more at the end.
-use Rattle.std.proofs.Common.{◌≡◌, ◌≤◌, ℕ, ℤ, List, [], ◌∷◌, ◌++◌, Option, Some, length, refl, ap, sym, subst, ◌∙◌, append_assoc, length-append, arith}
+use Rattle.std.proofs.Common.{◌≡◌, ◌≤◌, ℕ, ℤ, List, [], ◌∷◌, ◌++◌, Option, Some, length, refl, ap, sym, ◌∙◌, append_assoc, length-append, arith}
+use Rattle.std.proofs.lemmas.Int.{ints}
 use Rattle.mf_rows.specs.Dots.{Dot}
 use Rattle.mf_gf.specs.declared.file.FontWords.{FontWords}
 use Rattle.mf_gf.specs.declared.file.GfFile.{GfFile}
 use Rattle.mf_gf.specs.Boxes.{box_of_pixels, join, widen}
 use Rattle.mf_gf.specs.Files.{Character, FileSoFar, Shipment, body, box_of_all, bytes_so_far, ending, file_of, file_so_far}
 use Rattle.mf_gf.specs.Files.{last_place, locator_of, locators_from, post_text, shipments, spell_after, with_character, with_characters}
-use Rattle.mf_gf.specs.Keeping.{HasLasts, IsAppended, Keeps, bounds_of}
+use Rattle.mf_gf.specs.Keeping.{IsAppended, Keeps, bounds_of}
 use Rattle.mf_gf.specs.Numbers.{code_count}
 use Rattle.mf_gf.specs.Spelling.{pointer, spell}
 use Rattle.mf_gf.proofs.BlackBoxes.{join-assoc}
@@ -57,14 +58,7 @@ bounds_of-more (b ∷ cs) c = ap (λ box. Some box) (box_of_all-more b cs c)
 pub keeps-more : (before after : GfFile) (comment : List ℕ) (cs : List Character) (c : Character)
     → IsAppended before after (locator_of (shipment_after before.bytes.items c)) (spell_after (file_so_far comment cs) c)
     → after.bounds ≡ Some (widen before.bounds (box_of_pixels c.black)) → Keeps before comment cs → Keeps after comment (cs ++ c ∷ [])
-keeps-more before after comment cs c appended widened keeps = record {
-  bytes = appended.bytes ∙ ap (λ bytes. bytes ++ spell_after (file_so_far comment cs) c) keeps.bytes ∙ sym (bytes_so_far-more comment cs c);
-  locators =
-      subst (HasLasts after.locators) (ap (λ bytes. shipment_after bytes c ∷ shipments comment cs) keeps.bytes ∙ sym (shipments-more comment cs c))
-      (appended.locators (shipment_after before.bytes.items c) (shipments comment cs) refl keeps.locators);
-  count = let one_more = length-append cs (c ∷ []) in let counted = appended.count in let count = keeps.count in omega (arith, one_more, counted, count);
-  bounds = widened ∙ ap (λ bounds. Some (widen bounds (box_of_pixels c.black))) keeps.bounds ∙ sym (bounds_of-more cs c);
-}
+keeps-more before after comment cs c appended widened keeps = grind (arith, ints, bytes_so_far-more, shipments-more, length-append, bounds_of-more)
 
 -- the bytes of a file after post: its locators and its ending
 abbrev pub bytes_after_post : FontWords → List ℕ → List Character → List ℕ

@@ -28,16 +28,7 @@ byte_from_test z test =
     record { least = le_from_test (pos 0) z parts.0; greatest = le_from_test z (pos greatest_byte) parts.1 }
 
 pub short_box : (b : CharacterBox) → is_short b ≡ true → IsShortBox b
-short_box b test =
-    let width = and_parts (is_byte (b.max_m -ℤ b.min_m)) _ test in
-    let right = and_parts (is_byte b.max_m) _ width.1 in
-    let height = and_parts (is_byte (b.max_n -ℤ b.min_n)) (is_byte b.max_n) right.1 in
-    record {
-      width = byte_from_test _ width.0;
-      right = byte_from_test _ right.0;
-      height = byte_from_test _ height.0;
-      top = byte_from_test _ height.1;
-    }
+short_box b test = grind (arith, ints, and_parts, byte_from_test)
 
 -- the value of `x && y`, where y is evaluated only if x is true
 pub and_then : (x y a b : Bool) → x ≡ true → x ≡ a → y ≡ b → y ≡ (a && b)

@@ -1,5 +1,5 @@
 -- The stretches of a picture, spelled one after another.
-use Rattle.std.proofs.Common.{◌≡◌, ℕ, ℤ, pos, ◌+ℤ◌, List, [], ◌∷◌, ◌++◌, refl, sym, ap, subst, ◌∙◌, arith, append_assoc}
+use Rattle.std.proofs.Common.{◌≡◌, ℕ, ℤ, pos, ◌+ℤ◌, List, [], ◌∷◌, ◌++◌, refl, sym, ap, ◌∙◌, arith, append_assoc}
 use Rattle.std.specs.List.{All}
 use Rattle.std.proofs.lemmas.Int.{ints}
 use Rattle.std.proofs.lemmas.List.{append-nil}
@@ -16,7 +16,6 @@ use Rattle.mf_gf.specs.declared.spelling.Spelling.{Spelling}
 use Rattle.mf_gf.specs.Boxes.{box_of_pixels}
 use Rattle.mf_gf.specs.Format as gf
 use Rattle.mf_gf.specs.Spelling.{approach, begin, paint, spell, stretches_text}
-use Rattle.mf_gf.specs.Spellings.{Holds}
 use Rattle.mf_gf.proofs.Writing.{Writes, write_both, write_same}
 
 -- lawful dots in reading order are a picture, wherever they start
@@ -50,15 +49,7 @@ pub record AreSpelled (before out : Spelling) (text : List ℕ) (c : Coming) : T
 
 pub none_spelled : (before : Spelling) (c : Coming) → All IsRun c.runs → IsCoordinate c.row → IsCoordinate c.column
     → AreSpelled before before (text_of c) c
-none_spelled before c runs row_in_range column_in_range = record {
-  written = [];
-  writes = λ text held. subst (Holds before) (sym (append-nil text)) held;
-  rest = refl;
-  room = refl;
-  runs = runs;
-  row_in_range = row_in_range;
-  column_in_range = column_in_range;
-}
+none_spelled before c runs row_in_range column_in_range = grind (arith, ints, append-nil)
 
 module _ (before out : Spelling) (text : List ℕ) (c : Coming) where
   pub next_is_run : (r : Run) (others : List Run) → c.runs ≡ r ∷ others → AreSpelled before out text c → IsRun r
