@@ -7,7 +7,7 @@ use Rattle.std.proofs.lemmas.Bool.{false≢true, cond-false, cond_both, and_part
 use Rattle.std.proofs.lemmas.Bool.Decides.{Decides-int_eq, Decides-ltb}
 use Rattle.std.proofs.lemmas.Int.{ints}
 use Rattle.mf_rows.specs.Dots.{Dot, AreDotsFrom, place, weight_at}
-use Rattle.mf_rows.proofs.DotsLemmas.{IsAt, weight_at-before, weight_at-elsewhere, weight_at-here}
+use Rattle.mf_rows.proofs.DotsLemmas.{weight_at-before, weight_at-elsewhere, weight_at-here}
 use Rattle.mf_frame.specs.declared.shade.Shade.{Shade}
 use Rattle.mf_frame.specs.Cells.{cell_of, cell_shade, darker, depth, is_dark, shade_of, HasPositivePixel}
 use Rattle.mf_frame.proofs.Darkness.{by_dot, depth-darker, in_cell, shade-elsewhere, shade-here}
@@ -44,18 +44,7 @@ by_test false passed failed = failed refl
 
 -- a pixel of other dots is a pixel of all of them
 lifted : (s low : ℤ) (d : Dot) (ds : List Dot) (i j : ℤ) → AreDotsFrom low (d ∷ ds) → HasPositivePixel s ds i j → HasPositivePixel s (d ∷ ds) i j
-lifted s low d ds i j dots pixel =
-    let elsewhere : IsAt d pixel.x pixel.y → ⊥ = λ here.
-    let there : place pixel.x pixel.y ≡ place d.x d.y = rw (here.column, here.row) refl in
-    let none = weight_at-before (place d.x d.y +ℤ pos 1) ds pixel.x pixel.y dots.2 (omega (arith, ints, there)) in
-    omega (arith, ints, none, pixel.positive) in
-    record {
-      x = pixel.x;
-      y = pixel.y;
-      column = pixel.column;
-      row = pixel.row;
-      positive = rw (weight_at-elsewhere d ds pixel.x pixel.y elsewhere) pixel.positive;
-    }
+lifted s low d ds i j dots pixel = grind (arith, ints, weight_at-before, weight_at-elsewhere)
 
 pub pixel_of_dark : (s low : ℤ) (ds : List Dot) (i j : ℤ) → AreDotsFrom low ds → is_dark (cell_shade s ds i j) ≡ true → HasPositivePixel s ds i j
 unfolding cell_shade

@@ -2,7 +2,7 @@
 use Rattle.std.proofs.Common.{◌≡◌, ℕ, zero, suc, ◌<◌, if◌then◌else◌, Bool, ◌&&◌, true, false, ℤ, pos, ◌+ℤ◌, ◌≤ℤ◌, ◌<ℤ◌, List}
 use Rattle.std.proofs.Common.{[], ◌∷◌, ◌++◌, refl, sym, ap, ◌∙◌, arith}
 use Rattle.std.specs.Prelude.{max}
-use Rattle.std.specs.Bool.{Decides, nat_lt}
+use Rattle.std.specs.Bool.{Decides}
 use Rattle.std.specs.Ordering.{int_eq, ord_max}
 use Rattle.std.proofs.lemmas.Bool.{cond-true, cond-false, cond_both, false_from_ne_true, ltb-false}
 use Rattle.std.proofs.lemmas.Bool.Decides.{Decides-and, Decides-int_eq, Decides-ltb}
@@ -47,10 +47,7 @@ same_depth a b same = sym (shade_at-depth a) ∙ ap shade_at same ∙ shade_at-d
 
 -- the darker shade of two is as dark as the darker one of both
 pub depth-darker : (a b : Shade) → depth (darker a b) ≡ max (depth a) (depth b)
-depth-darker a b =
-    cond_both (nat_lt (depth a) (depth b)) b a (λ s. depth s ≡ max (depth a) (depth b))
-    (λ yes. let less = (Decides-ltb (depth a) (depth b)).0 yes in omega arith)
-    (λ no. let least = ltb-false (depth a) (depth b) no in omega arith)
+depth-darker a b = grind (arith, ints, cond_both, Decides-ltb, ltb-false)
 
 pub darker-same : (a : Shade) → darker a a ≡ a
 darker-same a = same_depth _ _ (depth-darker a a ∙ omega arith)
@@ -91,10 +88,7 @@ shade-here s d ds i j column row =
 pub shade-elsewhere : (s : ℤ) (d : Dot) (ds : List Dot) (i j : ℤ) → (cell_of s d.x ≡ i → cell_of s d.y ≡ j → ⊥)
     → cell_shade s (d ∷ ds) i j ≡ cell_shade s ds i j
 unfolding cell_shade
-shade-elsewhere s d ds i j elsewhere =
-    cond-false _ (darker (shade_of d.weight) (cell_shade s ds i j)) (cell_shade s ds i j)
-    (false_from_ne_true (int_eq (cell_of s d.x) i && int_eq (cell_of s d.y) j)
-    (λ test. let here = (in_cell s d.x d.y i j).0 test in elsewhere here.0 here.1))
+shade-elsewhere s d ds i j elsewhere = grind (arith, ints, cond-false, false_from_ne_true, in_cell)
 
 pub shade-none : (s i j : ℤ) → cell_shade s [] i j ≡ Blank
 unfolding cell_shade
@@ -104,9 +98,7 @@ shade-none s i j = refl
 pub by_dot : (s : ℤ) (d : Dot) (ds : List Dot) (i j : ℤ) (P : Shade → Type 0) → P (darker (shade_of d.weight) (cell_shade s ds i j)) → P (cell_shade s ds i j)
     → P (cell_shade s (d ∷ ds) i j)
 unfolding cell_shade
-by_dot s d ds i j P here elsewhere =
-    cond_both (int_eq (cell_of s d.x) i && int_eq (cell_of s d.y) j) (darker (shade_of d.weight) (cell_shade s ds i j)) (cell_shade s ds i j) P
-    (λ _. here) (λ _. elsewhere)
+by_dot s d ds i j P here elsewhere = grind (arith, ints, cond_both)
 
 cond_same : (b : Bool) (h all ds es : Shade) → all ≡ darker ds es → (if b then darker h all else all) ≡ darker (if b then darker h ds else ds) es
 cond_same true h all ds es others = ap (darker h) others ∙ sym (darker-assoc h ds es)

@@ -61,17 +61,12 @@ pub record AreTilesSoFar (t : WindowText) (k : ℤ) (n : ℕ) (text : List ℕ) 
   pub line : text ++ tiles_from t k n (t.window.columns - n) ≡ t.old ++ tiles_of t k
 
 pub tiles_none : (t : WindowText) (k : ℤ) → AreTilesSoFar t k 0 t.old
-tiles_none t k =
-    let same : t.window.column +ℤ pos 0 ≡ t.window.column = omega (arith, ints) in
-    let all : t.window.columns - 0 ≡ t.window.columns = omega arith in
-    record { to = omega arith; line = rw (same, all) refl }
+tiles_none t k = grind (arith, ints)
 
 tiles_from-next : (t : WindowText) (k : ℤ) (place n : ℕ)
     → tiles_from t k place (suc n) ≡ tile_at t.style t.shades k (t.window.column +ℤ pos place) ++ tiles_from t k (place + 1) n
 unfolding tiles
-tiles_from-next t k place n =
-    let next : (t.window.column +ℤ pos place) +ℤ pos 1 ≡ t.window.column +ℤ pos (place + 1) = omega (arith, ints) in
-    rw next refl
+tiles_from-next t k place n = grind (arith, ints)
 
 pub tiles_more : (t : WindowText) (k : ℤ) (n : ℕ) (text new : List ℕ) → n < t.window.columns
     → new ≡ text ++ tile_at t.style t.shades k (t.window.column +ℤ pos n) → AreTilesSoFar t k n text → AreTilesSoFar t k (n + 1) new

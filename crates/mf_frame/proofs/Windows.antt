@@ -1,7 +1,6 @@
 -- Windows of boxes, and their scales.
 use Rattle.std.proofs.Common.{◌≡◌, ◌≤◌, ℕ, zero, suc, ◌-◌, true, false, ℤ, pos, ◌+ℤ◌, ◌-ℤ◌, ◌≤ℤ◌, ◌<ℤ◌, refl, sym, ◌∙◌, to_z, of_z, w32, arith}
 use Rattle.std.specs.Int.RustNames.{unsigned_abs}
-use Rattle.std.specs.Prelude.{nat_le}
 use Rattle.std.proofs.lemmas.Bool.{cond-true, cond-false, cond_both, and_parts, and_from, leb-true, le-leb}
 use Rattle.std.proofs.lemmas.Int.{ints, by_lt_z}
 use Rattle.mf_geom.specs.Coordinates.{least_coordinate, greatest_coordinate, last_in_field}
@@ -68,15 +67,10 @@ stays p least greatest = omega (arith, ints)
 
 pub cell_value : (s p r : ℤ) → IsScale s → least_coordinate ≤ℤ p → p ≤ℤ last_in_field
     → r ≡ cell_of (to_z w32 (of_z w32 s)) (to_z w32 (of_z w32 p)) → r ≡ cell_of s p
-cell_value s p r scale least greatest computed =
-    let factor = stays s (omega (arith, ints, scale.least)) scale.greatest in
-    let pixel = stays p least (omega (arith, ints)) in
-    rw (factor, pixel) at computed
+cell_value s p r scale least greatest computed = grind (arith, ints, stays)
 
 line_value : (j c l : ℤ) → IsCellInField j → c ≡ j → l ≡ line_of (to_z w32 (of_z w32 c)) → l ≡ line_of j
-line_value j c l field same computed =
-    let row = stays j field.least (omega (arith, ints, field.greatest)) in
-    rw (same, row) at computed
+line_value j c l field same computed = grind (arith, ints, stays)
 
 pub window_ends : (b : Box4) (s left right low high bottom top : ℤ) → IsBoxOfField b → IsScale s
     → left ≡ cell_of (to_z w32 (of_z w32 s)) (to_z w32 (of_z w32 b.min_x)) → right ≡ cell_of (to_z w32 (of_z w32 s)) (to_z w32 (of_z w32 b.max_x))
@@ -127,14 +121,10 @@ pub record IsFitting (canvas : Size) (w : Window) : Type 0 where
   pub lines : w.lines ≤ picture_lines canvas
 
 pub fitting_parts : (canvas : Size) (w : Window) → fits_on canvas w ≡ true → IsFitting canvas w
-fitting_parts canvas w test =
-    let parts = and_parts (nat_le w.columns canvas.columns) (nat_le w.lines (picture_lines canvas)) test in
-    record { columns = leb-true w.columns canvas.columns parts.0; lines = leb-true w.lines (picture_lines canvas) parts.1 }
+fitting_parts canvas w test = grind (arith, ints, and_parts, leb-true)
 
 fitting_from : (canvas : Size) (w : Window) → IsFitting canvas w → fits_on canvas w ≡ true
-fitting_from canvas w fitting =
-    and_from (nat_le w.columns canvas.columns) (nat_le w.lines (picture_lines canvas))
-    (le-leb w.columns canvas.columns fitting.columns) (le-leb w.lines (picture_lines canvas) fitting.lines)
+fitting_from canvas w fitting = grind (arith, ints, and_from, le-leb)
 
 -- at the greatest scale each window fits
 fits_at_greatest : (canvas : Size) (b : Box4) → IsSize canvas → IsBoxOfField b → fits_on canvas (window_at b greatest_coordinate) ≡ true
@@ -221,11 +211,7 @@ more_scales s more = omega (arith, ints)
 
 pub scale_more : (canvas : Size) (b : Box4) (s : ℤ) → s <ℤ greatest_coordinate → fits_on canvas (window_at b s) ≡ false → IsScaleFrom canvas b s
     → IsScaleFrom canvas b (s +ℤ pos 1)
-scale_more canvas b s more fails so_far = record {
-  least = omega (arith, ints, so_far.least);
-  greatest = omega (arith, ints);
-  first = sym (first-next canvas b s (unsigned_abs (greatest_coordinate -ℤ (s +ℤ pos 1))) fails) ∙ rw (← more_scales s more) so_far.first;
-}
+scale_more canvas b s more fails so_far = grind (arith, ints, first-next, more_scales)
 
 pub scale_found : (canvas : Size) (b : Box4) (s : ℤ) → s <ℤ greatest_coordinate → fits_on canvas (window_at b s) ≡ true
     → IsScaleFrom canvas b s → s ≡ scale_of canvas b
@@ -242,10 +228,7 @@ few_lines canvas b size box = (fitting_parts canvas (window_at b (scale_of canva
 -- the cell that the code finds
 found_cell : (s p r : ℤ) → IsScale s → least_coordinate ≤ℤ p → p ≤ℤ last_in_field → r ≡ cell_of (to_z w32 (of_z w32 s)) (to_z w32 (of_z w32 p))
     → to_z w32 (of_z w32 r) ≡ cell_of s p
-found_cell s p r scale least greatest computed =
-    let value = cell_value s p r scale least greatest computed in
-    let field = cell_in_field s p scale.least least greatest in
-    rw value (stays (cell_of s p) field.least (omega (arith, ints, field.greatest)))
+found_cell s p r scale least greatest computed = grind (arith, ints, cell_value, cell_in_field, stays)
 
 -- the cells that the code finds of the row of a run, and of its first and last column
 pub record FoundCells : Type 0 where
