@@ -1,5 +1,5 @@
 -- The gray values of weights, read back.
-use Rattle.std.proofs.Common.{◌≡◌, ℕ, zero, suc, ◌+◌, ◌-◌, ◌<◌, ℤ, pos, negsuc, neg_ℤ, ◌≤ℤ◌, ◌<ℤ◌, ap, refl, ◌∙◌, arith}
+use Rattle.std.proofs.Common.{◌≡◌, ℕ, zero, suc, ◌+◌, ◌-◌, ◌<◌, ℤ, pos, negsuc, neg_ℤ, ◌≤ℤ◌, ◌<ℤ◌, refl, arith}
 use Rattle.std.specs.Int.RustNames.{unsigned_abs}
 use Rattle.std.proofs.lemmas.Int.{ints}
 use Rattle.mf_image.specs.Pgm.{gray_step, gray_value, greatest_distinct_weight, least_distinct_weight, maxval, negative_base}
@@ -18,14 +18,9 @@ weight-light : (k : ℕ) → negative_base < k → k < maxval → weight_of_gray
 weight-light k light below = grind (arith, ints)
 
 pub read_back : (w : ℤ) → least_distinct_weight ≤ℤ w → w ≤ℤ greatest_distinct_weight → weight_of_gray_value (gray_value w) ≡ w
-read_back (negsuc n) least greatest =
-    let light = gray_value-light (negsuc n) least (omega (arith, ints)) in
-    ap weight_of_gray_value light ∙ weight-light (negative_base + suc n) (omega (arith, ints)) (omega (arith, ints, least)) ∙ omega (arith, ints)
+read_back (negsuc n) least greatest = grind (arith, ints, gray_value-light, weight-light)
 read_back (pos zero) least greatest = refl
 read_back (pos (suc zero)) least greatest = refl
 read_back (pos (suc (suc zero))) least greatest = refl
 read_back (pos (suc (suc (suc zero)))) least greatest = refl
-read_back (pos (suc (suc (suc (suc n))))) least greatest =
-    let w = suc (suc (suc (suc n))) in
-    let dark = gray_value-dark (pos w) (omega (arith, ints)) in
-    ap weight_of_gray_value dark ∙ weight-dark (gray_step + 3 - w) (omega (arith, ints)) ∙ omega (arith, ints, greatest)
+read_back (pos (suc (suc (suc (suc n))))) least greatest = grind (arith, ints, gray_value-dark, weight-dark)

@@ -30,15 +30,7 @@ pub record AreSpanned (ds : List Dot) (rs : List Run) (least greatest : ℤ) : T
   pub high : greatest ≤ℤ greatest_weight
 
 pub none_spanned : (ds : List Dot) (rs : List Run) → IsPicture ds → rs ≡ runs_of ds → AreSpanned ds rs (pos 0) (pos 0)
-none_spanned ds rs picture all = record {
-  runs = runs_are_lawful ds rs picture all;
-  below = rw all refl;
-  above = rw all refl;
-  low = omega (arith, ints);
-  down = omega (arith, ints);
-  up = omega (arith, ints);
-  high = omega (arith, ints);
-}
+none_spanned ds rs picture all = grind (arith, ints, runs_are_lawful)
 
 pub one_more_spanned : (ds : List Dot) (rs : List Run) (r : Run) (others : List Run) (least greatest low high : ℤ) → rs ≡ r ∷ others
     → low ≡ int_min least r.weight → high ≡ int_max greatest r.weight → AreSpanned ds rs least greatest → AreSpanned ds others low high

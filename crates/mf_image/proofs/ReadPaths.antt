@@ -1,5 +1,5 @@
 -- An SVG image, read back.
-use Rattle.std.proofs.Common.{◌≡◌, int_lt, length, ℕ, zero, suc, true, false, ℤ, pos, ◌+ℤ◌, ◌≤ℤ◌, List, [], ◌∷◌, ◌++◌, codes}
+use Rattle.std.proofs.Common.{◌≡◌, length, ℕ, zero, suc, true, false, ℤ, pos, ◌+ℤ◌, ◌≤ℤ◌, List, [], ◌∷◌, ◌++◌, codes}
 use Rattle.std.proofs.Common.{refl, sym, ap, ◌∙◌, subst, append_assoc, arith}
 use Rattle.std.specs.Fmt.{signed_decimal}
 use Rattle.std.specs.List.{All, flat_map}
@@ -12,7 +12,7 @@ use Rattle.std.proofs.lemmas.List.Elements.{All-head, All-tail}
 use Rattle.mf_rows.specs.declared.run.Run.{Run}
 use Rattle.mf_rows.specs.Dots.{Dot, IsPicture, start_of_field, weight_at}
 use Rattle.mf_rows.specs.Order.{IsRun}
-use Rattle.mf_rows.specs.Runs.{equal_dots, dots_of, runs_of}
+use Rattle.mf_rows.specs.Runs.{dots_of, runs_of}
 use Rattle.mf_rows.proofs.RunsLemmas.{dots_of-runs_of}
 use Rattle.mf_rows.proofs.PassedRuns.{runs_are_lawful}
 use Rattle.mf_rows.specs.Boxes.{IsBoxOfField, box_of_dots}
@@ -31,13 +31,7 @@ use Rattle.mf_image.proofs.ReadWeights.{dots_with, dots_with-append, dots_with-o
 
 rectangle_of_read : (w : ℤ) (r : Run) (rest : List ℕ) → IsRun r → dots_in true w (rectangle_of w r ++ rest) ≡ dots_with w (dots_of r) ++ dots_in true w rest
 unfolding dots_of
-rectangle_of_read w r rest run =
-    cond_both (int_eq r.weight w) (rectangle r) [] (λ text. dots_in true w (text ++ rest) ≡ dots_with w (dots_of r) ++ dots_in true w rest)
-    (λ yes.
-    let same : r.weight ≡ w = (Decides-int_eq r.weight w).0 yes in
-    let dots : dots_with w (equal_dots r.y r.x r.weight r.len) ≡ equal_dots r.y r.x w r.len = rw same (dots_with-same w r.y r.x r.len) in
-    rectangle_read w r rest run ∙ ap (λ ds. ds ++ dots_in true w rest) (sym dots))
-    (λ no. ap (λ ds. ds ++ dots_in true w rest) (sym (dots_with-other w r.weight r.y r.x r.len no)))
+rectangle_of_read w r rest run = grind (arith, ints, cond_both, dots_with, Decides-int_eq, dots_with-same, rectangle_read, dots_with-other)
 
 rectangles_read : (w : ℤ) (rs : List Run) (rest : List ℕ) → All IsRun rs
     → dots_in true w (flat_map (rectangle_of w) rs ++ rest) ≡ dots_with w (flat_map dots_of rs) ++ dots_in true w rest
@@ -66,10 +60,7 @@ some_weight w (r ∷ rs) b bs runs some =
 
 color_passed : (v w : ℤ) → IsPassed v (color w)
 unfolding dots_in
-color_passed v w =
-    cond_both (int_lt w (pos 0)) (codes "#f80") _ (IsPassed v) (λ _ rest. refl)
-    (λ _. cond_both (int_lt w (pos 2)) (codes "#444") _ (IsPassed v) (λ _ rest. refl)
-    (λ _. cond_both (int_lt w (pos 3)) (codes "#05a") (codes "#000") (IsPassed v) (λ _ rest. refl) (λ _ rest. refl)))
+color_passed v w = grind (arith, ints, cond_both)
 
 -- the path of a weight draws its rectangles, whatever path came before it
 path_read : (w v : ℤ) (text : List ℕ) (dots : List Dot) (rest : List ℕ) (later : List Dot)

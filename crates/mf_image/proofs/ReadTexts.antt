@@ -1,5 +1,5 @@
 -- The texts of paths, read back.
-use Rattle.std.proofs.Common.{◌≡◌, ◌≢◌, ℕ, suc, ◌+◌, ◌-◌, ◌*◌, ◌/◌, ◌%◌, ◌^◌, ◌<◌, true, false, ℤ, pos, negsuc, neg_ℤ, ◌+ℤ◌}
+use Rattle.std.proofs.Common.{◌≡◌, ◌≢◌, ℕ, suc, ◌+◌, ◌*◌, ◌/◌, ◌%◌, ◌^◌, ◌<◌, true, false, ℤ, pos, negsuc, neg_ℤ, ◌+ℤ◌}
 use Rattle.std.proofs.Common.{List, [], ◌∷◌, ◌++◌, Some, codes, decimal, refl, sym, ap, ◌∙◌, append_assoc, arith}
 use Rattle.std.specs.Char.{is_ascii_digit}
 use Rattle.std.specs.Fmt.{signed_decimal}
@@ -41,9 +41,7 @@ pass_number f digit sign (negsuc n) bs small = sign (decimal (suc n) ++ bs) ∙ 
 
 with_digits-digit : (n d : ℕ) (bs : List ℕ) → d < 10 → with_digits n ((digit_zero + d) ∷ bs) ≡ with_digits (10 * n + d) bs
 unfolding with_digits
-with_digits-digit n d bs below =
-    let value : 10 * n + ((digit_zero + d) - digit_zero) ≡ 10 * n + d = omega arith in
-    rw (digit_is d below) (ap (λ k. with_digits k bs) value)
+with_digits-digit n d bs below = grind (arith, ints, digit_is)
 
 with_digits-decimal : (n : ℕ) (bs : List ℕ) → n < 2 ^ 64 → with_digits 0 (decimal n ++ bs) ≡ with_digits n bs
 with_digits-decimal n bs small =
@@ -71,9 +69,7 @@ with_digits-end n c bs other = rw other refl
 
 pub number_read : (z : ℤ) (c : ℕ) (bs : List ℕ) → IsSmall z → is_ascii_digit c ≡ false → number (signed_decimal z ++ c ∷ bs) ≡ z
 unfolding number
-number_read (pos n) c bs small other =
-    number-decimal n (c ∷ bs) (omega (arith, ints, small.greatest))
-    ∙ ap (λ k. pos k) (with_digits-decimal n (c ∷ bs) (omega (arith, ints, small.greatest)) ∙ with_digits-end n c bs other)
+number_read (pos n) c bs small other = grind (arith, ints, number-decimal, with_digits-decimal, with_digits-end)
 number_read (negsuc n) c bs small other =
     ap (λ k. neg_ℤ (pos k)) (with_digits-decimal (suc n) (c ∷ bs) (omega (arith, ints, small.least)) ∙ with_digits-end (suc n) c bs other)
 

@@ -47,12 +47,7 @@ dots_with-other w v y x (suc n) other = cond-false (int_eq v w) _ _ other ∙ do
 
 -- a pixel is there, or is not
 at_or_not : (P : Type 0) (d : Dot) (x y : ℤ) → (IsAt d x y → P) → ((IsAt d x y → ⊥) → P) → P
-at_or_not P d x y here elsewhere =
-    let both = Decides-and (int_eq d.x x) (int_eq d.y y) (Decides-int_eq d.x x) (Decides-int_eq d.y y) in
-    elim (cases_Bool (int_eq d.x x && int_eq d.y y)) [
-      | inl test ↦ (let at = both.0 test in here (record { column = at.0; row = at.1 }))
-      | inr other ↦ elsewhere (λ at. false≢true (sym other ∙ both.1 (at.column, at.row)))
-    ]
+at_or_not P d x y here elsewhere = grind (arith, ints, Decides-and, Decides-int_eq, cases_Bool)
 
 -- no dot of weight w is at the pixel, so the dots of weight w do not affect it
 absent : (w : ℤ) (ds es : List Dot) (x y : ℤ) → All (λ d. d.weight ≡ w → IsAt d x y → ⊥) ds → weight_at (dots_with w ds ++ es) x y ≡ weight_at es x y
