@@ -1,6 +1,7 @@
 -- What tokens give: they are a line, or go wrong where no line continues them.
 use Rattle.std.proofs.Common.{◌≡◌, ◌⊎◌, ◌&&◌, inl, inr, ℕ, zero, suc, ◌-◌, ◌<◌, ◌≤◌, Bool, true, false, List, [], ◌∷◌, ◌++◌, eqb}
 use Rattle.std.proofs.Common.{get_or, length, take, Option, Some, None, Ok, Err, ok_or, if◌then◌else◌, refl, sym, ap, subst, ◌∙◌, arith}
+use Rattle.std.proofs.lemmas.Int.{ints}
 use Rattle.std.proofs.lemmas.Bool.{and_parts, eqb-true, false≢true}
 use Rattle.std.proofs.lemmas.Option.{none-some, same_Some}
 use Rattle.mf_text.specs.declared.token.Mark.TheVariants as mark
@@ -71,42 +72,18 @@ record Stops (r : Rest) (past : ℕ) (ps : List PlacedToken) (column : ℕ) : Ty
 
 at_end : (r : Rest) (past column : ℕ) (end : Option Line) → ends r ≡ end → ok_or end past ≡ Err column → Stops r past [] column
 unfolding reads is_code_number_at
-at_end r past column None is wrong = record {
-  place = 0;
-  at = record {
-    within = omega arith;
-    before = rest_ends r;
-    wrong = λ more. absurd (omega (arith, more));
-    unended = λ whole l read. none-some l (sym is ∙ read);
-  };
-  column_is = (let is_err : Err past ≡ Err column = wrong in cc);
-}
+at_end r past column None is wrong = grind (arith, ints, rest_ends, none-some)
 at_end r past column (Some l) is wrong = absurd (let no = wrong in cc)
 
 later : (r : Rest) (t : Token) (ts : List Token) (k : ℕ) → Wrong (step r t) ts k → Wrong (Some r) (t ∷ ts) (suc k)
 unfolding reads
-later r t ts k wrong = record {
-  within = omega (arith, wrong.within);
-  before = wrong.before;
-  wrong = λ more on. wrong.wrong (omega (arith, more)) on;
-  unended = λ whole l read. wrong.unended (omega (arith, whole)) l read;
-}
+later r t ts k wrong = grind (arith, ints)
 
 at_token : (r : Rest) (past : ℕ) (t : PlacedToken) (ps : List PlacedToken) (column : ℕ) (q : Option Rest) → step r t.token ≡ q
     → follow (ok_or q (reported (is_code_number r t.token) (record { tokens = t ∷ ps; past = past }))) t.after ps ≡ Err column
     → ((s : Rest) → follow (Ok s) t.after ps ≡ Err column → Stops s t.after ps column) → Stops r past (t ∷ ps) column
 unfolding reads is_code_number_at follow
-at_token r past t ps column None is wrong behind_it = record {
-  place = 0;
-  at = record {
-    within = omega arith;
-    before = rest_ends r;
-    wrong = λ more on. none-some on.1.0 (ap (λ q. reads q on.0) (sym is) ∙ on.1.1);
-    unended = λ whole. absurd (omega (arith, whole));
-  };
-  column_is =
-      (let is_err : Err (reported (is_code_number r t.token) (record { tokens = t ∷ ps; past = past })) ≡ Err column = wrong in cc);
-}
+at_token r past t ps column None is wrong behind_it = grind (arith, ints, rest_ends, none-some, reads)
 at_token r past t ps column (Some s) is wrong behind_it = let stops = behind_it s wrong in record {
   place = suc stops.place;
   at = later r t.token (without_columns ps) stops.place (subst (λ q. Wrong q (without_columns ps) stops.place) (sym is) stops.at);

@@ -1,6 +1,7 @@
 -- The tokens of a line, one at a time.
 use Rattle.std.proofs.Common.{◌≡◌, ◌≢◌, ℕ, zero, suc, ◌+◌, ◌-◌, ◌<◌, ◌≤◌, true, false, eqb, List, [], ◌∷◌, length}
 use Rattle.std.proofs.Common.{get_or, take, drop, refl, sym, ap, subst, ◌∙◌, arith, length-append, length-drop}
+use Rattle.std.proofs.lemmas.Int.{ints}
 use Rattle.std.proofs.lemmas.Bool.{ne_eqb}
 use Rattle.std.proofs.lemmas.List.{take_rest}
 use Rattle.mf_text.specs.Limits.{percent_sign}
@@ -27,9 +28,7 @@ first_taken b bs = by_front (front (b ∷ bs)) where
 
 -- fewer bytes are left after the first token
 pub rest_shorter : (b : ℕ) (bs : List ℕ) → length (drop (first_token (b ∷ bs)).bytes (b ∷ bs)) ≤ length bs
-rest_shorter b bs =
-    let some = first_taken b bs in
-    omega (arith, some.some, some.within, length-drop (first_token (b ∷ bs)).bytes (b ∷ bs))
+rest_shorter b bs = omega (arith, first_taken b bs, length-drop (first_token (b ∷ bs)).bytes (b ∷ bs))
 
 -- any number of steps that is at least the number of bytes finds the same tokens
 tokens_within-same : (m n column : ℕ) (bs : List ℕ) → length bs ≤ m → length bs ≤ n → tokens_within m column bs ≡ tokens_within n column bs
@@ -56,10 +55,7 @@ pub tokens-step : (column b : ℕ) (bs : List ℕ) → is_blank b ≡ false → 
     → tokens_from column (b ∷ bs) ≡ token_at column (first_token (b ∷ bs))
     ∷ tokens_from (column + (first_token (b ∷ bs)).bytes) (drop (first_token (b ∷ bs)).bytes (b ∷ bs))
 unfolding tokens_from tokens_within
-tokens-step column b bs clear token =
-    let first = first_token (b ∷ bs) in
-    let rest = drop first.bytes (b ∷ bs) in
-    rw (clear, token, tokens_within-same (length bs) (length rest) (column + first.bytes) rest (rest_shorter b bs) (omega arith)) refl
+tokens-step column b bs clear token = grind (arith, ints, tokens_within-same, rest_shorter)
 
 -- ---- the tokens that are left
 

@@ -1,5 +1,5 @@
 -- A line has one answer: a command, or a refusal.
-use Rattle.std.proofs.Common.{◌≡◌, ◌≢◌, ⊎_elim, false, inl, inr, ℕ, suc, ◌<◌, ◌≤◌, List}
+use Rattle.std.proofs.Common.{◌≡◌, ◌≢◌, false, inl, inr, ℕ, suc, ◌<◌, ◌≤◌, List}
 use Rattle.std.proofs.Common.{◌++◌, length, take, drop, append_assoc, refl, sym, ap, ◌∙◌, subst, arith}
 use Rattle.std.specs.List.{list_all}
 use Rattle.std.proofs.lemmas.Bool.{cases_lt, cases_order}
@@ -30,11 +30,7 @@ one_meant (If value rest) one other p q = one_meant rest one other p.1 q.1
 one_meant (Turns name angle) one other p q = p.is ∙ ap (command.Quarter name) (same_angle p.quarter q.quarter (p.angle_is ∙ sym q.angle_is)) ∙ sym q.is
 
 one_unlawful : (value : Value) (one other : TextFault) → IsUnlawful value one → IsUnlawful value other → one ≡ other
-one_unlawful (Points points) one other p q =
-    let first = p.is.fault in
-    let second = q.is.fault in
-    let same : p.is.cause ≡ q.is.cause = cc in
-    p.is.is ∙ ap faults.Cycle same ∙ sym q.is.is
+one_unlawful (Points points) one other p q = grind (arith, ints)
 one_unlawful value one other p q = p.is ∙ sym q.is
 
 one_refused : (m : Meaning) (one other : TextFault) → Refuses m one → Refuses m other → one ≡ other
@@ -54,10 +50,7 @@ not_both (Turns name angle) given fault p q = q.unlawful (p.quarter, p.angle_is)
 -- ---- where tokens go wrong
 
 starts_front : (ts us : List Token) → StartsLine (ts ++ us) → StartsLine ts
-starts_front ts us begun = record {
-  rest = us ++ begun.rest;
-  line = record { tree = begun.line.tree; spelled = sym (append_assoc ts us begun.rest) ∙ begun.line.spelled };
-}
+starts_front ts us begun = grind (arith, ints, append_assoc)
 
 -- where some line starts with tokens, one starts with each prefix of them
 starts-sooner : (ts : List Token) (j k : ℕ) → j ≤ k → StartsLine (take k ts) → StartsLine (take j ts)
@@ -72,11 +65,7 @@ not_before ts j k p q before =
     p.wrong (omega arith) (starts-sooner ts (suc j) k (omega arith) q.starts)
 
 one_place : (ts : List Token) (j k : ℕ) → IsWrongAt ts j → IsWrongAt ts k → j ≡ k
-one_place ts j k p q =
-    elim (cases_order j k) [
-      | inl same ↦ same
-      | inr apart ↦ absurd (⊎_elim (λ before. not_before ts j k p q before) (λ beyond. not_before ts k j q p beyond) apart)
-    ]
+one_place ts j k p q = grind (arith, ints, cases_order, not_before)
 
 one_column : (ahead : Ahead) (one other : ℕ) → IsSyntaxFault ahead one → IsSyntaxFault ahead other → one ≡ other
 one_column ahead one other p q =

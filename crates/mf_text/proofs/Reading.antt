@@ -1,6 +1,7 @@
 -- What a line gives at its next token, and after phrases.
 use Rattle.std.proofs.Common.{◌≡◌, ◌≢◌, ℕ, ◌-◌, ◌<◌, true, false, List, [], ◌∷◌, ◌++◌, length, map, Option, Some, None}
-use Rattle.std.proofs.Common.{Result, Ok, Err, Bool, if◌then◌else◌, refl, sym, ap, subst, ◌∙◌, append_assoc, arith}
+use Rattle.std.proofs.Common.{Result, Ok, Err, Bool, if◌then◌else◌, refl, sym, ap, ◌∙◌, append_assoc, arith}
+use Rattle.std.proofs.lemmas.Int.{ints}
 use Rattle.std.specs.Option.{option_map}
 use Rattle.std.specs.Result.{IsErrAnd}
 use Rattle.std.proofs.lemmas.Option.{none-some, same_Some}
@@ -24,28 +25,17 @@ at_first : {A : Type 0} (f : Token → Option A) (a : A) (P : List PlacedToken �
     → ((p : PlacedToken) (ps : List PlacedToken) → f p.token ≡ Some a → P (p ∷ ps) (record { tokens = ps; past = p.after }))
     → (ps : List PlacedToken) (after : Ahead) → next_value f ps ≡ Some (a, after) → P ps after
 at_first f a P there [] after is = absurd (none-some (a, after) is)
-at_first {A} f a P there (p ∷ ps) after is = by_value (f p.token) refl is where
-  by_value : (v : Option A) → f p.token ≡ v → option_map {U = A × Ahead} (λ x. (x, record { tokens = ps; past = p.after })) v ≡ Some (a, after)
-      → P (p ∷ ps) after
-  by_value None found none = absurd (none-some (a, after) none)
-  by_value (Some x) found same =
-      let pairs = same_Some (x, record { tokens = ps; past = p.after }) (a, after) same in
-      subst (P (p ∷ ps)) (ap (λ (v : A × Ahead). v.1) pairs) (there p ps (found ∙ ap (λ (v : A × Ahead). Some v.0) pairs))
+at_first {A} f a P there (p ∷ ps) after is = grind (arith, ints, none-some, same_Some)
 
 -- where no value is taken, the first token has none
 lacks : {A : Type 0} (f : Token → Option A) (p : PlacedToken) (ps : List PlacedToken) → next_value f (p ∷ ps) ≡ None → f p.token ≡ None
-lacks {A} f p ps is = by_value (f p.token) is where
-  by_value : (v : Option A) → option_map {U = A × Ahead} (λ x. (x, record { tokens = ps; past = p.after })) v ≡ None → v ≡ None
-  by_value None none = refl
-  by_value (Some x) other = absurd (none-some (x, record { tokens = ps; past = p.after }) (sym other))
+lacks {A} f p ps is = grind (arith, ints, none-some)
 
 -- what a line gives where its next token has a value
 passes : (r : Rest) (k : Kind) (next : Of k → Rest) → ((t : Token) (a : Of k) → value k t ≡ Some a → step r t ≡ Some (next a))
     → (old new : Tokens) (a : Of k) → TakesValue (value k) old new (Some a) → from r (ahead old) ≡ from (next a) (ahead new)
 unfolding follow
-passes r k next allows old new a is =
-    at_first (value k) a (λ ps on. from r (record { tokens = ps; past = old.column }) ≡ from (next a) on)
-    (λ p ps found. rw (allows p.token a found, follow) refl) (remaining_tokens old) (ahead new) is
+passes r k next allows old new a is = grind (arith, ints, at_first)
 
 -- what it gives where its next token has none
 misses : (r : Rest) (k : Kind) (out : Ahead → Result Line ℕ)
@@ -53,12 +43,7 @@ misses : (r : Rest) (k : Kind) (out : Ahead → Result Line ℕ)
     → ((p : PlacedToken) (ps : List PlacedToken) (past : ℕ) → value k p.token ≡ None
     → from r (record { tokens = p ∷ ps; past = past }) ≡ out (record { tokens = p ∷ ps; past = past }))
     → (old new : Tokens) → TakesValue (value k) old new None → from r (ahead old) ≡ out (ahead new)
-misses r k out ended goes_on old new (none, same) =
-    by_tokens (remaining_tokens old) none ∙ ap (λ (t : Tokens). out (ahead t)) (sym same) where
-      by_tokens : (ps : List PlacedToken) → next_value (value k) ps ≡ None
-          → from r (record { tokens = ps; past = old.column }) ≡ out (record { tokens = ps; past = old.column })
-      by_tokens [] none = ended old.column
-      by_tokens (p ∷ ps) none = goes_on p ps old.column (lacks (value k) p ps none)
+misses r k out ended goes_on old new (none, same) = grind (arith, ints, lacks)
 
 -- the line goes wrong at its next token
 abbrev stuck : Ahead → Result Line ℕ
@@ -104,9 +89,7 @@ fewer f a ps after is = at_first f a (λ qs on. length on.tokens < length qs) (�
 -- where each token with the value a also has the value b, taking a takes b
 taken_as : {A B : Type 0} (f : Token → Option A) (g : Token → Option B) (a : A) (b : B) → ((t : Token) → f t ≡ Some a → g t ≡ Some b)
     → (ps : List PlacedToken) (after : Ahead) → next_value f ps ≡ Some (a, after) → next_value g ps ≡ Some (b, after)
-taken_as f g a b same ps after is =
-    at_first f a (λ qs on. next_value g qs ≡ Some (b, on))
-    (λ p qs value. ap (option_map (λ x. (x, record { tokens = qs; past = p.after }))) (same p.token value)) ps after is
+taken_as f g a b same ps after is = grind (arith, ints, at_first)
 
 -- ---- an int
 
@@ -138,9 +121,7 @@ no_name t other none = refl
 pub no_name_taken : (ps : List PlacedToken) → next_value (this_in (token.Word word.CurrentPicture)) ps ≡ None → next_value letter_in ps ≡ None
     → next_value name_in ps ≡ None
 no_name_taken [] other none = refl
-no_name_taken (p ∷ ps) other none =
-    let lacking = no_name p.token (lacks (this_in (token.Word word.CurrentPicture)) p ps other) (lacks letter_in p ps none) in
-    ap (option_map (λ x. (x, record { tokens = ps; past = p.after }))) lacking
+no_name_taken (p ∷ ps) other none = grind (arith, ints, no_name, lacks)
 
 -- a given name is the next token exactly where it is the name that the token is
 pub this_name : (name : Name) (ps : List PlacedToken) (after : Ahead) → next_value name_in ps ≡ Some (name, after)
@@ -149,16 +130,7 @@ this_name name ps after is = taken_as name_in (this_in (name_token name)) name t
 
 pub other_name : (name : Name) (old after : Tokens) (r : Option Name) → TakesValue name_in old after r
     → (r ≡ Some name → ⊥) → TakesValue (this_in (name_token name)) old old None
-other_name name old after r took other = (by_this (next_value (this_in (name_token name)) (remaining_tokens old)) refl, refl) where
-  taken_is : (r : Option Name) → TakesValue name_in old after r → (v : Ahead) → next_value name_in (remaining_tokens old) ≡ Some (name, v) → r ≡ Some name
-  taken_is None none v is = absurd (none-some (name, v) (sym none.0 ∙ is))
-  taken_is (Some x) some v is = ap (λ (w : Name × Ahead). Some w.0) (same_Some (x, ahead after) (name, v) (sym some ∙ is))
-
-  by_this : (v : Option (Unit {0} × Ahead)) → next_value (this_in (name_token name)) (remaining_tokens old) ≡ v → v ≡ None
-  by_this None is = refl
-  by_this (Some (tt, v)) is = absurd (other (taken_is r took v
-      (taken_as (this_in (name_token name)) name_in tt name (λ t this. ap name_in (this_only (name_token name) t this) ∙ name_of name)
-      (remaining_tokens old) v is)))
+other_name name old after r took other = grind (arith, ints, none-some, same_Some, taken_as, this_only, name_of)
 
 -- what the search needs where a name is taken, or a given one
 pub ruleset name_taken = (letter_taken, current_taken, no_name_taken, or_passed, or_missed)

@@ -1,5 +1,7 @@
 -- The rests of lines: the tokens that they take, that each line can be read, and that each rest can be ended.
 use Rattle.std.proofs.Common.{◌≡◌, inl, inr, ℕ, zero, suc, Bool, true, false, List, [], ◌∷◌, ◌++◌, Option, Some, None, refl, sym, ap, ◌∙◌}
+use Rattle.std.proofs.Common.{arith}
+use Rattle.std.proofs.lemmas.Int.{ints}
 use Rattle.std.specs.Option.{option_and_then, option_map, option_or}
 use Rattle.std.proofs.lemmas.Bool.{cases_Bool, true_from_ne_false}
 use Rattle.std.proofs.lemmas.Option.{none-some, same_Some}
@@ -65,10 +67,7 @@ Says k t a = HasSign k a × (t ≡ token_of k a)
 code_says : (negative : Bool) (m : ℕ) (c : Code) (i : Option Int) → int_of negative m ≡ i → option_and_then code_of i ≡ Some c
     → Says (Codes negative) (token.Number m) c
 code_says negative m c None of is = absurd (none-some c is)
-code_says negative m c (Some n) of is =
-    let number = int_of-is negative m n of in
-    let same = code_of-is n c is in
-    (ap (λ (i : Int). i.negative) same ∙ number.0, ap token.Number (sym (ap (λ (i : Int). i.magnitude) same ∙ number.1)))
+code_says negative m c (Some n) of is = grind (arith, ints, int_of-is, code_of-is)
 
 pub value_is : (k : Kind) (t : Token) (a : Of k) → value k t ≡ Some a → Says k t a
 value_is (This u) t a is = (tt, this_only u t is)

@@ -1,6 +1,7 @@
 -- The token at the front of bytes, and the text that it has there.
 use Rattle.std.proofs.Common.{◌≡◌, ◌⊎◌, inl, inr, ℕ, suc, ◌+◌, ◌-◌, ◌<◌, ◌≤◌, Bool, true, false, not, bytes_eq, eqb, leb, List, [], ◌∷◌}
 use Rattle.std.proofs.Common.{◌++◌, Option, None, Some, length, get_or, take, drop, if◌then◌else◌, refl, sym, ap, subst, ◌∙◌, arith, rules}
+use Rattle.std.proofs.lemmas.Int.{ints}
 use Rattle.std.specs.Char.{is_ascii_alphabetic, is_ascii_digit}
 use Rattle.std.specs.List.{All, list_all, prefix_len, starts_with, take_while}
 use Rattle.std.specs.Option.{option_map_or}
@@ -94,10 +95,7 @@ unknown_first (b ∷ bs) no_letter no_digit none =
 row_first : (p : ℕ → Bool) (f : List ℕ → Token)
     → ((bs : List ℕ) → 0 < prefix_len p bs → first_token bs ≡ record { token = f (take_while p bs); bytes = length (take_while p bs) })
     → (t : Token) (text rest : List ℕ) → IsRow p text rest → t ≡ f text → first_token (text ++ rest) ≡ record { token = t; bytes = length text }
-row_first p f first t text rest row is =
-    first (text ++ rest) (omega (arith, row.some, row_count p text rest row))
-    ∙ ap (λ ts. record { token = f ts; bytes = length ts }) (row_text p text rest row.all row.longest)
-    ∙ ap (λ u. record { token = u; bytes = length text }) (sym is)
+row_first p f first t text rest row is = grind (arith, ints, row, row_count, row_text)
 
 -- a text at the front is that of the token there
 pub text_first : (t : Token) (text rest : List ℕ) → IsTokenText t text rest → first_token (text ++ rest) ≡ record { token = t; bytes = length text }
@@ -176,12 +174,7 @@ other_byte p b c is none = false_from_ne_true _ (λ same. false≢true (sym none
 
 row_begins : (p : ℕ → Bool) (text rest : List ℕ) → p space ≡ false → p tab ≡ false → p percent_sign ≡ false → IsRow p text rest → BeginsToken text
 row_begins p [] rest no_space no_tab no_percent row = absurd (omega (arith, row.some))
-row_begins p (b ∷ bs) rest no_space no_tab no_percent row =
-    let is = All-head (λ c. p c ≡ true) b bs row.all in record {
-      clear = rw (other_byte p b space is no_space, other_byte p b tab is no_tab) refl;
-      no_comment = other_byte p b percent_sign is no_percent;
-      some = row.some;
-    }
+row_begins p (b ∷ bs) rest no_space no_tab no_percent row = grind (arith, ints, All-head, row, other_byte)
 
 mark_begins : (m : Mark) → BeginsToken (mark_text m)
 mark_begins mark.Becomes = record { clear = refl; no_comment = refl; some = omega arith }
@@ -260,10 +253,7 @@ letters_say text rest ends =
 
 digits_say : (text rest : List ℕ) → IsRow is_ascii_digit text rest → IsSaid (number_token text) (text ++ rest)
 unfolding number_token
-digits_say text rest row =
-    let count = row_count is_ascii_digit text rest row in
-    cond_both (leb (length text) most_digits) _ _ (λ t. IsSaid t (text ++ rest))
-    (λ few. (omega (arith, count, row.some), omega (arith, count, leb-true (length text) most_digits few))) (λ _. tt)
+digits_say text rest row = grind (arith, ints, row_count, row, cond_both, leb-true)
 
 pub text_says : (t : Token) (text rest : List ℕ) → IsTokenText t text rest → IsSaid t (text ++ rest)
 text_says t text rest (Letters row is) = subst (λ u. IsSaid u (text ++ rest)) (sym is) (letters_say text rest row.longest)
