@@ -1,5 +1,5 @@
 -- The box of the black pixels of a picture, from the least box round its pixels of positive weight.
-use Rattle.std.proofs.Common.{◌≡◌, Bool, true, false, not, ℤ, pos, ◌+ℤ◌, ◌-ℤ◌, List, []}
+use Rattle.std.proofs.Common.{◌≡◌, Bool, true, false, not, ℤ, pos, ◌+ℤ◌, List, []}
 use Rattle.std.proofs.Common.{◌∷◌, FitsSigned, to_z, of_z, w32, refl, sym, ap, subst, ◌∙◌, arith}
 use Rattle.std.specs.Prelude.{int_lt, if◌then◌else◌}
 use Rattle.std.specs.Int.{int_max, int_min}
@@ -33,9 +33,7 @@ join-assoc a b c = grind (arith, ints, min_assoc, max_assoc)
 -- ---- the box of pixels is that of the least one
 
 pixel_box-character_box : (b : Box4) → pixel_box (character_box b) ≡ b
-pixel_box-character_box b =
-    let last : (b.max_x +ℤ pos 1) -ℤ pos 1 ≡ b.max_x = omega (arith, ints) in
-    ap (λ x. record { min_x = b.min_x; max_x = x; min_y = b.min_y; max_y = b.max_y }) last
+pixel_box-character_box b = grind (arith, ints)
 
 pub least_box : (d : Dot) (ds : List Dot) → IsLeastBox (d ∷ ds) (pixel_box (box_of_pixels (d ∷ ds)))
 unfolding box_of_pixels

@@ -1,5 +1,5 @@
 -- The weights of the black pixels of a picture: 1 where its own weight is positive, else 0.
-use Rattle.std.proofs.Common.{◌≡◌, true, ◌&&◌, ℤ, pos, ◌+ℤ◌, int_lt, if◌then◌else◌, List, [], ◌∷◌, inl, inr, refl, arith}
+use Rattle.std.proofs.Common.{◌≡◌, true, ◌&&◌, ℤ, pos, ◌+ℤ◌, int_lt, if◌then◌else◌, List, [], ◌∷◌, refl, arith}
 use Rattle.std.specs.Ordering.{int_eq}
 use Rattle.std.proofs.lemmas.Bool.{and_parts, cases_Bool}
 use Rattle.std.proofs.lemmas.Bool.Decides.{Decides-int_eq}
@@ -21,16 +21,4 @@ is_black w = if int_lt (pos 0) w then pos 1 else pos 0
 pub black_at : (low : ℤ) (ds : List Dot) (x y : ℤ) → AreDotsFrom low ds → weight_at (black ds) x y ≡ is_black (weight_at ds x y)
 unfolding black weight_at
 black_at low [] x y dots = refl
-black_at low (d ∷ ds) x y dots =
-    let more = black_at (place d.x d.y +ℤ pos 1) ds x y dots.2 in
-    let here = int_eq d.x x && int_eq d.y y in
-    elim (cases_Bool (int_lt (pos 0) d.weight)) [
-      | inl above ↦ rw above (elim (cases_Bool here) [
-        | inl at ↦ rw at (rw above refl)
-        | inr apart ↦ rw apart more
-      ])
-      | inr below ↦ rw below (elim (cases_Bool here) [
-        | inl at ↦ rw at (rw below (none_behind low d ds x y dots at))
-        | inr apart ↦ rw apart more
-      ])
-    ]
+black_at low (d ∷ ds) x y dots = grind (arith, ints, cases_Bool, none_behind, black_at (place d.x d.y +ℤ pos 1) ds x y dots.2)

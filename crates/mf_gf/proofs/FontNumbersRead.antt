@@ -1,6 +1,7 @@
 -- The comment of a file and the numbers of its post, read back.
 use Rattle.std.proofs.Common.{◌≡◌, ◌-◌, ◌≤◌, ◌==◌, ℕ, ℤ, List, [], ◌∷◌, ◌++◌, length, drop, slice_index, None, Some}
 use Rattle.std.proofs.Common.{refl, ap, sym, ◌∙◌, append_assoc, append-nil, length-append, eq-eqb, arith}
+use Rattle.std.proofs.lemmas.Int.{ints}
 use Rattle.std.specs.Option.{option_and_then}
 use Rattle.std.proofs.Math.Seq.{drop-append_seam, get_or-append_seam, take-append_seam}
 use Rattle.std.proofs.lemmas.Bool.{cond-true}
@@ -11,7 +12,7 @@ use Rattle.mf_gf.specs.declared.boxes.CharacterBox.{CharacterBox}
 use Rattle.mf_gf.specs.declared.file.FontWords.{FontWords}
 use Rattle.mf_gf.specs.Boxes.{box_of_pixels}
 use Rattle.mf_gf.specs.Files.{Character, FileSoFar, box_of_all, bytes_so_far, file_of}
-use Rattle.mf_gf.specs.Files.{last_place, post_text, preamble, shipments, spell_after, with_character, with_characters}
+use Rattle.mf_gf.specs.Files.{last_place, post_text, preamble, shipments, with_character, with_characters}
 use Rattle.mf_gf.specs.FontNumbers.{IsAfterEoc, comment_of, greatest_unsigned, post_at, post_of, read_post}
 use Rattle.mf_gf.specs.Numbers.{IsWord, greatest_word}
 use Rattle.mf_gf.specs.Spelling.{begin, pointer, spell, stretches_text}
@@ -25,9 +26,7 @@ use Rattle.mf_gf.proofs.FontBoxes.{FitsWords}
 characters-come_after : (f : FileSoFar) (cs : List Character) → (rest : List ℕ) × ((with_characters f cs).bytes ≡ f.bytes ++ rest)
 unfolding with_characters
 characters-come_after f [] = ([], sym (append-nil f.bytes))
-characters-come_after f (c ∷ cs) =
-    let others = characters-come_after (with_character f c) cs in
-    (spell_after f c ++ others.0, others.1 ∙ append_assoc f.bytes (spell_after f c) others.0)
+characters-come_after f (c ∷ cs) = grind (arith, ints, append_assoc, characters-come_after (with_character f c) cs)
 
 comment-reads : (comment rest : List ℕ) → comment_of (preamble comment ++ rest) ≡ Some comment
 unfolding comment_of

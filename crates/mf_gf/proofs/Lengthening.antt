@@ -115,9 +115,7 @@ maximal_apart : (r : Run) (y x w : ℤ) (n : ℕ) (ds : List Dot) → 1 ≤ n �
     → AreMaximal (r ∷ runs_of (equal_dots y x w n ++ ds))
 unfolding equal_dots run_from
 maximal_apart r y x w zero ds some apart = absurd (omega arith)
-maximal_apart r y x w (suc n) ds some apart =
-    maximal_before r (record { y = y; x = x; weight = w }) (equal_dots y (x +ℤ pos 1) w n ++ ds)
-    (λ followed. apart (record { row = followed.row; column = followed.column; weight = followed.weight }))
+maximal_apart r y x w (suc n) ds some apart = grind (arith, ints, maximal_before)
 
 ended_before : (all : List Run) (r s : Run) (rs : List Run) → (IsAdjacent r s → ⊥) → IsBegun all r (s ∷ rs)
     → runs_of (flat_map dots_of all) ≡ r ∷ runs_of (flat_map dots_of (s ∷ rs))

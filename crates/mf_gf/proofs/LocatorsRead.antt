@@ -1,6 +1,6 @@
 -- The locators of a file, read back: they are those of the last characters with their codes.
-use Rattle.std.proofs.Common.{◌≡◌, ◌+◌, ◌<◌, ◌≤◌, ◌==◌, ◌||◌, ℕ, zero, suc, Bool, true, false, pos, if◌then◌else◌, List, [], ◌∷◌, ◌++◌, Option}
-use Rattle.std.proofs.Common.{None, Some, option_map, refl, ap, sym, subst, ◌∙◌, append_assoc, eqb-true, eq-eqb, ⊎_elim, eq-or-lt_of_le, arith}
+use Rattle.std.proofs.Common.{◌≡◌, ◌+◌, ◌<◌, ◌≤◌, ◌==◌, ℕ, zero, suc, Bool, true, false, pos, if◌then◌else◌, List, [], ◌∷◌, ◌++◌, Option}
+use Rattle.std.proofs.Common.{None, Some, option_map, refl, ap, sym, ◌∙◌, append_assoc, eqb-true, eq-eqb, ⊎_elim, eq-or-lt_of_le, arith}
 use Rattle.std.proofs.lemmas.Int.{ints}
 use Rattle.std.specs.List.{All, AllPairs, list_any}
 use Rattle.std.proofs.lemmas.Bool.{or_right}
@@ -113,14 +113,10 @@ pub record IsLastFrom (shipped : List Shipment) (code : ℕ) (l : Locator) : Typ
   pub last : last_shipment l.code shipped ≡ Some shipment
 
 one_last : (shipped : List Shipment) (code : ℕ) (s : Shipment) → last_shipment code shipped ≡ Some s → IsLastFrom shipped code (locator_of s)
-one_last shipped code s is =
-    let same = last_shipment-code code s shipped is in
-    record { least = omega (arith, same); shipment = s; is = refl; last = subst (λ c. last_shipment c shipped ≡ Some s) (sym same) is }
+one_last shipped code s is = grind (arith, ints, last_shipment-code)
 
 later_too : (shipped : List Shipment) (code : ℕ) (others : List Locator) → All (IsLastFrom shipped (code + 1)) others → All (IsLastFrom shipped code) others
-later_too shipped code others =
-    All-weaker (IsLastFrom shipped (code + 1)) (IsLastFrom shipped code)
-    (λ l from. record { least = omega (arith, from.least); shipment = from.shipment; is = from.is; last = from.last }) others
+later_too shipped code others = grind (arith, ints, All-weaker)
 
 with_one : (shipped : List Shipment) (code : ℕ) (last : Option Shipment) (others : List Locator)
     → last_shipment code shipped ≡ last → All (IsLastFrom shipped (code + 1)) others
@@ -159,9 +155,7 @@ has_code code l = l.code == code
 found_here : (code : ℕ) (s : Shipment) (last : Option Shipment) (others : List Locator) → last ≡ Some s
     → s.character.code ≡ code → list_any (has_code code) (with_last last others) ≡ true
 found_here code s None others is same = absurd (cc)
-found_here code s (Some t) others is same =
-    let equal : t ≡ s = cc in
-    ap (λ test. test || list_any (has_code code) others) (eq-eqb t.character.code code (ap (λ (it : Shipment). it.character.code) equal ∙ same))
+found_here code s (Some t) others is same = grind (arith, ints, eq-eqb)
 
 found_later : (code : ℕ) (last : Option Shipment) (others : List Locator) → list_any (has_code code) others ≡ true
     → list_any (has_code code) (with_last last others) ≡ true

@@ -1,6 +1,7 @@
 -- The postamble of a file, found from its end, and the locators after it.
 use Rattle.std.proofs.Common.{◌≡◌, ◌+◌, ◌≤◌, ◌==◌, ℕ, zero, suc, pos, List, [], ◌∷◌, ◌++◌, reverse, replicate, length, drop}
 use Rattle.std.proofs.Common.{slice_index, None, Some, refl, ap, sym, ◌∙◌, append_assoc, length-append, eq-eqb, arith}
+use Rattle.std.proofs.lemmas.Int.{ints}
 use Rattle.std.specs.Option.{option_and_then}
 use Rattle.std.proofs.Math.Seq.{drop-append_seam, get_or-append_seam}
 use Rattle.std.proofs.lemmas.Bool.{cond-true}
@@ -20,10 +21,7 @@ use Rattle.mf_gf.proofs.Shipped.{bytes_after_post, file_of-parts}
 padding_passed : (count : ℕ) (rest : List ℕ) → post_place_back (reverse (replicate count gf.padding_byte) ++ rest) ≡ post_place_back rest
 unfolding post_place_back
 padding_passed zero rest = refl
-padding_passed (suc count) rest =
-    ap (λ back. post_place_back (back ++ rest)) (reverse-cons gf.padding_byte (replicate count gf.padding_byte))
-    ∙ ap post_place_back (append_assoc (reverse (replicate count gf.padding_byte)) (gf.padding_byte ∷ []) rest)
-    ∙ padding_passed count (gf.padding_byte ∷ rest)
+padding_passed (suc count) rest = grind (arith, ints, reverse-cons, append_assoc, padding_passed count (gf.padding_byte ∷ rest))
 
 -- before the padding come the place of post and the identification byte
 place_found : (before : List ℕ) (place count : ℕ) → place ≤ greatest_word

@@ -1,5 +1,5 @@
 -- The characters of a file, with one more at the end.
-use Rattle.std.proofs.Common.{◌≡◌, ◌≤◌, ℕ, ℤ, List, [], ◌∷◌, ◌++◌, Option, Some, length, refl, ap, sym, ◌∙◌, append_assoc, length-append, arith}
+use Rattle.std.proofs.Common.{◌≡◌, ◌≤◌, ℕ, ℤ, List, [], ◌∷◌, ◌++◌, Option, Some, length, refl, ap, ◌∙◌, append_assoc, length-append, arith}
 use Rattle.std.proofs.lemmas.Int.{ints}
 use Rattle.mf_rows.specs.Dots.{Dot}
 use Rattle.mf_gf.specs.declared.file.FontWords.{FontWords}
@@ -32,9 +32,7 @@ bytes_so_far-more comment cs c = ap (λ (f : FileSoFar). f.bytes) (file_so_far-m
 -- the bytes kept, with those of one more character, whose p is this earlier place
 pub bytes_so_far-kept : (file : GfFile) (comment : List ℕ) (cs : List Character) (c : Character) (earlier : Option ℕ) → Keeps file comment cs
     → earlier ≡ last_place c.code (shipments comment cs) → bytes_so_far comment (cs ++ c ∷ []) ≡ file.bytes.items ++ spell c.code (pointer earlier) c.black
-bytes_so_far-kept file comment cs c earlier keeps is =
-    bytes_so_far-more comment cs c ∙ ap (λ bytes. bytes ++ spell_after (file_so_far comment cs) c) (sym keeps.bytes)
-    ∙ ap (λ place. file.bytes.items ++ spell c.code (pointer place) c.black) (sym is)
+bytes_so_far-kept file comment cs c earlier keeps is = grind (arith, ints, bytes_so_far-more)
 
 -- the shipment of a character after these bytes
 abbrev pub shipment_after : List ℕ → Character → Shipment

@@ -23,9 +23,7 @@ le_from_test : (a b : ℤ) → int_le a b ≡ true → a ≤ℤ b
 le_from_test a b test = grind (arith, ints)
 
 byte_from_test : (z : ℤ) → is_byte z ≡ true → IsByte z
-byte_from_test z test =
-    let parts = and_parts (int_le (pos 0) z) (int_le z (pos greatest_byte)) test in
-    record { least = le_from_test (pos 0) z parts.0; greatest = le_from_test z (pos greatest_byte) parts.1 }
+byte_from_test z test = grind (arith, ints, and_parts, le_from_test)
 
 pub short_box : (b : CharacterBox) → is_short b ≡ true → IsShortBox b
 short_box b test = grind (arith, ints, and_parts, byte_from_test)
