@@ -1,6 +1,6 @@
 -- Walks over the weights of a picture.
 use Rattle.std.proofs.Common.{◌≡◌, ℕ, zero, suc, ◌≤◌, ◌<◌, ℤ, pos, ◌+ℤ◌, ◌-ℤ◌, ◌≤ℤ◌, ◌<ℤ◌, Option, None, Some}
-use Rattle.std.proofs.Common.{MatchOption, List, [], ◌∷◌, ◌++◌, length, refl, sym, ap, ◌∙◌, subst, arith}
+use Rattle.std.proofs.Common.{MatchOption, List, [], ◌∷◌, ◌++◌, length, refl, sym, subst, arith}
 use Rattle.std.specs.List.{All, flat_map}
 use Rattle.std.proofs.lemmas.Int.{ints}
 use Rattle.std.proofs.lemmas.List.Elements.{All-nil, All-head, All-tail}
@@ -52,11 +52,7 @@ order_behind r rs ordered = record { runs = All-tail IsRun r rs ordered.runs; lo
 -- pixels after the first run have the weights of the other runs
 same_behind : (r : Run) (rs : List Run) (p : ℤ) → place (r.x +ℤ pos r.len) r.y ≤ℤ p → AreSameFrom p (flat_map dots_of (r ∷ rs)) (flat_map dots_of rs)
 unfolding dots_of
-same_behind r rs p end = record {
-  same = λ x y from.
-      let passed = before_equal_dots-end r.y r.x r.weight r.len (place x y) (omega (arith, ints)) in
-      sym (weight_at-append_after (equal_dots r.y r.x r.weight r.len) (flat_map dots_of rs) x y passed);
-}
+same_behind r rs p end = grind (arith, ints, before_equal_dots-end, weight_at-append_after)
 
 -- a pixel that the first run does not end before has the weight that this run gives to it
 weight_reached : (r : Run) (rs : List Run) (x y : ℤ) → AreInOrder (r ∷ rs) → IsNotBefore x y r
@@ -80,10 +76,7 @@ none_passed low all ordered = record { order = ordered; same = record { same = �
 -- fewer runs are ahead, and later pixels have the same weights
 pub ahead_later : (low between high : ℤ) (ds : List Dot) (rs others : List Run) → low ≤ℤ high → between ≤ℤ high → AreInOrder others
     → AreSameFrom between (flat_map dots_of rs) (flat_map dots_of others) → AreAhead low ds rs → AreAhead high ds others
-ahead_later low between high ds rs others le more ordered later so_far = record {
-  order = ordered;
-  same = record { same = λ x y from. later.same x y (omega (arith, ints)) ∙ so_far.same.same x y (omega (arith, ints)) };
-}
+ahead_later low between high ds rs others le more ordered later so_far = grind (arith, ints)
 
 -- ---- runs that are passed
 
@@ -147,10 +140,7 @@ ahead_below b y ds rs others box =
 pub weight_of_taken : (x y : ℤ) (all : List Run) (o : Option Run) (r : Run) (rs : List Run) → o ≡ Some r → AreInOrder (with_taken o rs)
     → IsNotBefore x y r → AreSameFrom (place x y) (flat_map dots_of all) (flat_map dots_of (with_taken o rs))
     → weight_at (dots_of r) x y ≡ weight_at (flat_map dots_of all) x y
-weight_of_taken x y all o r rs some ordered reached so_far =
-    weight_reached r rs x y (subst AreInOrder (taken_first o r rs some) ordered) reached
-    ∙ ap (λ (ahead : List Run). weight_at (flat_map dots_of ahead) x y) (sym (taken_first o r rs some))
-    ∙ so_far.same x y (omega (arith, ints))
+weight_of_taken x y all o r rs some ordered reached so_far = grind (arith, ints, weight_reached, taken_first)
 
 pub weight_of_none : (x y : ℤ) (all : List Run) (o : Option Run) (rs : List Run) → o ≡ None
     → AreSameFrom (place x y) (flat_map dots_of all) (flat_map dots_of (with_taken o rs)) → pos 0 ≡ weight_at (flat_map dots_of all) x y

@@ -1,5 +1,5 @@
 -- Rows of pixels, written row by row and pixel by pixel.
-use Rattle.std.proofs.Common.{◌≡◌, ℕ, suc, ℤ, pos, ◌+ℤ◌, ◌-ℤ◌, ◌≤ℤ◌, List, [], ◌∷◌, ◌++◌, refl, ap, ◌∙◌, append_assoc, arith}
+use Rattle.std.proofs.Common.{◌≡◌, ℕ, suc, ℤ, pos, ◌+ℤ◌, ◌-ℤ◌, ◌≤ℤ◌, List, [], ◌∷◌, ◌++◌, refl, ap, append_assoc, arith}
 use Rattle.std.proofs.lemmas.Int.{ints}
 use Rattle.mf_rows.specs.declared.bounds.Box4.{Box4}
 use Rattle.mf_rows.specs.Boxes.{IsBoxOfField}
@@ -76,12 +76,7 @@ pub box_more : (s : ShownBox) (y : ℤ) (text new : List ℕ) → s.bounds.min_y
     → new ≡ text ++ shown_row (s.show y) s.bounds.min_x (extent s.bounds.min_x s.bounds.max_x) ++ s.end
     → IsBoxSoFar s y text → IsBoxSoFar s (y -ℤ pos 1) new
 unfolding shown_rows
-box_more s y text new row pushed so_far = record {
-  bottom = omega (arith, ints);
-  top = omega (arith, ints, so_far.top);
-  rows = piece_more text (shown_line s.show s.end s.bounds y) _ _ new _ (pushed ∙ append_assoc text _ s.end)
-      (ap (shown_rows (shown_line s.show s.end s.bounds) y) (extent-lower s.bounds.min_y y row)) so_far.rows;
-}
+box_more s y text new row pushed so_far = grind (arith, ints, piece_more, append_assoc, extent-lower)
 
 pub box_all : (s : ShownBox) (y : ℤ) (text : List ℕ) → y +ℤ pos 1 ≡ s.bounds.min_y → IsBoxSoFar s y text
     → text ≡ s.head ++ shown_box s.show s.end s.bounds

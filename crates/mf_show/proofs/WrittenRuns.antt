@@ -1,5 +1,6 @@
 -- The lines of a picture's runs, written one after another.
 use Rattle.std.proofs.Common.{◌≡◌, ℕ, List, [], ◌∷◌, ◌++◌, codes, length, refl, sym, ap, ◌∙◌, length-append, arith}
+use Rattle.std.proofs.lemmas.Int.{ints}
 use Rattle.std.specs.List.{All, flat_map}
 use Rattle.std.proofs.lemmas.List.Elements.{All-head, All-rest, All-same}
 use Rattle.mf_rows.specs.declared.run.Run.{Run}
@@ -44,9 +45,7 @@ run_text-some [] ds same some = absurd (some refl)
 run_text-some (r ∷ rs) ds same some = rw same refl
 
 pub blank_text : (ds : List Dot) (text : List ℕ) → text ≡ flat_map run_line (runs_of ds) → text ≡ [] → codes "blank\n" ≡ run_text ds
-blank_text ds text lines empty =
-    let blank = some_written (runs_of ds) (sym lines ∙ empty) in
-    rw blank refl
+blank_text ds text lines empty = grind (arith, ints, some_written)
 
 pub lines_text : (ds : List Dot) (text : List ℕ) → text ≡ flat_map run_line (runs_of ds) → (text ≡ [] → ⊥) → text ≡ run_text ds
 lines_text ds text lines some = lines ∙ sym (run_text-some (runs_of ds) ds refl (λ blank. some (lines ∙ ap (λ all. flat_map run_line all) blank)))
