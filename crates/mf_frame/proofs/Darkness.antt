@@ -128,10 +128,7 @@ equal_dots-outside s y x w (suc n) i j positive outside =
 equal_dots-either : (s : ℤ) (y x w : ℤ) (n : ℕ) (i j : ℤ) → darker (shade_of w) (cell_shade s (equal_dots y x w n) i j) ≡ shade_of w
 unfolding cell_shade equal_dots
 equal_dots-either s y x w zero i j = darker-blank (shade_of w)
-equal_dots-either s y x w (suc n) i j =
-    let others = equal_dots-either s y (x +ℤ pos 1) w n i j in
-    by_dot s (record { y = y; x = x; weight = w }) (equal_dots y (x +ℤ pos 1) w n) i j (λ shade. darker (shade_of w) shade ≡ shade_of w)
-    (ap (darker (shade_of w)) others ∙ darker-same (shade_of w)) others
+equal_dots-either s y x w (suc n) i j = grind (arith, ints, by_dot, darker-same, equal_dots-either s y (x +ℤ pos 1) w n i j)
 
 -- they give their shade to each cell of their row from their first to their last
 pub equal_dots-inside : (s : ℤ) (y x w : ℤ) (n : ℕ) (i j : ℤ) → pos 1 ≤ℤ s → cell_of s y ≡ j → cell_of s x ≤ℤ i → i ≤ℤ cell_of s (x +ℤ pos n)

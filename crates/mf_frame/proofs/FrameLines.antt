@@ -123,10 +123,7 @@ lines_all t n text none so_far = pieces_all text _ _ (ap (lowest_lines t.style t
 same_tiles : (f g : ℤ → List ℕ) (i : ℤ) (n : ℕ) → ((c : ℤ) → i ≤ℤ c → c <ℤ (i +ℤ pos n) → f c ≡ g c) → tiles f i n ≡ tiles g i n
 unfolding tiles
 same_tiles f g i zero same = refl
-same_tiles f g i (suc n) same =
-    let here = same i (omega (arith, ints)) (omega (arith, ints)) in
-    let others = same_tiles f g (i +ℤ pos 1) n (λ c from to. same c (omega (arith, ints)) (omega (arith, ints))) in
-    rw (here, others) refl
+same_tiles f g i (suc n) same = grind (arith, ints, same_tiles f g (i +ℤ pos 1) n (λ c from to. same c (omega (arith, ints)) (omega (arith, ints))))
 
 same_lines : (style : Style) (f g : ℤ → ℤ → Shade) (w : Window) (n : ℕ) → ((i j : ℤ) → IsCellOf w i j → f i j ≡ g i j) → n ≤ w.lines
     → lowest_lines style f w n ≡ lowest_lines style g w n

@@ -160,10 +160,7 @@ first-fits canvas b s (suc n) size box last =
 first-within : (canvas : Size) (b : Box4) (s : ℤ) (n : ℕ) → (s ≤ℤ first_fitting canvas b s n) × (first_fitting canvas b s n ≤ℤ (s +ℤ pos n))
 unfolding first_fitting
 first-within canvas b s zero = (omega (arith, ints), omega (arith, ints))
-first-within canvas b s (suc n) =
-    cond_both (fits_on canvas (window_at b s)) s (first_fitting canvas b (s +ℤ pos 1) n) (λ first. (s ≤ℤ first) × (first ≤ℤ (s +ℤ pos (suc n))))
-    (λ _. (omega (arith, ints), omega (arith, ints)))
-    (λ _. let (from, to) = first-within canvas b (s +ℤ pos 1) n in (omega (arith, ints, from), omega (arith, ints, to)))
+first-within canvas b s (suc n) = grind (arith, ints, cond_both, first-within canvas b (s +ℤ pos 1) n)
 
 first-least : (canvas : Size) (b : Box4) (s : ℤ) (n : ℕ) (t : ℤ) → s ≤ℤ t → t <ℤ first_fitting canvas b s n → fits_on canvas (window_at b t) ≡ false
 unfolding first_fitting
