@@ -38,12 +38,7 @@ rectangles_read : (w : ℤ) (rs : List Run) (rest : List ℕ) → All IsRun rs
 unfolding dots_with
 rectangles_read w [] rest runs = refl
 rectangles_read w (r ∷ rs) rest runs =
-    let others = flat_map (rectangle_of w) rs in
-    ap (dots_in true w) (append_assoc (rectangle_of w r) others rest)
-    ∙ rectangle_of_read w r (others ++ rest) (All-head IsRun r rs runs)
-    ∙ ap (λ ds. dots_with w (dots_of r) ++ ds) (rectangles_read w rs rest (All-tail IsRun r rs runs))
-    ∙ sym (append_assoc (dots_with w (dots_of r)) (dots_with w (flat_map dots_of rs)) (dots_in true w rest))
-    ∙ ap (λ ds. ds ++ dots_in true w rest) (sym (dots_with-append w (dots_of r) (flat_map dots_of rs)))
+    grind (arith, ints, append_assoc, rectangle_of_read, All-head, dots_with, All-tail, dots_with-append, rectangles_read w rs rest (All-tail IsRun r rs runs))
 
 -- a weight that a run has is small
 some_weight : (w : ℤ) (rs : List Run) (b : ℕ) (bs : List ℕ) → All IsRun rs → flat_map (rectangle_of w) rs ≡ b ∷ bs → IsSmall w

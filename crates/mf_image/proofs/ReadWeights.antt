@@ -1,5 +1,5 @@
 -- The weights of pixels, gathered weight by weight.
-use Rattle.std.proofs.Common.{◌≡◌, ◌≢◌, ℕ, zero, suc, false, if◌then◌else◌, ◌&&◌, ℤ, pos, ◌+ℤ◌, ◌≤ℤ◌, ◌<ℤ◌, List, [], ◌∷◌, ◌++◌}
+use Rattle.std.proofs.Common.{◌≡◌, ◌≢◌, ℕ, zero, suc, false, if◌then◌else◌, ℤ, pos, ◌+ℤ◌, ◌≤ℤ◌, ◌<ℤ◌, List, [], ◌∷◌, ◌++◌}
 use Rattle.std.proofs.Common.{inl, inr, refl, sym, ap, ◌∙◌, subst, arith}
 use Rattle.std.specs.List.{All, flat_map}
 use Rattle.std.specs.Ordering.{int_eq}
@@ -26,11 +26,7 @@ gathered ds w (suc n) = dots_with w ds ++ gathered ds (w +ℤ pos 1) n
 pub dots_with-append : (w : ℤ) (ds es : List Dot) → dots_with w (ds ++ es) ≡ dots_with w ds ++ dots_with w es
 unfolding dots_with
 dots_with-append w [] es = refl
-dots_with-append w (d ∷ ds) es =
-    cond_both (int_eq d.weight w) (d ∷ dots_with w (ds ++ es)) (dots_with w (ds ++ es))
-    (λ all. all ≡ (if int_eq d.weight w then d ∷ dots_with w ds else dots_with w ds) ++ dots_with w es)
-    (λ yes. rw yes (ap (λ others. d ∷ others) (dots_with-append w ds es)))
-    (λ no. rw no (dots_with-append w ds es))
+dots_with-append w (d ∷ ds) es = grind (arith, ints, cond_both, dots_with-append w ds es)
 
 pub dots_with-same : (w y x : ℤ) (n : ℕ) → dots_with w (equal_dots y x w n) ≡ equal_dots y x w n
 unfolding dots_with equal_dots
@@ -141,9 +137,7 @@ found low ds w (suc n) x y dots least greatest =
 either : (P : ℤ → Type 0) (y x w : ℤ) (n : ℕ) (es : List Dot) (u v : ℤ) → P w → P (weight_at es u v) → P (weight_at (equal_dots y x w n ++ es) u v)
 unfolding equal_dots weight_at
 either P y x w zero es u v here others = others
-either P y x w (suc n) es u v here others =
-    cond_both (int_eq x u && int_eq y v) w (weight_at (equal_dots y (x +ℤ pos 1) w n ++ es) u v) P (λ _. here)
-    (λ _. either P y (x +ℤ pos 1) w n es u v here others)
+either P y x w (suc n) es u v here others = grind (arith, ints, cond_both, either P y (x +ℤ pos 1) w n es u v here others)
 
 -- what holds for 0 and for the weights of all runs holds for the weight of each pixel
 pub weight_of_runs : (P : ℤ → Type 0) (rs : List Run) (x y : ℤ) → P (pos 0) → All P (weights_of rs) → P (weight_at (flat_map dots_of rs) x y)
