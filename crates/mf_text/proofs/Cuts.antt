@@ -1,5 +1,6 @@
 -- The tokens of a line are its bytes, each cut as long as possible, and no other list of tokens is cut from it so.
 use Rattle.std.proofs.Common.{◌≡◌, ℕ, zero, suc, ◌+◌, ◌≤◌, true, false, eqb, List, [], ◌∷◌, ◌++◌, length, drop, refl, sym, ap, subst, ◌∙◌, arith}
+use Rattle.std.proofs.lemmas.Int.{ints}
 use Rattle.std.specs.List.{All}
 use Rattle.std.proofs.Math.Seq.{drop-append_seam}
 use Rattle.std.proofs.lemmas.Bool.{cond_both, eqb-true, false≢true}
@@ -97,10 +98,7 @@ are_tokens line = cut-within (length line) 1 line (omega arith)
 blanks_passed : (column : ℕ) (blanks rest : List ℕ) → All blank_byte blanks → tokens_from column (blanks ++ rest) ≡ tokens_from (column + length blanks) rest
 unfolding tokens_from tokens_within
 blanks_passed column [] rest all = ap (λ n. tokens_from n rest) (omega arith)
-blanks_passed column (b ∷ bs) rest all =
-    let later = blanks_passed (column + 1) bs rest (All-tail blank_byte b bs all) in
-    let same : column + 1 + length bs ≡ column + length (b ∷ bs) = omega arith in
-    rw (All-head blank_byte b bs all) (later ∙ ap (λ n. tokens_from n rest) same)
+blanks_passed column (b ∷ bs) rest all = grind (arith, ints, All-tail, All-head, blanks_passed (column + 1) bs rest (All-tail blank_byte b bs all))
 
 none_left : (column : ℕ) (rest : List ℕ) → IsEnd rest → tokens_from column rest ≡ []
 unfolding tokens_from tokens_within

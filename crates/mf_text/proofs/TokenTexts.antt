@@ -34,9 +34,7 @@ token_is t u same = search rules
 row_text : (p : ℕ → Bool) (text rest : List ℕ) → All (λ b. p b ≡ true) text → first_is p rest ≡ false → take_while p (text ++ rest) ≡ text
 row_text p [] [] all ends = refl
 row_text p [] (b ∷ bs) all ends = take_while-cons p b bs ∙ rw ends refl
-row_text p (b ∷ bs) rest all ends =
-    take_while-cons p b (bs ++ rest)
-    ∙ rw (All-head (λ c. p c ≡ true) b bs all) (ap (λ (xs : List ℕ). b ∷ xs) (row_text p bs rest (All-tail (λ c. p c ≡ true) b bs all) ends))
+row_text p (b ∷ bs) rest all ends = grind (arith, ints, take_while-cons, All-head, All-tail, row_text p bs rest (All-tail (λ c. p c ≡ true) b bs all) ends)
 
 pub row_count : (p : ℕ → Bool) (text rest : List ℕ) → IsRow p text rest → prefix_len p (text ++ rest) ≡ length text
 row_count p text rest row = sym (length-prefix_len p (text ++ rest)) ∙ ap length (row_text p text rest row.all row.longest)
