@@ -1,17 +1,16 @@
 -- Dark cells have pixels of positive weight.
-use Rattle.std.proofs.Common.{◌≡◌, ◌⊎◌, inl, inr, ⊎_elim, ◌≤◌, ◌&&◌, if◌then◌else◌, true, ℤ, pos, ◌+ℤ◌, ◌<ℤ◌, int_lt, List, [], ◌∷◌, refl, sym, ap, ◌∙◌, arith}
+use Rattle.std.proofs.Common.{◌≡◌, ◌⊎◌, inl, inr, ⊎_elim, ◌≤◌, ◌&&◌, Bool, true, false, ℤ, pos, ◌+ℤ◌, ◌<ℤ◌}
+use Rattle.std.proofs.Common.{List, [], ◌∷◌, refl, sym, ap, ◌∙◌, arith}
 use Rattle.std.specs.Bool.{nat_lt}
 use Rattle.std.specs.Ordering.{int_eq}
 use Rattle.std.proofs.lemmas.Bool.{false≢true, cond-false, cond_both, and_parts}
 use Rattle.std.proofs.lemmas.Bool.Decides.{Decides-int_eq, Decides-ltb}
-use Rattle.std.proofs.lemmas.Int.{ints, by_lt_z}
+use Rattle.std.proofs.lemmas.Int.{ints}
 use Rattle.mf_rows.specs.Dots.{Dot, AreDotsFrom, place, weight_at}
-use Rattle.mf_rows.proofs.DotsLemmas.{IsAt, weight_at-before, weight_at-elsewhere, weight_at-here}
+use Rattle.mf_rows.proofs.DotsLemmas.{weight_at-before, weight_at-elsewhere, weight_at-here}
 use Rattle.mf_frame.specs.declared.shade.Shade.{Shade}
-use Rattle.mf_frame.specs.declared.shade.Shade.TheVariants.{Blank, Negative, One, Two, More}
 use Rattle.mf_frame.specs.Cells.{cell_of, cell_shade, darker, depth, is_dark, shade_of, HasPositivePixel}
-use Rattle.mf_frame.proofs.Darkness.{by_dot, darker-above, in_cell_passes, in_cell_test, shade-elsewhere, shade-here}
-use Rattle.mf_frame.proofs.Windows.{by_test}
+use Rattle.mf_frame.proofs.Darkness.{by_dot, depth-darker, in_cell, shade-elsewhere, shade-here}
 
 -- ---- shades
 
@@ -22,55 +21,30 @@ dark_from_deep : (a : Shade) → 2 ≤ depth a → is_dark a ≡ true
 dark_from_deep a deep = (Decides-ltb 1 (depth a)).1 deep
 
 dark-left : (a b : Shade) → is_dark a ≡ true → is_dark (darker a b) ≡ true
-dark-left a b dark = let deep = deep_from_dark a dark in let above = darker-above a b in dark_from_deep (darker a b) (omega (arith, deep, above.0))
+dark-left a b dark = dark_from_deep (darker a b) (omega (arith, deep_from_dark a dark, depth-darker a b))
 
 dark-right : (a b : Shade) → is_dark b ≡ true → is_dark (darker a b) ≡ true
-dark-right a b dark = let deep = deep_from_dark b dark in let above = darker-above a b in dark_from_deep (darker a b) (omega (arith, deep, above.1))
+dark-right a b dark = dark_from_deep (darker a b) (omega (arith, deep_from_dark b dark, depth-darker a b))
 
 dark_either : (a b : Shade) → is_dark (darker a b) ≡ true → (is_dark a ≡ true) ⊎ (is_dark b ≡ true)
 dark_either a b =
     cond_both (nat_lt (depth a) (depth b)) b a (λ s. is_dark s ≡ true → (is_dark a ≡ true) ⊎ (is_dark b ≡ true)) (λ _ dark. inr dark) (λ _ dark. inl dark)
 
 positive_from_dark : (w : ℤ) → is_dark (shade_of w) ≡ true → pos 0 <ℤ w
-positive_from_dark w =
-    by_lt_z (pos 0) w
-    (λ positive dark. positive)
-    (λ least. cond_both (int_eq w (pos 0)) Blank
-    (if int_lt w (pos 0) then Negative else (if int_eq w (pos 1) then One else (if int_eq w (pos 2) then Two else More)))
-    (λ s. is_dark s ≡ true → pos 0 <ℤ w)
-    (λ zero dark. absurd (false≢true dark))
-    (λ nonzero. cond_both (int_lt w (pos 0)) Negative (if int_eq w (pos 1) then One else (if int_eq w (pos 2) then Two else More))
-    (λ s. is_dark s ≡ true → pos 0 <ℤ w)
-    (λ negative dark. absurd (false≢true dark))
-    (λ most dark. absurd (false≢true (sym nonzero ∙ (Decides-int_eq w (pos 0)).1 (omega (arith, ints, most)))))))
+positive_from_dark w dark = grind (arith, ints)
 
 dark_from_positive : (w : ℤ) → pos 0 <ℤ w → is_dark (shade_of w) ≡ true
-dark_from_positive w positive =
-    cond_both (int_eq w (pos 0)) Blank (if int_lt w (pos 0) then Negative else (if int_eq w (pos 1) then One else (if int_eq w (pos 2) then Two else More)))
-    (λ s. is_dark s ≡ true)
-    (λ zero. let same = (Decides-int_eq w (pos 0)).0 zero in absurd (omega (arith, ints)))
-    (λ nonzero. cond_both (int_lt w (pos 0)) Negative (if int_eq w (pos 1) then One else (if int_eq w (pos 2) then Two else More)) (λ s. is_dark s ≡ true)
-    (λ negative. absurd (omega (arith, ints, negative)))
-    (λ most. cond_both (int_eq w (pos 1)) One (if int_eq w (pos 2) then Two else More) (λ s. is_dark s ≡ true)
-    (λ _. refl)
-    (λ _. cond_both (int_eq w (pos 2)) Two More (λ s. is_dark s ≡ true) (λ _. refl) (λ _. refl))))
+dark_from_positive w positive = grind (arith, ints)
 
 -- ---- cells
 
+by_test : {P : Type 0} (b : Bool) → (b ≡ true → P) → (b ≡ false → P) → P
+by_test true passed failed = passed refl
+by_test false passed failed = failed refl
+
 -- a pixel of other dots is a pixel of all of them
 lifted : (s low : ℤ) (d : Dot) (ds : List Dot) (i j : ℤ) → AreDotsFrom low (d ∷ ds) → HasPositivePixel s ds i j → HasPositivePixel s (d ∷ ds) i j
-lifted s low d ds i j dots pixel =
-    let elsewhere : IsAt d pixel.x pixel.y → ⊥ = λ here.
-    let there : place pixel.x pixel.y ≡ place d.x d.y = rw (here.column, here.row) refl in
-    let none = weight_at-before (place d.x d.y +ℤ pos 1) ds pixel.x pixel.y dots.2 (omega (arith, ints, there)) in
-    omega (arith, ints, none, pixel.positive) in
-    record {
-      x = pixel.x;
-      y = pixel.y;
-      column = pixel.column;
-      row = pixel.row;
-      positive = rw (weight_at-elsewhere d ds pixel.x pixel.y elsewhere) pixel.positive;
-    }
+lifted s low d ds i j dots pixel = grind (arith, ints, weight_at-before, weight_at-elsewhere)
 
 pub pixel_of_dark : (s low : ℤ) (ds : List Dot) (i j : ℤ) → AreDotsFrom low ds → is_dark (cell_shade s ds i j) ≡ true → HasPositivePixel s ds i j
 unfolding cell_shade
@@ -80,7 +54,7 @@ pixel_of_dark s low (d ∷ ds) i j dots dark =
     λ rest. lifted s low d ds i j dots (pixel_of_dark s (place d.x d.y +ℤ pos 1) ds i j dots.2 rest) in
     by_test (int_eq (cell_of s d.x) i && int_eq (cell_of s d.y) j)
     (λ test.
-    let here = in_cell_test s d.x d.y i j test in
+    let here = (in_cell s d.x d.y i j).0 test in
     ⊎_elim (λ own. record {
       x = d.x;
       y = d.y;
@@ -89,7 +63,7 @@ pixel_of_dark s low (d ∷ ds) i j dots dark =
       positive = rw (weight_at-here d ds d.x d.y (record { column = refl; row = refl })) (positive_from_dark d.weight own);
     }) others (dark_either (shade_of d.weight) (cell_shade s ds i j) (rw (shade-here s d ds i j here.0 here.1) at dark)))
     (λ failed.
-    let away = shade-elsewhere s d ds i j (λ column row. false≢true (sym failed ∙ in_cell_passes s d.x d.y i j column row)) in
+    let away = shade-elsewhere s d ds i j (λ column row. false≢true (sym failed ∙ (in_cell s d.x d.y i j).1 (column, row))) in
     others (rw away at dark))
 
 dark_at : (s : ℤ) (ds : List Dot) (i j x y : ℤ) → cell_of s x ≡ i → cell_of s y ≡ j → pos 0 <ℤ weight_at ds x y → is_dark (cell_shade s ds i j) ≡ true

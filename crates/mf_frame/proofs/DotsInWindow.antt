@@ -19,12 +19,7 @@ dot_in_window b s d positive within =
     let lowest = line-within (cell_of s b.min_y) in
     let highest = line-within (cell_of s b.max_y) in
     let lines = line-le (cell_of s b.min_y) (cell_of s b.max_y) (omega (arith, ints, bottom, top)) in
-    record {
-      left = left;
-      right = omega (arith, ints, left, right);
-      bottom = omega (arith, ints, lowest.0, bottom);
-      top = omega (arith, ints, highest.1, top, lines);
-    }
+    omega (arith, ints, left, right, lowest.0, bottom, highest.1, top, lines)
 
 -- the cells of all dots lie in the window of the least box
 pub all_in_window : (ds : List Dot) (b : Box4) (s : ℤ) → pos 1 ≤ℤ s → IsLeastBox ds b → AreInWindow (window_at b s) ds

@@ -1,11 +1,11 @@
 -- The lines of a frame, written one after another.
 use Rattle.std.proofs.Common.{◌≡◌, ◌≤◌, ◌<◌, ℕ, zero, suc, ◌+◌, ◌-◌, ◌*◌, ℤ, pos, ◌+ℤ◌, ◌-ℤ◌, ◌*ℤ◌, ◌≤ℤ◌, ◌<ℤ◌, List, ◌++◌, get_or}
-use Rattle.std.proofs.Common.{refl, sym, ap, ◌∙◌, append_assoc, arith}
+use Rattle.std.proofs.Common.{refl, ap, ◌∙◌, append_assoc, arith}
 use native.Mathlib.Nat.{suc-mul}
 use Rattle.std.specs.Int.RustNames.{unsigned_abs}
 use Rattle.std.proofs.lemmas.Int.{ints}
-use Rattle.std.proofs.lemmas.List.{append-nil}
 use Rattle.mf_rows.specs.Dots.{Dot}
+use Rattle.mf_show.proofs.Pieces.{piece_more, pieces_all}
 use Rattle.mf_frame.specs.declared.shade.Shade.{Shade}
 use Rattle.mf_frame.specs.declared.shade.Shade.TheVariants.{Blank}
 use Rattle.mf_frame.specs.declared.tile.Style.{Style}
@@ -25,25 +25,18 @@ pub record AreEmptySoFar (count : ℕ) (old : List ℕ) (n : ℕ) (text : List �
 pub empty_none : (count : ℕ) (old : List ℕ) → AreEmptySoFar count old 0 old
 empty_none count old = let all : count - 0 ≡ count = omega arith in record { to = omega arith; lines = rw all refl }
 
-empty-next : (n : ℕ) → empty_lines Colored (suc n) ≡ empty_line Colored ++ empty_lines Colored n
-unfolding empty_lines
-empty-next n = refl
-
 pub empty_more : (count : ℕ) (old : List ℕ) (n : ℕ) (text new : List ℕ) → n < count → new ≡ text ++ empty_line Colored → AreEmptySoFar count old n text
     → AreEmptySoFar count old (n + 1) new
+unfolding empty_lines
 empty_more count old n text new more written so_far =
     let left : count - n ≡ suc (count - (n + 1)) = omega arith in
-    record {
-      to = omega arith;
-      lines = rw written (append_assoc text (empty_line Colored) (empty_lines Colored (count - (n + 1))))
-          ∙ ap (λ all. text ++ all) (sym (empty-next (count - (n + 1)))) ∙ rw (← left) so_far.lines;
-    }
+    record { to = omega arith; lines = piece_more text (empty_line Colored) _ _ new _ written (ap (empty_lines Colored) left) so_far.lines }
 
 pub empty_all : (count : ℕ) (old : List ℕ) (n : ℕ) (text : List ℕ) → count ≤ n → AreEmptySoFar count old n text → text ≡ old ++ empty_lines Colored count
 unfolding empty_lines
 empty_all count old n text over so_far =
     let none : count - n ≡ 0 = omega arith in
-    sym (append-nil text) ∙ rw none at so_far.lines
+    pieces_all text _ _ (ap (empty_lines Colored) none) so_far.lines
 
 -- ---- a line of tiles
 
@@ -68,35 +61,25 @@ pub record AreTilesSoFar (t : WindowText) (k : ℤ) (n : ℕ) (text : List ℕ) 
   pub line : text ++ tiles_from t k n (t.window.columns - n) ≡ t.old ++ tiles_of t k
 
 pub tiles_none : (t : WindowText) (k : ℤ) → AreTilesSoFar t k 0 t.old
-tiles_none t k =
-    let same : t.window.column +ℤ pos 0 ≡ t.window.column = omega (arith, ints) in
-    let all : t.window.columns - 0 ≡ t.window.columns = omega arith in
-    record { to = omega arith; line = rw (same, all) refl }
+tiles_none t k = grind (arith, ints)
 
 tiles_from-next : (t : WindowText) (k : ℤ) (place n : ℕ)
     → tiles_from t k place (suc n) ≡ tile_at t.style t.shades k (t.window.column +ℤ pos place) ++ tiles_from t k (place + 1) n
 unfolding tiles
-tiles_from-next t k place n =
-    let next : (t.window.column +ℤ pos place) +ℤ pos 1 ≡ t.window.column +ℤ pos (place + 1) = omega (arith, ints) in
-    rw next refl
+tiles_from-next t k place n = grind (arith, ints)
 
 pub tiles_more : (t : WindowText) (k : ℤ) (n : ℕ) (text new : List ℕ) → n < t.window.columns
     → new ≡ text ++ tile_at t.style t.shades k (t.window.column +ℤ pos n) → AreTilesSoFar t k n text → AreTilesSoFar t k (n + 1) new
 tiles_more t k n text new more written so_far =
     let rest = t.window.columns - (n + 1) in
     let left : t.window.columns - n ≡ suc rest = omega arith in
-    let here = ap (tiles_from t k n) left ∙ tiles_from-next t k n rest in
-    record {
-      to = omega arith;
-      line = rw written (append_assoc text (tile_at t.style t.shades k (t.window.column +ℤ pos n)) (tiles_from t k (n + 1) rest))
-          ∙ ap (λ all. text ++ all) (sym here) ∙ so_far.line;
-    }
+    record { to = omega arith; line = piece_more text _ _ _ new _ written (ap (tiles_from t k n) left ∙ tiles_from-next t k n rest) so_far.line }
 
 pub tiles_all : (t : WindowText) (k : ℤ) (n : ℕ) (text : List ℕ) → t.window.columns ≤ n → AreTilesSoFar t k n text → text ≡ t.old ++ tiles_of t k
 unfolding tiles
 tiles_all t k n text over so_far =
     let none : t.window.columns - n ≡ 0 = omega arith in
-    sym (append-nil text) ∙ rw none at so_far.line
+    pieces_all text _ _ (ap (tiles_from t k n) none) so_far.line
 
 -- the two cells that the code shows in a tile are those of the tile
 pub tile_here : (style : Style) (w : Window) (shades : List Shade) (above place : ℕ) (column line : ℤ)
@@ -123,34 +106,24 @@ pub record AreLinesSoFar (t : WindowText) (n : ℕ) (text : List ℕ) : Type 0 w
 pub lines_none : (t : WindowText) → AreLinesSoFar t t.window.lines t.old
 lines_none t = record { to = omega arith; lines = refl }
 
-lowest-next : (t : WindowText) (n : ℕ) → lowest_lines t.style t.shades t.window (suc n)
-    ≡ window_line t.style t.shades t.window (t.window.line +ℤ pos n) ++ lowest_lines t.style t.shades t.window n
-unfolding lowest_lines
-lowest-next t n = refl
-
 pub lines_more : (t : WindowText) (above n : ℕ) (text new : List ℕ) → above ≡ suc n
     → new ≡ text ++ window_line t.style t.shades t.window (t.window.line +ℤ pos n) → AreLinesSoFar t above text → AreLinesSoFar t n new
-lines_more t above n text new next written so_far =
-    let line = window_line t.style t.shades t.window (t.window.line +ℤ pos n) in
-    let rest = ap (lowest_lines t.style t.shades t.window) next ∙ lowest-next t n in
-    record {
-      to = omega (arith, so_far.to);
-      lines = rw written (append_assoc text line (lowest_lines t.style t.shades t.window n)) ∙ ap (λ all. text ++ all) (sym rest) ∙ so_far.lines;
-    }
+unfolding lowest_lines
+lines_more t above n text new next written so_far = record {
+  to = omega (arith, so_far.to);
+  lines = piece_more text _ _ _ new _ written (ap (lowest_lines t.style t.shades t.window) next) so_far.lines;
+}
 
 pub lines_all : (t : WindowText) (n : ℕ) (text : List ℕ) → n ≡ 0 → AreLinesSoFar t n text → text ≡ t.old ++ window_lines t.style t.shades t.window
 unfolding lowest_lines
-lines_all t n text none so_far = sym (append-nil text) ∙ rw none at so_far.lines
+lines_all t n text none so_far = pieces_all text _ _ (ap (lowest_lines t.style t.shades t.window) none) so_far.lines
 
 -- ---- equal cells make equal lines
 
 same_tiles : (f g : ℤ → List ℕ) (i : ℤ) (n : ℕ) → ((c : ℤ) → i ≤ℤ c → c <ℤ (i +ℤ pos n) → f c ≡ g c) → tiles f i n ≡ tiles g i n
 unfolding tiles
 same_tiles f g i zero same = refl
-same_tiles f g i (suc n) same =
-    let here = same i (omega (arith, ints)) (omega (arith, ints)) in
-    let others = same_tiles f g (i +ℤ pos 1) n (λ c from to. same c (omega (arith, ints)) (omega (arith, ints))) in
-    rw (here, others) refl
+same_tiles f g i (suc n) same = grind (arith, ints, same_tiles f g (i +ℤ pos 1) n (λ c from to. same c (omega (arith, ints)) (omega (arith, ints))))
 
 same_lines : (style : Style) (f g : ℤ → ℤ → Shade) (w : Window) (n : ℕ) → ((i j : ℤ) → IsCellOf w i j → f i j ≡ g i j) → n ≤ w.lines
     → lowest_lines style f w n ≡ lowest_lines style g w n
@@ -159,8 +132,8 @@ same_lines style f g w zero same few = refl
 same_lines style f g w (suc n) same few =
     let k = w.line +ℤ pos n in
     let tiles_here = same_tiles (tile_at style f k) (tile_at style g k) w.column w.columns (λ c from to.
-    let upper = same c ((pos 2 *ℤ k) +ℤ pos 1) (record { left = from; right = to; bottom = omega (arith, ints); top = omega (arith, ints) }) in
-    let lower = same c (pos 2 *ℤ k) (record { left = from; right = to; bottom = omega (arith, ints); top = omega (arith, ints) }) in
+    let upper = same c ((pos 2 *ℤ k) +ℤ pos 1) (omega (arith, ints)) in
+    let lower = same c (pos 2 *ℤ k) (omega (arith, ints)) in
     ap (λ cells. tile style cells c k) (λ t. (upper t, lower t))) in
     let others = same_lines style f g w n same (omega arith) in
     rw (tiles_here, others) refl

@@ -1,8 +1,7 @@
 -- Windows of boxes, and their scales.
-use Rattle.std.proofs.Common.{◌≡◌, ◌≤◌, ℕ, zero, suc, ◌-◌, Bool, true, false, ℤ, pos, ◌+ℤ◌, ◌-ℤ◌, ◌≤ℤ◌, ◌<ℤ◌, refl, sym, ◌∙◌, to_z, of_z, w32, arith}
+use Rattle.std.proofs.Common.{◌≡◌, ◌≤◌, ℕ, zero, suc, ◌-◌, true, false, ℤ, pos, ◌+ℤ◌, ◌-ℤ◌, ◌≤ℤ◌, ◌<ℤ◌, refl, sym, ◌∙◌, to_z, of_z, w32, arith}
 use Rattle.std.specs.Int.RustNames.{unsigned_abs}
-use Rattle.std.specs.Prelude.{nat_le}
-use Rattle.std.proofs.lemmas.Bool.{cond-true, cond-false, and_parts, and_from, leb-true, le-leb}
+use Rattle.std.proofs.lemmas.Bool.{cond-true, cond-false, cond_both, and_parts, and_from, leb-true, le-leb}
 use Rattle.std.proofs.lemmas.Int.{ints, by_lt_z}
 use Rattle.mf_geom.specs.Coordinates.{least_coordinate, greatest_coordinate, last_in_field}
 use Rattle.mf_rows.specs.declared.bounds.Box4.{Box4}
@@ -19,7 +18,7 @@ use Rattle.mf_frame.proofs.Floors.{IsCellInField, cell-le, cell_in_field, cell_a
 line_in_field : (j : ℤ) → IsCellInField j → IsCellInField (line_of j)
 line_in_field j field =
     let within = line-within j in
-    record { least = omega (arith, ints, within.1, field.least); greatest = omega (arith, ints, within.0, field.greatest) }
+    omega (arith, ints, within.1, field, within.0)
 
 -- the columns and lines of a box of the field
 pub record IsWindowOfField (b : Box4) (s : ℤ) : Type 0 where
@@ -68,15 +67,10 @@ stays p least greatest = omega (arith, ints)
 
 pub cell_value : (s p r : ℤ) → IsScale s → least_coordinate ≤ℤ p → p ≤ℤ last_in_field
     → r ≡ cell_of (to_z w32 (of_z w32 s)) (to_z w32 (of_z w32 p)) → r ≡ cell_of s p
-cell_value s p r scale least greatest computed =
-    let factor = stays s (omega (arith, ints, scale.least)) scale.greatest in
-    let pixel = stays p least (omega (arith, ints)) in
-    rw (factor, pixel) at computed
+cell_value s p r scale least greatest computed = grind (arith, ints, stays)
 
 line_value : (j c l : ℤ) → IsCellInField j → c ≡ j → l ≡ line_of (to_z w32 (of_z w32 c)) → l ≡ line_of j
-line_value j c l field same computed =
-    let row = stays j field.least (omega (arith, ints, field.greatest)) in
-    rw (same, row) at computed
+line_value j c l field same computed = grind (arith, ints, stays)
 
 pub window_ends : (b : Box4) (s left right low high bottom top : ℤ) → IsBoxOfField b → IsScale s
     → left ≡ cell_of (to_z w32 (of_z w32 s)) (to_z w32 (of_z w32 b.min_x)) → right ≡ cell_of (to_z w32 (of_z w32 s)) (to_z w32 (of_z w32 b.max_x))
@@ -121,24 +115,16 @@ same_window b s ends columns lines scale v wide high =
 
 -- ---- the scale
 
-pub by_test : {P : Type 0} (b : Bool) → (b ≡ true → P) → (b ≡ false → P) → P
-by_test true passed failed = passed refl
-by_test false passed failed = failed refl
-
 -- a window fits exactly where it has few enough columns and lines
 pub record IsFitting (canvas : Size) (w : Window) : Type 0 where
   pub columns : w.columns ≤ canvas.columns
   pub lines : w.lines ≤ picture_lines canvas
 
 pub fitting_parts : (canvas : Size) (w : Window) → fits_on canvas w ≡ true → IsFitting canvas w
-fitting_parts canvas w test =
-    let parts = and_parts (nat_le w.columns canvas.columns) (nat_le w.lines (picture_lines canvas)) test in
-    record { columns = leb-true w.columns canvas.columns parts.0; lines = leb-true w.lines (picture_lines canvas) parts.1 }
+fitting_parts canvas w test = grind (arith, ints, and_parts, leb-true)
 
 fitting_from : (canvas : Size) (w : Window) → IsFitting canvas w → fits_on canvas w ≡ true
-fitting_from canvas w fitting =
-    and_from (nat_le w.columns canvas.columns) (nat_le w.lines (picture_lines canvas))
-    (le-leb w.columns canvas.columns fitting.columns) (le-leb w.lines (picture_lines canvas) fitting.lines)
+fitting_from canvas w fitting = grind (arith, ints, and_from, le-leb)
 
 -- at the greatest scale each window fits
 fits_at_greatest : (canvas : Size) (b : Box4) → IsSize canvas → IsBoxOfField b → fits_on canvas (window_at b greatest_coordinate) ≡ true
@@ -150,10 +136,7 @@ fits_at_greatest canvas b size box =
     let high = cell_at_greatest b.max_y (omega (arith, ints, box.rows, box.bottom)) box.top in
     let bottom = line-within (cell_of greatest_coordinate b.min_y) in
     let top = line-within (cell_of greatest_coordinate b.max_y) in
-    fitting_from canvas (window_at b greatest_coordinate) (record {
-      columns = omega (arith, ints, left.0, right.1, size.enough.wide);
-      lines = omega (arith, ints, low.0, high.1, bottom.1, top.0, size.enough.high);
-    })
+    fitting_from canvas (window_at b greatest_coordinate) (omega (arith, ints, left.0, right.1, size.enough, low.0, high.1, bottom.1, top.0))
 
 pub first-found : (canvas : Size) (b : Box4) (s : ℤ) (n : ℕ) → fits_on canvas (window_at b s) ≡ true → first_fitting canvas b s (suc n) ≡ s
 unfolding first_fitting
@@ -171,31 +154,23 @@ first-fits canvas b s zero size box last =
     let same : s ≡ greatest_coordinate = omega (arith, ints) in
     rw same (fits_at_greatest canvas b size box)
 first-fits canvas b s (suc n) size box last =
-    by_test (fits_on canvas (window_at b s))
-    (λ yes. rw (first-found canvas b s n yes) yes)
-    (λ no. rw (first-next canvas b s n no) (first-fits canvas b (s +ℤ pos 1) n size box (omega (arith, ints))))
+    cond_both (fits_on canvas (window_at b s)) s (first_fitting canvas b (s +ℤ pos 1) n) (λ first. fits_on canvas (window_at b first) ≡ true)
+    (λ yes. yes) (λ _. first-fits canvas b (s +ℤ pos 1) n size box (omega (arith, ints)))
 
 first-within : (canvas : Size) (b : Box4) (s : ℤ) (n : ℕ) → (s ≤ℤ first_fitting canvas b s n) × (first_fitting canvas b s n ≤ℤ (s +ℤ pos n))
 unfolding first_fitting
 first-within canvas b s zero = (omega (arith, ints), omega (arith, ints))
-first-within canvas b s (suc n) =
-    by_test (fits_on canvas (window_at b s))
-    (λ yes. let found = first-found canvas b s n yes in (omega (arith, ints, found), omega (arith, ints, found)))
-    (λ no.
-    let next = first-next canvas b s n no in
-    let (from, to) = first-within canvas b (s +ℤ pos 1) n in (omega (arith, ints, next, from), omega (arith, ints, next, to)))
+first-within canvas b s (suc n) = grind (arith, ints, cond_both, first-within canvas b (s +ℤ pos 1) n)
 
 first-least : (canvas : Size) (b : Box4) (s : ℤ) (n : ℕ) (t : ℤ) → s ≤ℤ t → t <ℤ first_fitting canvas b s n → fits_on canvas (window_at b t) ≡ false
 unfolding first_fitting
 first-least canvas b s zero t from to = absurd (omega (arith, ints))
 first-least canvas b s (suc n) t from to =
-    by_test (fits_on canvas (window_at b s))
-    (λ yes. absurd (omega (arith, ints, first-found canvas b s n yes)))
-    (λ no.
-    let next = rw (first-next canvas b s n no) at to in
-    by_lt_z s t
-    (λ after. first-least canvas b (s +ℤ pos 1) n t (omega (arith, ints)) next)
-    (λ here. let same : t ≡ s = omega (arith, ints) in rw same no))
+    cond_both (fits_on canvas (window_at b s)) s (first_fitting canvas b (s +ℤ pos 1) n) (λ first. t <ℤ first → fits_on canvas (window_at b t) ≡ false)
+    (λ _ before. absurd (omega (arith, ints, before)))
+    (λ no before. by_lt_z s t
+    (λ after. first-least canvas b (s +ℤ pos 1) n t (omega (arith, ints)) before)
+    (λ here. let same : t ≡ s = omega (arith, ints) in rw same no)) to
 
 pub scale-fits : (canvas : Size) (b : Box4) → IsSize canvas → IsBoxOfField b → fits_on canvas (window_at b (scale_of canvas b)) ≡ true
 unfolding scale_of
@@ -216,15 +191,7 @@ lawful_window canvas b size box =
     let scale = is_scale canvas b in
     let field = window_of_field b (scale_of canvas b) box scale.least in
     let fitting = fitting_parts canvas (window_at b (scale_of canvas b)) (scale-fits canvas b size box) in
-    record {
-      scale = scale;
-      columns = omega (arith, fitting.columns, size.columns);
-      lines = omega (arith, fitting.lines, size.rows);
-      left = field.first_column.least;
-      right = field.first_column.greatest;
-      bottom = field.first_line.least;
-      top = field.first_line.greatest;
-    }
+    omega (arith, ints, scale, field.first_column, field.first_line, fitting, size)
 
 -- the scales before this one are those at which the window does not fit
 pub record IsScaleFrom (canvas : Size) (b : Box4) (s : ℤ) : Type 0 where
@@ -241,11 +208,7 @@ more_scales s more = omega (arith, ints)
 
 pub scale_more : (canvas : Size) (b : Box4) (s : ℤ) → s <ℤ greatest_coordinate → fits_on canvas (window_at b s) ≡ false → IsScaleFrom canvas b s
     → IsScaleFrom canvas b (s +ℤ pos 1)
-scale_more canvas b s more fails so_far = record {
-  least = omega (arith, ints, so_far.least);
-  greatest = omega (arith, ints);
-  first = sym (first-next canvas b s (unsigned_abs (greatest_coordinate -ℤ (s +ℤ pos 1))) fails) ∙ rw (← more_scales s more) so_far.first;
-}
+scale_more canvas b s more fails so_far = grind (arith, ints, first-next, more_scales)
 
 pub scale_found : (canvas : Size) (b : Box4) (s : ℤ) → s <ℤ greatest_coordinate → fits_on canvas (window_at b s) ≡ true
     → IsScaleFrom canvas b s → s ≡ scale_of canvas b
@@ -262,10 +225,7 @@ few_lines canvas b size box = (fitting_parts canvas (window_at b (scale_of canva
 -- the cell that the code finds
 found_cell : (s p r : ℤ) → IsScale s → least_coordinate ≤ℤ p → p ≤ℤ last_in_field → r ≡ cell_of (to_z w32 (of_z w32 s)) (to_z w32 (of_z w32 p))
     → to_z w32 (of_z w32 r) ≡ cell_of s p
-found_cell s p r scale least greatest computed =
-    let value = cell_value s p r scale least greatest computed in
-    let field = cell_in_field s p scale.least least greatest in
-    rw value (stays (cell_of s p) field.least (omega (arith, ints, field.greatest)))
+found_cell s p r scale least greatest computed = grind (arith, ints, cell_value, cell_in_field, stays)
 
 -- the cells that the code finds of the row of a run, and of its first and last column
 pub record FoundCells : Type 0 where

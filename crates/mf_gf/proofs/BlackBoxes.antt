@@ -1,5 +1,5 @@
 -- The box of the black pixels of a picture, from the least box round its pixels of positive weight.
-use Rattle.std.proofs.Common.{◌≡◌, Bool, true, false, not, ℤ, pos, ◌+ℤ◌, ◌-ℤ◌, List, []}
+use Rattle.std.proofs.Common.{◌≡◌, Bool, true, false, not, ℤ, pos, ◌+ℤ◌, List, []}
 use Rattle.std.proofs.Common.{◌∷◌, FitsSigned, to_z, of_z, w32, refl, sym, ap, subst, ◌∙◌, arith}
 use Rattle.std.specs.Prelude.{int_lt, if◌then◌else◌}
 use Rattle.std.specs.Int.{int_max, int_min}
@@ -28,19 +28,12 @@ max_assoc : (a b c : ℤ) → int_max a (int_max b c) ≡ int_max (int_max a b) 
 max_assoc a b c = omega (arith, ints, clamps)
 
 pub join-assoc : (a b c : CharacterBox) → join a (join b c) ≡ join (join a b) c
-join-assoc a b c = λ i. record {
-  min_m = min_assoc a.min_m b.min_m c.min_m i;
-  max_m = max_assoc a.max_m b.max_m c.max_m i;
-  min_n = min_assoc a.min_n b.min_n c.min_n i;
-  max_n = max_assoc a.max_n b.max_n c.max_n i;
-}
+join-assoc a b c = grind (arith, ints, min_assoc, max_assoc)
 
 -- ---- the box of pixels is that of the least one
 
 pixel_box-character_box : (b : Box4) → pixel_box (character_box b) ≡ b
-pixel_box-character_box b =
-    let last : (b.max_x +ℤ pos 1) -ℤ pos 1 ≡ b.max_x = omega (arith, ints) in
-    ap (λ x. record { min_x = b.min_x; max_x = x; min_y = b.min_y; max_y = b.max_y }) last
+pixel_box-character_box b = grind (arith, ints)
 
 pub least_box : (d : Dot) (ds : List Dot) → IsLeastBox (d ∷ ds) (pixel_box (box_of_pixels (d ∷ ds)))
 unfolding box_of_pixels
@@ -86,11 +79,4 @@ box_fits ds b picture box =
     let sides = bounds_in_field (black ds) b (black_picture ds picture) (least_black ds b picture box) in
     let low = sides.0 in
     let high = sides.1 in
-    record {
-      left = omega (arith, ints, low.left, low.right);
-      right = omega (arith, ints, high.left, high.right);
-      behind = omega (arith, ints, high.left, high.right);
-      fits = omega (arith, ints, high.left, high.right);
-      bottom = omega (arith, ints, low.bottom, low.top);
-      top = omega (arith, ints, high.bottom, high.top);
-    }
+    omega (arith, ints, low, high)

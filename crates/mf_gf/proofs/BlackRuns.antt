@@ -16,35 +16,13 @@ use Rattle.mf_gf.proofs.DrawnRows.{IsNext, AreNext}
 next_dot : (left row column : ℤ) (d : Dot) → least_coordinate ≤ℤ left → left ≤ℤ column → row ≤ℤ last_in_field → IsDot d
     → d.weight ≡ pos 1 → left ≤ℤ d.x → place column row ≤ℤ place d.x d.y → IsNext left row column (run_from d 0)
 unfolding run_from place
-next_dot left row column d field_left column_left field_top dot one start behind =
-    let field = dot.in_field in
-    record {
-      weight = one;
-      field_left = field_left;
-      column_left = column_left;
-      start = start;
-      end = omega (arith, ints, field);
-      field_top = field_top;
-      top = omega (arith, ints, field, behind, field_left, column_left);
-      bottom = field.bottom;
-      behind = λ same. omega (arith, ints, behind, same);
-    }
+next_dot left row column d field_left column_left field_top dot one start behind = omega (arith, ints, dot)
 
 -- so is the run that this dot lengthens
 next_longer : (left row column : ℤ) (d : Dot) (r : Run) → IsNext left row column (run_from d 0)
     → IsFollowedBy (run_from d 0) r → IsNext left d.y (d.x +ℤ pos 1) r → IsNext left row column (run_from d r.len)
 unfolding run_from
-next_longer left row column d r first joined next = record {
-  weight = first.weight;
-  field_left = first.field_left;
-  column_left = first.column_left;
-  start = first.start;
-  end = omega (arith, ints, joined.column, next.end);
-  field_top = first.field_top;
-  top = first.top;
-  bottom = first.bottom;
-  behind = first.behind;
-}
+next_longer left row column d r first joined next = omega (arith, ints, first, joined, next)
 
 next_with_dot : (left row column : ℤ) (d : Dot) (rs : List Run) → IsNext left row column (run_from d 0)
     → AreNext left d.y (d.x +ℤ pos 1) rs → AreNext left row column (with_dot d rs)

@@ -1,5 +1,5 @@
 -- The weights of the black pixels of a picture: 1 where its own weight is positive, else 0.
-use Rattle.std.proofs.Common.{◌≡◌, true, ◌&&◌, ℤ, pos, ◌+ℤ◌, int_lt, if◌then◌else◌, List, [], ◌∷◌, inl, inr, refl, sym, ap₂, arith}
+use Rattle.std.proofs.Common.{◌≡◌, true, ◌&&◌, ℤ, pos, ◌+ℤ◌, int_lt, if◌then◌else◌, List, [], ◌∷◌, refl, arith}
 use Rattle.std.specs.Ordering.{int_eq}
 use Rattle.std.proofs.lemmas.Bool.{and_parts, cases_Bool}
 use Rattle.std.proofs.lemmas.Bool.Decides.{Decides-int_eq}
@@ -12,12 +12,7 @@ use Rattle.mf_gf.proofs.BlackDots.{black-from}
 -- after a dot there is no other one at the same pixel
 none_behind : (low : ℤ) (d : Dot) (ds : List Dot) (x y : ℤ) → AreDotsFrom low (d ∷ ds)
     → (int_eq d.x x && int_eq d.y y) ≡ true → weight_at (black ds) x y ≡ pos 0
-none_behind low d ds x y dots at =
-    let parts = and_parts (int_eq d.x x) (int_eq d.y y) at in
-    let column = (Decides-int_eq d.x x).0 parts.0 in
-    let row = (Decides-int_eq d.y y).0 parts.1 in
-    let same : place x y ≡ place d.x d.y = sym (ap₂ place column row) in
-    weight_at-before (place d.x d.y +ℤ pos 1) (black ds) x y (black-from (place d.x d.y +ℤ pos 1) ds dots.2) (omega (arith, ints, same))
+none_behind low d ds x y dots at = grind (arith, ints, and_parts, Decides-int_eq, weight_at-before, black-from)
 
 -- 1 where a weight is positive, else 0
 abbrev pub is_black : ℤ → ℤ
@@ -26,16 +21,4 @@ is_black w = if int_lt (pos 0) w then pos 1 else pos 0
 pub black_at : (low : ℤ) (ds : List Dot) (x y : ℤ) → AreDotsFrom low ds → weight_at (black ds) x y ≡ is_black (weight_at ds x y)
 unfolding black weight_at
 black_at low [] x y dots = refl
-black_at low (d ∷ ds) x y dots =
-    let more = black_at (place d.x d.y +ℤ pos 1) ds x y dots.2 in
-    let here = int_eq d.x x && int_eq d.y y in
-    elim (cases_Bool (int_lt (pos 0) d.weight)) [
-      | inl above ↦ rw above (elim (cases_Bool here) [
-        | inl at ↦ rw at (rw above refl)
-        | inr apart ↦ rw apart more
-      ])
-      | inr below ↦ rw below (elim (cases_Bool here) [
-        | inl at ↦ rw at (rw below (none_behind low d ds x y dots at))
-        | inr apart ↦ rw apart more
-      ])
-    ]
+black_at low (d ∷ ds) x y dots = grind (arith, ints, cases_Bool, none_behind, black_at (place d.x d.y +ℤ pos 1) ds x y dots.2)

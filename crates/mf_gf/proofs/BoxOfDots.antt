@@ -1,6 +1,6 @@
 -- The box of pixels of the field, and the bytes that begin its character, read back.
-use Rattle.std.proofs.Common.{◌≡◌, ℕ, suc, ◌-◌, ◌^◌, nat_lt, true, ◌&&◌, ℤ, pos, negsuc, ◌-ℤ◌, ◌≤ℤ◌, unsigned_abs}
-use Rattle.std.proofs.Common.{List, [], ◌∷◌, ◌++◌, ◌<◌, Some, refl, sym, ap, ap₂, ◌∙◌, arith, lt-ltb, le-ltb}
+use Rattle.std.proofs.Common.{◌≡◌, ℕ, true, ◌&&◌, ℤ, pos, negsuc, ◌-ℤ◌, ◌≤ℤ◌, unsigned_abs}
+use Rattle.std.proofs.Common.{List, [], ◌∷◌, ◌++◌, ◌<◌, Some, refl, sym, ap₂, arith}
 use Rattle.std.specs.List.{All}
 use Rattle.std.specs.Ordering.{int_eq}
 use Rattle.std.proofs.lemmas.Bool.{cond_both, cond-true, cond-false, and_parts, false≢true}
@@ -45,20 +45,12 @@ box_round_dots (d ∷ ds) picture =
 
 -- a signed number of four bytes is read back
 pub word-reads_back : (z : ℤ) (rest : List ℕ) → IsWord z → twos_complement 4 (big_number 4 (word z ++ rest)) ≡ z
-word-reads_back (pos n) rest fits =
-    let greatest = fits.greatest in
-    ap (twos_complement 4) (big_number-reads_back 4 n rest (omega (arith, ints)))
-    ∙ cond-true (nat_lt n (2 ^ 31)) _ _ (lt-ltb n (2 ^ 31) (omega (arith, ints)))
-word-reads_back (negsuc n) rest fits =
-    let least = fits.least in
-    let x = 2 ^ 32 - suc n in
-    ap (twos_complement 4) (big_number-reads_back 4 x rest (omega (arith, ints)))
-    ∙ cond-false (nat_lt x (2 ^ 31)) (pos x) (pos x -ℤ pos (2 ^ 32)) (le-ltb x (2 ^ 31) (omega (arith, ints)))
-    ∙ omega (arith, ints)
+word-reads_back (pos n) rest fits = grind (arith, ints, big_number-reads_back, cond-true)
+word-reads_back (negsuc n) rest fits = grind (arith, ints, big_number-reads_back, cond-false)
 
 -- coordinates that the field allows are such numbers
-coordinate_fits : (z : ℤ) → IsCoordinate z → IsWord z
-coordinate_fits z range = record { least = omega (arith, ints, range.least); greatest = omega (arith, ints, range.greatest) }
+pub coordinate_fits : (z : ℤ) → IsCoordinate z → IsWord z
+coordinate_fits z range = omega (arith, ints, range)
 
 byte-reads_back : (z : ℤ) → is_byte z ≡ true → pos (unsigned_abs z) ≡ z
 byte-reads_back (pos n) fits = refl
@@ -72,15 +64,7 @@ record AreReadBack (b : CharacterBox) : Type 0 where
   top : pos (unsigned_abs b.max_n) ≡ b.max_n
 
 short-reads_back : (b : CharacterBox) → is_short b ≡ true → AreReadBack b
-short-reads_back b short =
-    let width = and_parts (is_byte (b.max_m -ℤ b.min_m)) (is_byte b.max_m && (is_byte (b.max_n -ℤ b.min_n) && is_byte b.max_n)) short in
-    let right = and_parts (is_byte b.max_m) (is_byte (b.max_n -ℤ b.min_n) && is_byte b.max_n) width.1 in
-    let height = and_parts (is_byte (b.max_n -ℤ b.min_n)) (is_byte b.max_n) right.1 in
-    let columns = byte-reads_back (b.max_m -ℤ b.min_m) width.0 in
-    let last = byte-reads_back b.max_m right.0 in
-    let rows = byte-reads_back (b.max_n -ℤ b.min_n) height.0 in
-    let first = byte-reads_back b.max_n height.1 in
-    record { left = omega (arith, ints, columns, last); right = last; bottom = omega (arith, ints, rows, first); top = first }
+short-reads_back b short = grind (arith, ints, and_parts, byte-reads_back)
 
 -- the bytes that begin a character are read back
 pub head-begin : (code : ℕ) (p : ℤ) (b : CharacterBox) (rest : List ℕ) → code < code_count → IsWord p → IsBoxInRange b
@@ -100,7 +84,7 @@ head-begin code p b rest fits p_fits range =
     }))
     (λ long.
     let numbers = word b.min_m ++ word b.max_m ++ word b.min_n ++ word b.max_n ++ rest in
-    let code_is = word-reads_back (pos code) (word p ++ numbers) (record { least = omega (arith, ints); greatest = omega (arith, ints) }) in
+    let code_is = word-reads_back (pos code) (word p ++ numbers) (omega (arith, ints)) in
     let earlier_is = word-reads_back p numbers p_fits in
     let left = word-reads_back b.min_m (word b.max_m ++ word b.min_n ++ word b.max_n ++ rest) (coordinate_fits _ range.columns.0) in
     let right = word-reads_back b.max_m (word b.min_n ++ word b.max_n ++ rest) (coordinate_fits _ range.columns.1) in

@@ -1,5 +1,5 @@
 -- The ends of the box of a picture are coordinates that the field allows.
-use Rattle.std.proofs.Common.{◌≡◌, pos, List, [], ◌∷◌, sym, ap, subst, ◌∙◌, arith}
+use Rattle.std.proofs.Common.{◌≡◌, List, [], ◌∷◌, sym, ap, subst, ◌∙◌, arith}
 use Rattle.std.specs.List.{flat_map}
 use Rattle.std.proofs.lemmas.Int.{ints}
 use Rattle.mf_geom.specs.Coordinates.{IsCoordinate}
@@ -20,29 +20,16 @@ pub record IsBoxInRange (b : CharacterBox) : Type 0 where
 
 pub box_in_range : (ds : List Dot) → IsPicture ds → IsBoxInRange (box_of_pixels ds)
 unfolding box_of_pixels
-box_in_range [] picture =
-    let zero : IsCoordinate (pos 0) = record { least = omega (arith, ints); greatest = omega (arith, ints) } in
-    record { columns = (zero, zero); rows = (zero, zero) }
-box_in_range (d ∷ ds) picture =
-    let box = least_box_of_field (d ∷ ds) (box_of_dots d ds) picture (least_box_of_dots d ds) in
-    record {
-      columns = (
-        record { least = box.left; greatest = omega (arith, ints, box) },
-        record { least = omega (arith, ints, box); greatest = omega (arith, ints, box) },
-      );
-      rows = (
-        record { least = box.bottom; greatest = omega (arith, ints, box) },
-        record { least = omega (arith, ints, box); greatest = omega (arith, ints, box) },
-      );
-    }
+box_in_range [] picture = omega (arith, ints)
+box_in_range (d ∷ ds) picture = omega (arith, ints, least_box_of_field (d ∷ ds) (box_of_dots d ds) picture (least_box_of_dots d ds))
 
 -- where the stretches of these dots are those ahead of an iterator, the dots are a picture
 picture_ahead : (s : Stretches) (ds : List Dot) → AreBlackRuns (black_runs_ahead s) → stretches_ahead s ≡ runs_of ds → IsPicture ds
-picture_ahead s ds black_runs ahead =
+picture_ahead s ds blacks ahead =
     let dots = flat_map dots_of (black_runs_ahead s) in
     let same : dots ≡ ds = sym (dots_of-runs_of dots) ∙ ap (flat_map dots_of) ahead ∙ dots_of-runs_of ds in
-    subst IsPicture same (picture-runs (black_runs_ahead s) black_runs.order)
+    subst IsPicture same (picture-runs (black_runs_ahead s) blacks.order)
 
 pub bounds_in_range : (s : Stretches) (ds : List Dot) (b : CharacterBox) → b ≡ box_of_pixels ds → AreBlackRuns (black_runs_ahead s)
     → stretches_ahead s ≡ runs_of ds → IsBoxInRange b
-bounds_in_range s ds b bounds black_runs ahead = subst IsBoxInRange (sym bounds) (box_in_range ds (picture_ahead s ds black_runs ahead))
+bounds_in_range s ds b bounds blacks ahead = subst IsBoxInRange (sym bounds) (box_in_range ds (picture_ahead s ds blacks ahead))

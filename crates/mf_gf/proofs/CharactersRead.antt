@@ -1,5 +1,5 @@
 -- The characters of a file, read back from p to p.
-use Rattle.std.proofs.Common.{◌≡◌, ◌<◌, ◌≤◌, ◌==◌, ◌||◌, ℕ, Bool, true, false, ℤ, pos, if◌then◌else◌, List, [], ◌∷◌, ◌++◌, map, reverse, length, take}
+use Rattle.std.proofs.Common.{◌≡◌, ◌<◌, ◌≤◌, ◌==◌, ◌||◌, ℕ, Bool, false, ℤ, pos, if◌then◌else◌, List, [], ◌∷◌, ◌++◌, map, reverse, length, take}
 use Rattle.std.proofs.Common.{drop, Some, option_map, is_some, refl, ap, sym, subst, ◌∙◌, append_assoc, append-nil, length-append, eqb-true, arith}
 use Rattle.std.specs.List.{All, filter, list_any}
 use Rattle.std.proofs.Math.Seq.{drop-append_seam, take-append_seam}
@@ -76,12 +76,7 @@ all_before bytes more (s ∷ shipped) stand = (stands_before bytes more s _ stan
 
 one_stands : (f : FileSoFar) (c : Character) → IsShippable c
     → StandsAt (f.bytes ++ spell_after f c) (shipment_after f.bytes c) (pointer (last_place c.code f.shipped))
-one_stands f c shippable = record {
-  shippable = shippable;
-  before = let both = length-append f.bytes (spell_after f c) in omega (arith, both);
-  rest = [];
-  there = drop-append_seam f.bytes (spell_after f c) ∙ sym (append-nil (spell_after f c));
-}
+one_stands f c shippable = grind (arith, ints, length-append, drop-append_seam, append-nil)
 
 stand_from : (f : FileSoFar) (cs : List Character) → All IsShippable cs → AllStand f.bytes f.shipped
     → AllStand (with_characters f cs).bytes (with_characters f cs).shipped
@@ -112,11 +107,8 @@ last_stands bytes code s (t ∷ shipped) stand is =
 pointer_fits : (bytes : List ℕ) (code : ℕ) (shipped : List Shipment) → length bytes ≤ greatest_word
     → AllStand bytes shipped → IsWord (pointer (last_place code shipped))
 unfolding last_shipment
-pointer_fits bytes code [] short stand = record { least = omega (arith, ints); greatest = omega (arith, ints) }
-pointer_fits bytes code (s ∷ shipped) short stand =
-    split (λ test. IsWord (pointer (option_map (λ (it : Shipment). it.place) (if test then Some s else last_shipment code shipped)))) (s.character.code == code)
-    (λ yes. let before = stand.0.before in record { least = omega (arith, ints); greatest = omega (arith, ints, before, short) })
-    (λ no. pointer_fits bytes code shipped short stand.1)
+pointer_fits bytes code [] short stand = omega (arith, ints)
+pointer_fits bytes code (s ∷ shipped) short stand = grind (arith, ints, split, pointer_fits bytes code shipped short stand.1)
 
 -- ---- from one to the next
 
@@ -171,10 +163,7 @@ last_is_first code s (t ∷ shipped) is =
 characters_with : (f : FileSoFar) (cs : List Character) → map character_of (with_characters f cs).shipped ≡ reverse cs ++ map character_of f.shipped
 unfolding with_characters
 characters_with f [] = refl
-characters_with f (c ∷ cs) =
-    characters_with (with_character f c) cs
-    ∙ sym (append_assoc (reverse cs) (c ∷ []) (map character_of f.shipped))
-    ∙ ap (λ back. back ++ map character_of f.shipped) (sym (reverse-cons c cs))
+characters_with f (c ∷ cs) = grind (arith, ints, append_assoc, reverse-cons, characters_with (with_character f c) cs)
 
 pub characters_shipped : (comment : List ℕ) (cs : List Character) → map character_of (shipments comment cs) ≡ reverse cs
 characters_shipped comment cs = characters_with _ cs ∙ append-nil (reverse cs)
@@ -187,28 +176,19 @@ has_last code shipped = is_some (last_shipment code shipped)
 
 has_last-cons : (code : ℕ) (s : Shipment) (shipped : List Shipment) → has_last code (s ∷ shipped) ≡ ((s.character.code == code) || has_last code shipped)
 unfolding last_shipment
-has_last-cons code s shipped =
-    split (λ test. is_some (if test then Some s else last_shipment code shipped) ≡ (test || has_last code shipped))
-    (s.character.code == code) (λ yes. refl) (λ no. refl)
+has_last-cons code s shipped = grind (arith, ints, split)
 
 or_swap : (a b c : Bool) → ((a || b) || c) ≡ (b || (a || c))
-or_swap true true c = refl
-or_swap true false c = refl
-or_swap false true c = refl
-or_swap false false c = refl
+or_swap a b c = grind arith
 
 or_none : (a : Bool) → a ≡ (a || false)
-or_none true = refl
-or_none false = refl
+or_none a = grind arith
 
 has_last-with : (code : ℕ) (f : FileSoFar) (cs : List Character)
     → has_last code (with_characters f cs).shipped ≡ (has_last code f.shipped || list_any (λ (c : Character). c.code == code) cs)
 unfolding with_characters
 has_last-with code f [] = or_none (has_last code f.shipped)
-has_last-with code f (c ∷ cs) =
-    has_last-with code (with_character f c) cs
-    ∙ ap (λ test. test || list_any (λ (d : Character). d.code == code) cs) (has_last-cons code (shipment_after f.bytes c) f.shipped)
-    ∙ or_swap (c.code == code) (has_last code f.shipped) (list_any (λ (d : Character). d.code == code) cs)
+has_last-with code f (c ∷ cs) = grind (arith, ints, has_last-cons, shipment_after, or_swap, has_last-with code (with_character f c) cs)
 
 pub has_last-shipped : (code : ℕ) (comment : List ℕ) (cs : List Character)
     → has_last code (shipments comment cs) ≡ list_any (λ (c : Character). c.code == code) cs

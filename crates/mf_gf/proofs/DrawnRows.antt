@@ -1,9 +1,8 @@
 -- The pixels that stretches of black pixels, painted one after another, make black.
-use Rattle.std.proofs.Common.{◌≡◌, ℕ, ◌+◌, ◌-◌, ◌≤◌, nat_le, ◌==◌, ◌&&◌, true, false, if◌then◌else◌, ℤ, pos, ◌+ℤ◌, ◌-ℤ◌}
-use Rattle.std.proofs.Common.{◌≤ℤ◌, List, [], ◌∷◌, ◌++◌, Some, option_map, refl, sym, ap, ◌∙◌, append_assoc, arith}
+use Rattle.std.proofs.Common.{◌≡◌, ℕ, ◌+◌, ◌-◌, ◌≤◌, true, false, ℤ, pos, ◌+ℤ◌, ◌-ℤ◌}
+use Rattle.std.proofs.Common.{◌≤ℤ◌, List, [], ◌∷◌, ◌++◌, Some, refl, sym, ap, ◌∙◌, append_assoc, arith}
 use Rattle.std.specs.List.{flat_map}
-use Rattle.std.specs.Ordering.{int_eq}
-use Rattle.std.proofs.lemmas.Bool.{cond_both, and_parts, leb-true, eqb-true, false≢true}
+use Rattle.std.proofs.lemmas.Bool.{cond_both, and_parts, leb-true, eqb-true}
 use Rattle.std.proofs.lemmas.Bool.Decides.{Decides-int_eq}
 use Rattle.std.proofs.lemmas.Int.{ints}
 use Rattle.mf_geom.specs.Coordinates.{least_coordinate, greatest_coordinate, last_in_field}
@@ -11,7 +10,7 @@ use Rattle.mf_rows.specs.declared.run.Run.{Run}
 use Rattle.mf_rows.specs.Dots.{Dot}
 use Rattle.mf_rows.specs.Runs.{dots_of}
 use Rattle.mf_gf.specs.Format as gf
-use Rattle.mf_gf.specs.Painting.{Stroke, Paint, Skip, NewRow, Machine, pixels_of_strokes, machine_at, pixels_from}
+use Rattle.mf_gf.specs.Painting.{Stroke, Paint, Skip, NewRow, Machine, pixels_of_strokes, pixels_from}
 use Rattle.mf_gf.specs.Spelling.{paint, skip, new_row, distance, approach, stretches_text}
 use Rattle.mf_gf.proofs.ReadBack.{Spells, spells_none, spells_one, spells_both, strokes-spelled, writes_paint, writes_skip, writes_new_row}
 
@@ -89,17 +88,7 @@ in_lower_row left row column r next other =
     }
 
 approaches : (left row column : ℤ) (r : Run) → IsNext left row column r → Approaches (white_at left row column) r (approach left row column r)
-approaches left row column r next =
-    let near = distance row r.y == 1 && nat_le (distance r.x left) gf.most_new_row in
-    let Fits = Approaches (white_at left row column) r in
-    let lower = skip (distance row r.y - 1) ++ paint (distance r.x left) in
-    cond_both (int_eq r.y row) (paint (distance r.x column)) (if near then new_row (distance r.x left) else lower) Fits
-    (λ yes. in_row left row column r next ((Decides-int_eq r.y row).0 yes))
-    (λ no.
-    cond_both near (new_row (distance r.x left)) lower Fits
-    (λ yes. let tests = and_parts (distance row r.y == 1) (nat_le (distance r.x left) gf.most_new_row) yes in in_next_row left row column r next
-    (eqb-true (distance row r.y) 1 tests.0) (leb-true (distance r.x left) gf.most_new_row tests.1))
-    (λ far. in_lower_row left row column r next (λ same. false≢true (sym no ∙ (Decides-int_eq r.y row).1 same))))
+approaches left row column r next = grind (arith, ints, cond_both, in_row, Decides-int_eq, and_parts, in_next_row, eqb-true, leb-true, in_lower_row)
 
 -- bytes by which the machine makes these pixels black
 record Draws (machine : Machine) (bytes : List ℕ) (ds : List Dot) : Type 0 where
@@ -125,7 +114,4 @@ draws_rows left row column (r ∷ rs) next =
 -- the same, starting at the top left corner of a box
 pub pixels_from-rows : (left top : ℤ) (rs : List Run) → AreNext left top left rs
     → pixels_from left top (stretches_text left top left rs ++ gf.eoc ∷ []) ≡ Some (flat_map dots_of rs)
-pixels_from-rows left top rs next =
-    let all = draws_rows left top left rs next in
-    ap (option_map (pixels_of_strokes (machine_at left top))) (strokes-spelled (stretches_text left top left rs) all.commands all.spelled)
-    ∙ ap (λ ds. Some ds) all.drawn
+pixels_from-rows left top rs next = grind (arith, ints, draws_rows, strokes-spelled)

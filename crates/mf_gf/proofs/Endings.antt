@@ -1,5 +1,6 @@
 -- The ending of a file. Its padding is known only where there is room for what comes before it.
 use Rattle.std.proofs.Common.{◌≡◌, ℕ, ◌+◌, ◌<◌, List, [], ◌∷◌, ◌++◌, length, take, pos, subst, ◌∙◌, ⊎_elim, arith, length-append}
+use Rattle.std.proofs.lemmas.Int.{ints}
 use Rattle.std.specs.Prelude.{replicate}
 use Rattle.std.proofs.lemmas.Bool.{cases_lt}
 use Rattle.std.proofs.lemmas.List.{take-replicate}
@@ -12,11 +13,7 @@ use Rattle.mf_gf.proofs.Writing.{Writes, write_both, write_same}
 
 -- of texts for which there is no room, only that much is known
 pub holds_beyond : (s : Spelling) (text other : List ℕ) → s.room < length text → s.room < length other → Holds s text → Holds s other
-holds_beyond s text other long other_long held = record {
-  counted = λ fits. absurd (omega arith);
-  beyond = λ _. held.beyond long;
-  kept = λ _ fits. absurd (omega arith);
-}
+holds_beyond s text other long other_long held = grind (arith, ints)
 
 module _ (before opened placed named after : Spelling) (place written : ℕ) where
   whole_ending : Writes before opened (gf.post_post ∷ []) → Writes opened placed (word (pos place)) → Writes placed named (gf.id_byte ∷ [])

@@ -7,7 +7,7 @@ use Rattle.mf_rows.proofs.BoxesJoined.{either_max, either_min}
 use Rattle.mf_gf.specs.declared.boxes.CharacterBox.{CharacterBox}
 use Rattle.mf_gf.specs.Boxes.{join}
 use Rattle.mf_gf.specs.Files.{Character, box_of_all}
-use Rattle.mf_gf.specs.FontNumbers.{IsLeastAround, IsWithin, box_of}
+use Rattle.mf_gf.specs.FontNumbers.{IsLeastAround, IsWithin, box_of_character}
 use Rattle.mf_gf.specs.Numbers.{IsWord}
 use Rattle.mf_gf.specs.Pointers.{IsShippable}
 use Rattle.mf_gf.proofs.BoxesInRange.{box_in_range}
@@ -20,29 +20,20 @@ pub record FitsWords (b : CharacterBox) : Type 0 where
   pub bottom : IsWord b.min_n
   pub top : IsWord b.max_n
 
-box_fits : (c : Character) → IsShippable c → FitsWords (box_of c)
+box_fits : (c : Character) → IsShippable c → FitsWords (box_of_character c)
 box_fits c shippable =
     let range = box_in_range c.black shippable.black.picture in
-    record {
-      left = record { least = omega (arith, ints, range.columns.0.least); greatest = omega (arith, ints, range.columns.0.greatest) };
-      right = record { least = omega (arith, ints, range.columns.1.least); greatest = omega (arith, ints, range.columns.1.greatest) };
-      bottom = record { least = omega (arith, ints, range.rows.0.least); greatest = omega (arith, ints, range.rows.0.greatest) };
-      top = record { least = omega (arith, ints, range.rows.1.least); greatest = omega (arith, ints, range.rows.1.greatest) };
-    }
+    omega (arith, ints, range.columns.0, range.columns.1, range.rows.0, range.rows.1)
 
 join_fits : (a b : CharacterBox) → FitsWords a → FitsWords b → FitsWords (join a b)
-join_fits a b first second = record {
-  left = either_min IsWord a.min_m b.min_m first.left second.left;
-  right = either_max IsWord a.max_m b.max_m first.right second.right;
-  bottom = either_min IsWord a.min_n b.min_n first.bottom second.bottom;
-  top = either_max IsWord a.max_n b.max_n first.top second.top;
-}
+join_fits a b first second = grind (arith, ints, either_min, either_max)
 
 pub all_fit : (c : Character) (cs : List Character) → All IsShippable (c ∷ cs) → FitsWords (box_of_all (c ∷ cs))
 unfolding box_of_all
 all_fit c [] each = box_fits c (All-head IsShippable c [] each)
 all_fit c (d ∷ cs) each =
-    join_fits (box_of c) (box_of_all (d ∷ cs)) (box_fits c (All-head IsShippable c (d ∷ cs) each)) (all_fit d cs (All-tail IsShippable c (d ∷ cs) each))
+    join_fits (box_of_character c) (box_of_all (d ∷ cs)) (box_fits c (All-head IsShippable c (d ∷ cs) each))
+    (all_fit d cs (All-tail IsShippable c (d ∷ cs) each))
 
 -- ---- it is the least one around the boxes
 
@@ -55,54 +46,35 @@ any_first : (P : Character → Type 0) (c : Character) (cs : List Character) →
 any_first P c cs this = (0, c, omega arith, refl, this)
 
 within_itself : (b : CharacterBox) → IsWithin b b
-within_itself b = record { left = omega (arith, ints); right = omega (arith, ints); bottom = omega (arith, ints); top = omega (arith, ints) }
+within_itself b = omega (arith, ints)
 
 within_first : (a b : CharacterBox) → IsWithin (join a b) a
-within_first a b = record {
-  left = omega (arith, ints, clamps);
-  right = omega (arith, ints, clamps);
-  bottom = omega (arith, ints, clamps);
-  top = omega (arith, ints, clamps);
-}
+within_first a b = omega (arith, ints, clamps)
 
 within_second : (a b inner : CharacterBox) → IsWithin b inner → IsWithin (join a b) inner
-within_second a b inner inside = record {
-  left = omega (arith, ints, clamps, inside.left);
-  right = omega (arith, ints, clamps, inside.right);
-  bottom = omega (arith, ints, clamps, inside.bottom);
-  top = omega (arith, ints, clamps, inside.top);
-}
+within_second a b inner inside = omega (arith, ints, clamps, inside)
 
-least_of_more : (c : Character) (cs : List Character) (b : CharacterBox) → IsLeastAround cs b → IsLeastAround (c ∷ cs) (join (box_of c) b)
+least_of_more : (c : Character) (cs : List Character) (b : CharacterBox) → IsLeastAround cs b → IsLeastAround (c ∷ cs) (join (box_of_character c) b)
 least_of_more c cs b least =
-    let own = box_of c in
+    let own = box_of_character c in
     let all = c ∷ cs in
-    let At = λ (side : CharacterBox → ℤ) (at : ℤ) (d : Character). side (box_of d) ≡ at in
+    let At = λ (side : CharacterBox → ℤ) (at : ℤ) (d : Character). side (box_of_character d) ≡ at in
     let min_m = At (λ it. it.min_m) in
     let max_m = At (λ it. it.max_m) in
     let min_n = At (λ it. it.min_n) in
     let max_n = At (λ it. it.max_n) in
     record {
-      within = All-cons (λ (d : Character). IsWithin (join own b) (box_of d)) c cs (within_first own b)
-          (All-weaker (λ (d : Character). IsWithin b (box_of d)) (λ (d : Character). IsWithin (join own b) (box_of d))
-          (λ d. within_second own b (box_of d)) cs least.within);
+      within = All-cons (λ (d : Character). IsWithin (join own b) (box_of_character d)) c cs (within_first own b)
+          (All-weaker (λ (d : Character). IsWithin b (box_of_character d)) (λ (d : Character). IsWithin (join own b) (box_of_character d))
+          (λ d. within_second own b (box_of_character d)) cs least.within);
       left = either_min (λ m. Any (min_m m) all) own.min_m b.min_m (any_first (min_m own.min_m) c cs refl) (any_later (min_m b.min_m) c cs least.left);
       right = either_max (λ m. Any (max_m m) all) own.max_m b.max_m (any_first (max_m own.max_m) c cs refl) (any_later (max_m b.max_m) c cs least.right);
       bottom = either_min (λ n. Any (min_n n) all) own.min_n b.min_n (any_first (min_n own.min_n) c cs refl) (any_later (min_n b.min_n) c cs least.bottom);
       top = either_max (λ n. Any (max_n n) all) own.max_n b.max_n (any_first (max_n own.max_n) c cs refl) (any_later (max_n b.max_n) c cs least.top);
     }
 
-least_of_one : (c : Character) → IsLeastAround (c ∷ []) (box_of c)
-least_of_one c =
-    let b = box_of c in
-    let Inside = λ (d : Character). IsWithin b (box_of d) in
-    record {
-      within = All-cons Inside c [] (within_itself b) (All-nil Inside);
-      left = any_first (λ d. (box_of d).min_m ≡ b.min_m) c [] refl;
-      right = any_first (λ d. (box_of d).max_m ≡ b.max_m) c [] refl;
-      bottom = any_first (λ d. (box_of d).min_n ≡ b.min_n) c [] refl;
-      top = any_first (λ d. (box_of d).max_n ≡ b.max_n) c [] refl;
-    }
+least_of_one : (c : Character) → IsLeastAround (c ∷ []) (box_of_character c)
+least_of_one c = grind (arith, ints, All-cons, within_itself, All-nil, any_first)
 
 pub least_of_all : (c : Character) (cs : List Character) → IsLeastAround (c ∷ cs) (box_of_all (c ∷ cs))
 unfolding box_of_all

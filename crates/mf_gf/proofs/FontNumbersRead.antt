@@ -1,6 +1,8 @@
 -- The comment of a file and the numbers of its post, read back.
-use Rattle.std.proofs.Common.{◌≡◌, ◌+◌, ◌-◌, ◌≤◌, ◌==◌, ℕ, ℤ, List, [], ◌∷◌, ◌++◌, length, drop, slice_index, Option, None, Some}
+use Rattle.std.proofs.Common.{◌≡◌, ◌-◌, ◌≤◌, ◌==◌, ℕ, ℤ, List, [], ◌∷◌, ◌++◌, length, drop, slice_index, None, Some}
 use Rattle.std.proofs.Common.{refl, ap, sym, ◌∙◌, append_assoc, append-nil, length-append, eq-eqb, arith}
+use Rattle.std.proofs.lemmas.Int.{ints}
+use Rattle.std.specs.Option.{option_and_then}
 use Rattle.std.proofs.Math.Seq.{drop-append_seam, get_or-append_seam, take-append_seam}
 use Rattle.std.proofs.lemmas.Bool.{cond-true}
 use Rattle.byteorder.specs.Numbers.{big_number-reads_back}
@@ -9,16 +11,14 @@ use Rattle.mf_rows.specs.Runs.{runs_of}
 use Rattle.mf_gf.specs.declared.boxes.CharacterBox.{CharacterBox}
 use Rattle.mf_gf.specs.declared.file.FontWords.{FontWords}
 use Rattle.mf_gf.specs.Boxes.{box_of_pixels}
-use Rattle.mf_gf.specs.Files.{Character, FileSoFar, body, box_of_all, bytes_so_far, ending, file_of}
-use Rattle.mf_gf.specs.Files.{last_place, locators_from, padding, post_text, preamble, shipments, spell_after, with_character, with_characters}
-use Rattle.mf_gf.specs.FontNumbers.{IsAfterEoc, Post, comment_of, greatest_unsigned, post_at, post_of, read_post}
-use Rattle.mf_gf.specs.Format as gf
-use Rattle.mf_gf.specs.Numbers.{IsWord, code_count, greatest_word}
-use Rattle.mf_gf.specs.Pointers.{post_place}
+use Rattle.mf_gf.specs.Files.{Character, FileSoFar, box_of_all, bytes_so_far, file_of}
+use Rattle.mf_gf.specs.Files.{last_place, post_text, preamble, shipments, with_character, with_characters}
+use Rattle.mf_gf.specs.FontNumbers.{IsAfterEoc, comment_of, greatest_unsigned, post_at, post_of, read_post}
+use Rattle.mf_gf.specs.Numbers.{IsWord, greatest_word}
 use Rattle.mf_gf.specs.Spelling.{begin, pointer, spell, stretches_text}
 use Rattle.mf_gf.proofs.BoxOfDots.{word-reads_back}
-use Rattle.mf_gf.proofs.PostFound.{place_found}
-use Rattle.mf_gf.proofs.Shipped.{bytes_so_far-more, file-begins}
+use Rattle.mf_gf.proofs.PostFound.{post_is_found}
+use Rattle.mf_gf.proofs.Shipped.{bytes_after_post, bytes_so_far-more, file-begins, file_of-parts}
 use Rattle.mf_gf.proofs.FontBoxes.{FitsWords}
 
 -- ---- the comment
@@ -26,9 +26,7 @@ use Rattle.mf_gf.proofs.FontBoxes.{FitsWords}
 characters-come_after : (f : FileSoFar) (cs : List Character) → (rest : List ℕ) × ((with_characters f cs).bytes ≡ f.bytes ++ rest)
 unfolding with_characters
 characters-come_after f [] = ([], sym (append-nil f.bytes))
-characters-come_after f (c ∷ cs) =
-    let others = characters-come_after (with_character f c) cs in
-    (spell_after f c ++ others.0, others.1 ∙ append_assoc f.bytes (spell_after f c) others.0)
+characters-come_after f (c ∷ cs) = grind (arith, ints, append_assoc, characters-come_after (with_character f c) cs)
 
 comment-reads : (comment rest : List ℕ) → comment_of (preamble comment ++ rest) ≡ Some comment
 unfolding comment_of
@@ -43,46 +41,22 @@ comment-found words comment cs =
 
 -- ---- post
 
-abbrev post_from : List ℕ → Option ℕ → Option Post
-post_from file found = elim found [
-  | None ↦ None
-  | Some place ↦ post_at place file
-]
-
 module _ (words : FontWords) (comment : List ℕ) (cs : List Character) where
-  abbrev pub place : ℕ
-  place = length (bytes_so_far comment cs)
+  -- the bytes of post, and those after it
+  abbrev pub all_bytes : List ℕ
+  all_bytes = post_text words (box_of_all cs) (length (bytes_so_far comment cs)) ++ bytes_after_post words comment cs
 
-  -- the bytes of post
-  abbrev pub numbers : List ℕ
-  numbers = post_text words (box_of_all cs) (length (bytes_so_far comment cs))
-
-  -- the bytes after it
-  abbrev pub others : List ℕ
-  others = locators_from 0 code_count (shipments comment cs) ++ ending (length (bytes_so_far comment cs)) (length (body words comment cs))
-
-  whole : file_of words comment cs ≡ bytes_so_far comment cs ++ (numbers ++ others)
-  unfolding file_of
-  whole =
-      let characters = bytes_so_far comment cs in
-      let locators = locators_from 0 code_count (shipments comment cs) in
-      let last = ending place (length (body words comment cs)) in
-      append_assoc (characters ++ numbers) locators last ∙ append_assoc characters numbers (locators ++ last)
-
-  pub place-found : place ≤ greatest_word → post_place (file_of words comment cs) ≡ Some place
-  unfolding file_of
-  place-found short = place_found (body words comment cs) place (padding (length (body words comment cs) + gf.ending_size)) short
-
-  pub post-found : place ≤ greatest_word → post_of (file_of words comment cs) ≡ Some (read_post (numbers ++ others))
+  pub post-found : length (bytes_so_far comment cs) ≤ greatest_word → post_of (file_of words comment cs) ≡ Some (read_post all_bytes)
   unfolding post_of
   post-found short =
       let characters = bytes_so_far comment cs in
+      let place = length characters in
       let file = file_of words comment cs in
+      let whole = file_of-parts words comment cs in
       let opcode : slice_index file place ≡ 248 = ap (λ bytes. slice_index bytes place) whole ∙ get_or-append_seam characters 248 _ 0 in
-      ap (post_from file) (place-found short)
+      ap (option_and_then (λ at. post_at at file)) (post_is_found words comment cs short)
       ∙ cond-true (slice_index file place == 248) (Some (read_post (drop place file))) None (eq-eqb _ _ opcode)
-      ∙ ap (λ bytes. Some (read_post (drop place bytes))) whole
-      ∙ ap (λ bytes. Some (read_post bytes)) (drop-append_seam characters (numbers ++ others))
+      ∙ ap (λ bytes. Some (read_post bytes)) (ap (drop place) whole ∙ drop-append_seam characters all_bytes)
 
 -- ---- its numbers
 

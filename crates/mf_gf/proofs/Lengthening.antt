@@ -11,20 +11,20 @@ use Rattle.mf_rows.specs.Runs.{equal_dots, dots_of, run_from, runs_of, with_next
 use Rattle.mf_rows.proofs.MaximalRuns.{runs_of-dots_of}
 use Rattle.mf_rows.proofs.PassedRuns.{lawful_runs_of}
 use Rattle.mf_rows.proofs.RunDots.{picture-runs, runs-rest}
-use Rattle.mf_rows.proofs.RunsLemmas.{dots_of-runs_of, maximal_runs_of, runs_of-first, with_next-some}
+use Rattle.mf_rows.proofs.RunsLemmas.{dots_of-runs_of, maximal_runs_of, runs_of-first}
 use Rattle.mf_gf.specs.Ahead.{AreBlackRuns}
 use Rattle.mf_gf.proofs.BlackDots.{IsBlack}
 
 -- ---- runs in order
 
-pub black_runs-rest : (r : Run) (rs : List Run) → AreBlackRuns (r ∷ rs) → AreBlackRuns rs
-black_runs-rest r rs black_runs = record { order = runs-rest r rs black_runs.order; ones = All-tail IsBlack r rs black_runs.ones }
+blacks-rest : (r : Run) (rs : List Run) → AreBlackRuns (r ∷ rs) → AreBlackRuns rs
+blacks-rest r rs blacks = record { order = runs-rest r rs blacks.order; ones = All-tail IsBlack r rs blacks.ones }
 
 -- ---- a stretch so far
 
 -- a stretch and the runs ahead together have the dots of all these runs
 pub record IsBegun (all : List Run) (r : Run) (rs : List Run) : Type 0 where
-  pub black_runs : AreBlackRuns (r ∷ rs)
+  pub blacks : AreBlackRuns (r ∷ rs)
   pub same : flat_map dots_of (r ∷ rs) ≡ flat_map dots_of all
 
 -- two stretches side by side are one
@@ -52,15 +52,7 @@ unfolding dots_of
 dots_of-joined r s weight next = rw (weight, next.row, next.column) (equal_dots-joined r.y r.x s.weight r.len s.len)
 
 lengthened_run : (r s : Run) → IsRun r → IsRun s → IsAdjacent r s → IsRun (with_more r s)
-lengthened_run r s run further next = record {
-  some = omega (arith, run.some);
-  left = run.left;
-  right = omega (arith, ints, further.right, next.column);
-  bottom = run.bottom;
-  top = run.top;
-  lawful = run.lawful;
-  nonzero = run.nonzero;
-}
+lengthened_run r s run further next = omega (arith, ints, run, further, next)
 
 -- such a run lengthens the stretch
 pub lengthened : (all : List Run) (r s : Run) (rs : List Run) → IsAdjacent r s → IsBegun all r (s ∷ rs) → IsBegun all (with_more r s) rs
@@ -96,19 +88,13 @@ stretch_first all r rs maximal so_far =
 
 maximal_before : (r : Run) (d : Dot) (ds : List Dot) → (IsFollowedBy r (run_from d 0) → ⊥) → AreMaximal (r ∷ runs_of (d ∷ ds))
 unfolding run_from
-maximal_before r d ds apart =
-    rw (runs_of-first d ds) (
-      (λ followed. apart (record { row = followed.row; column = followed.column; weight = followed.weight })),
-      rw (runs_of-first d ds) at (maximal_runs_of (d ∷ ds)),
-    )
+maximal_before r d ds apart = grind (arith, ints, runs_of-first, maximal_runs_of)
 
 maximal_apart : (r : Run) (y x w : ℤ) (n : ℕ) (ds : List Dot) → 1 ≤ n → (IsFollowedBy r (record { y = y; x = x; len = n; weight = w }) → ⊥)
     → AreMaximal (r ∷ runs_of (equal_dots y x w n ++ ds))
 unfolding equal_dots run_from
 maximal_apart r y x w zero ds some apart = absurd (omega arith)
-maximal_apart r y x w (suc n) ds some apart =
-    maximal_before r (record { y = y; x = x; weight = w }) (equal_dots y (x +ℤ pos 1) w n ++ ds)
-    (λ followed. apart (record { row = followed.row; column = followed.column; weight = followed.weight }))
+maximal_apart r y x w (suc n) ds some apart = grind (arith, ints, maximal_before)
 
 ended_before : (all : List Run) (r s : Run) (rs : List Run) → (IsAdjacent r s → ⊥) → IsBegun all r (s ∷ rs)
     → runs_of (flat_map dots_of all) ≡ r ∷ runs_of (flat_map dots_of (s ∷ rs))
@@ -121,33 +107,32 @@ ended_before all r s rs apart so_far =
 
 -- ---- a stretch before the next black run of an iterator
 
-pub begun_before : (all : List Run) (r : Run) (o : Option Run) (rs others : List Run) → rs ≡ with_next o others → IsBegun all r rs
-    → IsBegun all r (with_next o others)
-begun_before all r o rs others ahead so_far = subst (IsBegun all r) ahead so_far
+module _ (all : List Run) (r : Run) (o : Option Run) (rs others : List Run) (ahead : rs ≡ with_next o others) (begun : IsBegun all r rs) where
+  so_far : IsBegun all r (with_next o others)
+  so_far = subst (IsBegun all r) ahead begun
 
-pub next_is_run : (all : List Run) (r s : Run) (o : Option Run) (rs : List Run) → o ≡ Some s → IsBegun all r (with_next o rs) → IsRun s
-next_is_run all r s o rs some so_far = (subst (IsBegun all r) (with_next-some o s rs some) so_far).blacks.order.runs.2.0
+  before_run : (s : Run) → o ≡ Some s → IsBegun all r (s ∷ others)
+  before_run s some = subst (λ next. IsBegun all r (with_next next others)) some so_far
 
-pub first_is_run : (all : List Run) (r : Run) (rs : List Run) → IsBegun all r rs → IsRun r
-first_is_run all r rs so_far = so_far.blacks.order.runs.0
+  pub order_ahead : AreBlackRuns (with_next o others)
+  order_ahead = blacks-rest r (with_next o others) so_far.blacks
 
-pub one_more_joined : (all : List Run) (r s : Run) (o : Option Run) (rs : List Run) → o ≡ Some s → IsAdjacent r s
-    → IsBegun all r (with_next o rs) → IsBegun all (with_more r s) rs
-one_more_joined all r s o rs some next so_far = lengthened all r s rs next (subst (IsBegun all r) (with_next-some o s rs some) so_far)
+  pub both_are_runs : (s : Run) → o ≡ Some s → IsRun r × IsRun s
+  both_are_runs s some =
+      let runs = (before_run s some).blacks.order.runs in
+      (runs.0, runs.2.0)
 
--- the stretch ends where the next run does not continue it
-pub ended_at_run : (all : List Run) (r s : Run) (o : Option Run) (rs : List Run) → o ≡ Some s → (IsAdjacent r s → ⊥) → IsBegun all r (with_next o rs)
-    → runs_of (flat_map dots_of all) ≡ r ∷ runs_of (flat_map dots_of (with_next o rs))
-ended_at_run all r s o rs some apart so_far =
-    let first = with_next-some o s rs some in
-    rw first (ended_before all r s rs apart (subst (IsBegun all r) first so_far))
+  pub one_more_joined : (s : Run) → o ≡ Some s → IsAdjacent r s → IsBegun all (with_more r s) others
+  one_more_joined s some next = lengthened all r s others next (before_run s some)
 
--- the stretch also ends where there is no next run
-pub ended_at_none : (all : List Run) (r : Run) (o : Option Run) (rs : List Run) → o ≡ None → IsBegun all r (with_next o rs)
-    → runs_of (flat_map dots_of all) ≡ r ∷ runs_of (flat_map dots_of (with_next o rs))
-unfolding runs_of
-ended_at_none all r None rs none so_far = stretch_first all r [] tt so_far
-ended_at_none all r (Some s) rs none so_far = absurd cc
+  -- the stretch ends where the next run does not continue it
+  pub ended_at_run : (s : Run) → o ≡ Some s → (IsAdjacent r s → ⊥) → runs_of (flat_map dots_of all) ≡ r ∷ runs_of (flat_map dots_of (with_next o others))
+  ended_at_run s some apart = rw some (ended_before all r s others apart (before_run s some))
+
+  -- the stretch also ends where there is no next run
+  pub ended_at_none : o ≡ None → runs_of (flat_map dots_of all) ≡ r ∷ runs_of (flat_map dots_of (with_next o others))
+  unfolding runs_of
+  ended_at_none none = rw none (stretch_first all r [] tt (subst (λ next. IsBegun all r (with_next next others)) none so_far))
 
 -- where no run is ahead, no stretch is left
 pub none_left : (o : Option Run) (rs : List Run) → o ≡ None → runs_of (flat_map dots_of (with_next o rs)) ≡ []

@@ -1,8 +1,9 @@
 -- The bytes of locators, one code more at a time.
-use Rattle.std.proofs.Common.{◌≡◌, ◌+◌, ◌<◌, ◌==◌, ℕ, zero, suc, List, [], ◌∷◌, ◌++◌, Option, None, Some, option_map, length}
+use Rattle.std.proofs.Common.{◌≡◌, ◌+◌, ◌<◌, ℕ, zero, suc, List, [], ◌∷◌, ◌++◌, Option, None, Some, option_map, length}
 use Rattle.std.proofs.Common.{slice_index_or, set, take, refl, ap, ap₂, sym, subst, ◌∙◌, append_assoc, eq-eqb, arith}
+use Rattle.std.proofs.lemmas.Int.{ints}
 use Rattle.std.specs.List.{flat_map}
-use Rattle.std.proofs.lemmas.Bool.{cond_both, eqb-true, false≢true}
+use Rattle.std.proofs.lemmas.Bool.{cond_both, eqb-true}
 use Rattle.std.proofs.lemmas.Grind.{flat_map-append}
 use Rattle.std.proofs.lemmas.List.{append-nil, take_more, get_or-set_same, get_or-set_other}
 use Rattle.mf_gf.specs.declared.locator.Locator.{Locator}
@@ -56,10 +57,4 @@ pub lasts-set : (items : List (Option Locator)) (s : Shipment) (shipped : List S
     → ((code : ℕ) → code < code_count → slice_index_or items code None ≡ last_locator code shipped)
     → (code : ℕ) → code < code_count → slice_index_or (set items s.character.code (Some (locator_of s))) code None ≡ last_locator code (s ∷ shipped)
 unfolding last_shipment
-lasts-set items s shipped same fits lasts code code_fits =
-    let own = s.character.code in
-    let changed = set items own (Some (locator_of s)) in
-    cond_both (own == code) (Some s) (last_shipment code shipped) (λ last. slice_index_or changed code None ≡ option_map locator_of last)
-    (λ yes. ap (λ c. slice_index_or changed c None) (sym (eqb-true own code yes))
-    ∙ get_or-set_same items own (Some (locator_of s)) None (omega (arith, same, fits)))
-    (λ no. get_or-set_other items own code (Some (locator_of s)) None (λ equal. false≢true (sym no ∙ eq-eqb own code (sym equal))) ∙ lasts code code_fits)
+lasts-set items s shipped same fits lasts code code_fits = grind (arith, ints, cond_both, eqb-true, get_or-set_same, get_or-set_other, eq-eqb)

@@ -1,6 +1,7 @@
 -- The locators of a file, read back: they are those of the last characters with their codes.
-use Rattle.std.proofs.Common.{◌≡◌, ◌+◌, ◌<◌, ◌≤◌, ◌==◌, ◌||◌, ℕ, zero, suc, Bool, true, false, pos, if◌then◌else◌, List, [], ◌∷◌, ◌++◌, Option}
-use Rattle.std.proofs.Common.{None, Some, option_map, refl, ap, sym, subst, ◌∙◌, append_assoc, eqb-true, eq-eqb, ⊎_elim, eq-or-lt_of_le, arith}
+use Rattle.std.proofs.Common.{◌≡◌, ◌+◌, ◌<◌, ◌≤◌, ◌==◌, ℕ, zero, suc, Bool, true, false, pos, if◌then◌else◌, List, [], ◌∷◌, ◌++◌, Option}
+use Rattle.std.proofs.Common.{None, Some, option_map, refl, ap, sym, ◌∙◌, append_assoc, eqb-true, eq-eqb, ⊎_elim, eq-or-lt_of_le, arith}
+use Rattle.std.proofs.lemmas.Int.{ints}
 use Rattle.std.specs.List.{All, AllPairs, list_any}
 use Rattle.std.proofs.lemmas.Bool.{or_right}
 use Rattle.std.proofs.lemmas.List.Elements.{All-cons, All-nil, All-weaker}
@@ -45,10 +46,7 @@ head_reads l rest None fits short =
     λ t. Some (record { locator = Some (record { code = l.code; dx = dx t; width = width t; place = place t }); rest = rest })
 
 locator_reads : (l : Locator) (rest : List ℕ) → IsReadable l → read_item (locator_text l ++ rest) ≡ read_as l rest
-locator_reads l rest fits =
-    ap read_item (append_assoc (locator_head l.code l.dx (short_dx l.dx) ++ word l.width) (word (pos l.place)) rest)
-    ∙ ap read_item (append_assoc (locator_head l.code l.dx (short_dx l.dx)) (word l.width) (word (pos l.place) ++ rest))
-    ∙ head_reads l rest (short_dx l.dx) fits refl
+locator_reads l rest fits = grind (arith, ints, append_assoc, head_reads)
 
 -- ---- all locators
 
@@ -71,10 +69,6 @@ read_on n next = elim next [
   ]
 ]
 
-within-suc : (n : ℕ) (bytes : List ℕ) → locators_within (suc n) bytes ≡ read_on n (read_item bytes)
-unfolding locators_within
-within-suc n bytes = refl
-
 -- post_post ends the locators
 end_within : (n place before : ℕ) → 1 ≤ n → locators_within n (ending place before) ≡ Some []
 unfolding locators_within read_item
@@ -86,13 +80,13 @@ module _ (shipped : List Shipment) (fits : (code : ℕ) (s : Shipment) → last_
       → ((k : ℕ) → n < k → locators_within k (locators_from (code + 1) n shipped ++ ending place before) ≡ Some (lasts_from (code + 1) n shipped))
       → locators_within m (locator_if (option_map locator_of last) ++ locators_from (code + 1) n shipped ++ ending place before)
       ≡ Some (with_last last (lasts_from (code + 1) n shipped))
+  unfolding locators_within
   one_read code n m None few is others = others m (omega (arith, few))
   one_read code n zero (Some s) few is others = absurd (omega (arith, few))
   one_read code n (suc m) (Some s) few is others =
       let l = locator_of s in
       let rest = locators_from (code + 1) n shipped ++ ending place before in
-      within-suc m (locator_text l ++ locators_from (code + 1) n shipped ++ ending place before)
-      ∙ ap (λ bytes. read_on m (read_item bytes)) (append_assoc (locator_text l) (locators_from (code + 1) n shipped) (ending place before))
+      ap (λ bytes. read_on m (read_item bytes)) (append_assoc (locator_text l) (locators_from (code + 1) n shipped) (ending place before))
       ∙ ap (read_on m) (locator_reads l rest (fits code s is))
       ∙ ap (option_map (λ more. l ∷ more)) (others m (omega (arith, few)))
 
@@ -119,14 +113,10 @@ pub record IsLastFrom (shipped : List Shipment) (code : ℕ) (l : Locator) : Typ
   pub last : last_shipment l.code shipped ≡ Some shipment
 
 one_last : (shipped : List Shipment) (code : ℕ) (s : Shipment) → last_shipment code shipped ≡ Some s → IsLastFrom shipped code (locator_of s)
-one_last shipped code s is =
-    let same = last_shipment-code code s shipped is in
-    record { least = omega (arith, same); shipment = s; is = refl; last = subst (λ c. last_shipment c shipped ≡ Some s) (sym same) is }
+one_last shipped code s is = grind (arith, ints, last_shipment-code)
 
 later_too : (shipped : List Shipment) (code : ℕ) (others : List Locator) → All (IsLastFrom shipped (code + 1)) others → All (IsLastFrom shipped code) others
-later_too shipped code others =
-    All-weaker (IsLastFrom shipped (code + 1)) (IsLastFrom shipped code)
-    (λ l from. record { least = omega (arith, from.least); shipment = from.shipment; is = from.is; last = from.last }) others
+later_too shipped code others = grind (arith, ints, All-weaker)
 
 with_one : (shipped : List Shipment) (code : ℕ) (last : Option Shipment) (others : List Locator)
     → last_shipment code shipped ≡ last → All (IsLastFrom shipped (code + 1)) others
@@ -149,10 +139,7 @@ rise_on : (shipped : List Shipment) (code : ℕ) (last : Option Shipment) (other
     → last_shipment code shipped ≡ last → All (IsLastFrom shipped (code + 1)) others
     → AllPairs IsBefore others → AllPairs IsBefore (with_last last others)
 rise_on shipped code None others is later pairs = pairs
-rise_on shipped code (Some s) others is later pairs =
-    let same = last_shipment-code code s shipped is in
-    AllPairs-cons IsBefore (locator_of s) others
-    (All-weaker (IsLastFrom shipped (code + 1)) (IsBefore (locator_of s)) (λ k from. omega (arith, same, from.least)) others later) pairs
+rise_on shipped code (Some s) others is later pairs = grind (arith, ints, last_shipment-code, AllPairs-cons, All-weaker)
 
 pub lasts_rise : (shipped : List Shipment) (code n : ℕ) → AllPairs IsBefore (lasts_from code n shipped)
 unfolding lasts_from
@@ -168,9 +155,7 @@ has_code code l = l.code == code
 found_here : (code : ℕ) (s : Shipment) (last : Option Shipment) (others : List Locator) → last ≡ Some s
     → s.character.code ≡ code → list_any (has_code code) (with_last last others) ≡ true
 found_here code s None others is same = absurd (cc)
-found_here code s (Some t) others is same =
-    let equal : t ≡ s = cc in
-    ap (λ test. test || list_any (has_code code) others) (eq-eqb t.character.code code (ap (λ (it : Shipment). it.character.code) equal ∙ same))
+found_here code s (Some t) others is same = grind (arith, ints, eq-eqb)
 
 found_later : (code : ℕ) (last : Option Shipment) (others : List Locator) → list_any (has_code code) others ≡ true
     → list_any (has_code code) (with_last last others) ≡ true

@@ -1,12 +1,12 @@
 -- The bytes of painting commands, read back.
-use Rattle.std.proofs.Common.{◌≡◌, ℕ, zero, suc, ◌+◌, ◌-◌, ◌≤◌, nat_le, ◌==◌, List, [], ◌∷◌, ◌++◌, length, Option, None, Some}
+use Rattle.std.proofs.Common.{◌≡◌, ℕ, zero, suc, ◌+◌, ◌-◌, ◌≤◌, List, [], ◌∷◌, ◌++◌, length, Option, None, Some}
 use Rattle.std.proofs.Common.{option_map, refl, sym, ap, ◌∙◌, append_assoc, append-nil, length-append, arith, le-leb, ne_eqb}
+use Rattle.std.proofs.lemmas.Int.{ints}
 use Rattle.std.proofs.lemmas.Bool.{cond-true, cond_both, lt-leb, eqb-true}
 use Rattle.std.proofs.lemmas.Iterator.Adapters.{option_map_id}
-use Rattle.byteorder.specs.Endian.{big_bytes, big_number}
 use Rattle.byteorder.specs.Numbers.{big_number-reads_back}
 use Rattle.mf_gf.specs.Format as gf
-use Rattle.mf_gf.specs.Numbers.{greatest_byte, greatest_half}
+use Rattle.mf_gf.specs.Numbers.{greatest_halfword}
 use Rattle.mf_gf.specs.Painting.{Stroke, Paint, Skip, NewRow, Read, with_bytes, read_stroke, strokes_at_end, strokes_within, strokes}
 use Rattle.mf_gf.specs.Spelling.{with_parameter, paint, skip, new_row}
 
@@ -20,49 +20,23 @@ pub record IsCommand (bytes : List ℕ) (stroke : Stroke) : Type 0 where
   pub read : (rest : List ℕ) → read_stroke (bytes ++ rest) ≡ read_as stroke rest
 
 -- a parameter of one or two bytes after the opcodes of a command is read back
-writes_parameter : (command : ℕ → Stroke) (opcode n : ℕ) → n ≤ greatest_half
+writes_parameter : (command : ℕ → Stroke) (opcode n : ℕ) → n ≤ greatest_halfword
     → ((bytes : List ℕ) → read_stroke (opcode ∷ bytes) ≡ Some (with_bytes command 1 bytes))
     → ((bytes : List ℕ) → read_stroke ((opcode + 1) ∷ bytes) ≡ Some (with_bytes command 2 bytes))
     → IsCommand (with_parameter opcode n) (command n)
-writes_parameter command opcode n fits one two =
-    cond_both (nat_le n greatest_byte) (opcode ∷ n ∷ []) (((opcode + 1) ∷ []) ++ big_bytes 2 n) (λ bytes. IsCommand bytes (command n))
-    (λ yes. record {
-      some = omega arith;
-      read = λ rest.
-          let number : big_number 1 (n ∷ rest) ≡ n = omega arith in
-          one (n ∷ rest) ∙ ap (λ m. read_as (command m) rest) number;
-    })
-    (λ no. record {
-      some = omega arith;
-      read = λ rest. two (big_bytes 2 n ++ rest) ∙ ap (λ m. read_as (command m) rest) (big_number-reads_back 2 n rest (omega arith));
-    })
+writes_parameter command opcode n fits one two = grind (arith, ints, cond_both, big_number-reads_back)
 
-pub writes_paint : (n : ℕ) → n ≤ greatest_half → IsCommand (paint n) (Paint n)
+pub writes_paint : (n : ℕ) → n ≤ greatest_halfword → IsCommand (paint n) (Paint n)
 unfolding paint read_stroke
-writes_paint n fits =
-    cond_both (nat_le n gf.most_painted) (n ∷ []) (with_parameter gf.paint1 n) (λ bytes. IsCommand bytes (Paint n))
-    (λ yes. record { some = omega arith; read = λ rest. cond-true (nat_le n gf.most_painted) _ _ yes })
-    (λ no. writes_parameter Paint gf.paint1 n fits (λ bytes. refl) (λ bytes. refl))
+writes_paint n fits = grind (arith, ints, cond_both, cond-true, writes_parameter)
 
-pub writes_skip : (n : ℕ) → n ≤ greatest_half → IsCommand (skip n) (Skip n)
+pub writes_skip : (n : ℕ) → n ≤ greatest_halfword → IsCommand (skip n) (Skip n)
 unfolding skip read_stroke
-writes_skip n fits =
-    cond_both (n == 0) (gf.skip0 ∷ []) (with_parameter gf.skip1 n) (λ bytes. IsCommand bytes (Skip n))
-    (λ yes. record { some = omega arith; read = λ rest. ap (λ m. read_as (Skip m) rest) (sym (eqb-true n 0 yes)) })
-    (λ no. writes_parameter Skip gf.skip1 n fits (λ bytes. refl) (λ bytes. refl))
+writes_skip n fits = grind (arith, ints, cond_both, eqb-true, writes_parameter)
 
 pub writes_new_row : (n : ℕ) → n ≤ gf.most_new_row → IsCommand (new_row n) (NewRow n)
 unfolding read_stroke
-writes_new_row n fits =
-    let b = gf.new_row_0 + n in
-    let offset : b - gf.new_row_0 ≡ n = omega arith in
-    record {
-      some = omega arith;
-      read = λ rest.
-          rw (lt-leb b gf.most_painted (omega arith), lt-leb b gf.paint3 (omega arith), ne_eqb b gf.eoc (λ same. omega arith))
-          (rw (ne_eqb b gf.skip0 (λ same. omega arith), le-leb gf.skip1 b (omega arith), lt-leb b gf.skip3 (omega arith))
-          (rw (le-leb gf.new_row_0 b (omega arith), le-leb b (gf.new_row_0 + gf.most_new_row) (omega arith), offset) refl));
-    }
+writes_new_row n fits = grind (arith, ints, lt-leb, ne_eqb, le-leb)
 
 -- these bytes are read as these commands, whatever comes after them
 pub record Spells (bytes : List ℕ) (commands : List Stroke) : Type 0 where
@@ -71,10 +45,7 @@ pub record Spells (bytes : List ℕ) (commands : List Stroke) : Type 0 where
       → strokes_within m (bytes ++ rest) ≡ option_map (λ others. commands ++ others) (strokes_within n rest)
 
 pub spells_none : Spells [] []
-spells_none = record {
-  few = omega arith;
-  read = λ m n rest same. let equal : m ≡ n = omega (arith, same) in ap (λ fuel. strokes_within fuel rest) equal ∙ sym (option_map_id (strokes_within n rest));
-}
+spells_none = grind (arith, ints, option_map_id)
 
 -- the commands from one on, where n more of them may be read
 abbrev from_read : ℕ → Option Read → Option (List Stroke)

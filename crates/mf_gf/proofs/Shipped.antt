@@ -1,12 +1,13 @@
 -- The characters of a file, with one more at the end.
-use Rattle.std.proofs.Common.{◌≡◌, ◌≤◌, ℕ, ℤ, List, [], ◌∷◌, ◌++◌, Option, Some, length, refl, ap, sym, subst, ◌∙◌, append_assoc, length-append, arith}
+use Rattle.std.proofs.Common.{◌≡◌, ◌≤◌, ℕ, ℤ, List, [], ◌∷◌, ◌++◌, Option, Some, length, refl, ap, ◌∙◌, append_assoc, length-append, arith}
+use Rattle.std.proofs.lemmas.Int.{ints}
 use Rattle.mf_rows.specs.Dots.{Dot}
 use Rattle.mf_gf.specs.declared.file.FontWords.{FontWords}
 use Rattle.mf_gf.specs.declared.file.GfFile.{GfFile}
 use Rattle.mf_gf.specs.Boxes.{box_of_pixels, join, widen}
 use Rattle.mf_gf.specs.Files.{Character, FileSoFar, Shipment, body, box_of_all, bytes_so_far, ending, file_of, file_so_far}
 use Rattle.mf_gf.specs.Files.{last_place, locator_of, locators_from, post_text, shipments, spell_after, with_character, with_characters}
-use Rattle.mf_gf.specs.Keeping.{HasLasts, IsAppended, Keeps, bounds_of}
+use Rattle.mf_gf.specs.Keeping.{IsAppended, Keeps, bounds_of}
 use Rattle.mf_gf.specs.Numbers.{code_count}
 use Rattle.mf_gf.specs.Spelling.{pointer, spell}
 use Rattle.mf_gf.proofs.BlackBoxes.{join-assoc}
@@ -31,9 +32,7 @@ bytes_so_far-more comment cs c = ap (λ (f : FileSoFar). f.bytes) (file_so_far-m
 -- the bytes kept, with those of one more character, whose p is this earlier place
 pub bytes_so_far-kept : (file : GfFile) (comment : List ℕ) (cs : List Character) (c : Character) (earlier : Option ℕ) → Keeps file comment cs
     → earlier ≡ last_place c.code (shipments comment cs) → bytes_so_far comment (cs ++ c ∷ []) ≡ file.bytes.items ++ spell c.code (pointer earlier) c.black
-bytes_so_far-kept file comment cs c earlier keeps is =
-    bytes_so_far-more comment cs c ∙ ap (λ bytes. bytes ++ spell_after (file_so_far comment cs) c) (sym keeps.bytes)
-    ∙ ap (λ place. file.bytes.items ++ spell c.code (pointer place) c.black) (sym is)
+bytes_so_far-kept file comment cs c earlier keeps is = grind (arith, ints, bytes_so_far-more)
 
 -- the shipment of a character after these bytes
 abbrev pub shipment_after : List ℕ → Character → Shipment
@@ -57,21 +56,18 @@ bounds_of-more (b ∷ cs) c = ap (λ box. Some box) (box_of_all-more b cs c)
 pub keeps-more : (before after : GfFile) (comment : List ℕ) (cs : List Character) (c : Character)
     → IsAppended before after (locator_of (shipment_after before.bytes.items c)) (spell_after (file_so_far comment cs) c)
     → after.bounds ≡ Some (widen before.bounds (box_of_pixels c.black)) → Keeps before comment cs → Keeps after comment (cs ++ c ∷ [])
-keeps-more before after comment cs c appended widened keeps = record {
-  bytes = appended.bytes ∙ ap (λ bytes. bytes ++ spell_after (file_so_far comment cs) c) keeps.bytes ∙ sym (bytes_so_far-more comment cs c);
-  locators =
-      subst (HasLasts after.locators) (ap (λ bytes. shipment_after bytes c ∷ shipments comment cs) keeps.bytes ∙ sym (shipments-more comment cs c))
-      (appended.locators (shipment_after before.bytes.items c) (shipments comment cs) refl keeps.locators);
-  count = let one_more = length-append cs (c ∷ []) in let counted = appended.count in let count = keeps.count in omega (arith, one_more, counted, count);
-  bounds = widened ∙ ap (λ bounds. Some (widen bounds (box_of_pixels c.black))) keeps.bounds ∙ sym (bounds_of-more cs c);
-}
+keeps-more before after comment cs c appended widened keeps = grind (arith, ints, bytes_so_far-more, shipments-more, length-append, bounds_of-more)
+
+-- the bytes of a file after post: its locators and its ending
+abbrev pub bytes_after_post : FontWords → List ℕ → List Character → List ℕ
+bytes_after_post words comment cs =
+    locators_from 0 code_count (shipments comment cs) ++ ending (length (bytes_so_far comment cs)) (length (body words comment cs))
+
+pub file_of-parts : (words : FontWords) (comment : List ℕ) (cs : List Character) → file_of words comment cs
+    ≡ bytes_so_far comment cs ++ (post_text words (box_of_all cs) (length (bytes_so_far comment cs)) ++ bytes_after_post words comment cs)
+unfolding file_of
+file_of-parts words comment cs = simp append_assoc
 
 -- a file begins with its preamble and its characters
 pub file-begins : (words : FontWords) (comment : List ℕ) (cs : List Character) → (rest : List ℕ) × (file_of words comment cs ≡ bytes_so_far comment cs ++ rest)
-unfolding file_of
-file-begins words comment cs =
-    let before = bytes_so_far comment cs in
-    let behind = post_text words (box_of_all cs) (length before) in
-    let locators = locators_from 0 code_count (shipments comment cs) in
-    let last = ending (length before) (length (body words comment cs)) in
-    (behind ++ (locators ++ last), append_assoc (before ++ behind) locators last ∙ append_assoc before behind (locators ++ last))
+file-begins words comment cs = (_, file_of-parts words comment cs)

@@ -23,21 +23,10 @@ le_from_test : (a b : ℤ) → int_le a b ≡ true → a ≤ℤ b
 le_from_test a b test = grind (arith, ints)
 
 byte_from_test : (z : ℤ) → is_byte z ≡ true → IsByte z
-byte_from_test z test =
-    let parts = and_parts (int_le (pos 0) z) (int_le z (pos greatest_byte)) test in
-    record { least = le_from_test (pos 0) z parts.0; greatest = le_from_test z (pos greatest_byte) parts.1 }
+byte_from_test z test = grind (arith, ints, and_parts, le_from_test)
 
 pub short_box : (b : CharacterBox) → is_short b ≡ true → IsShortBox b
-short_box b test =
-    let width = and_parts (is_byte (b.max_m -ℤ b.min_m)) _ test in
-    let right = and_parts (is_byte b.max_m) _ width.1 in
-    let height = and_parts (is_byte (b.max_n -ℤ b.min_n)) (is_byte b.max_n) right.1 in
-    record {
-      width = byte_from_test _ width.0;
-      right = byte_from_test _ right.0;
-      height = byte_from_test _ height.0;
-      top = byte_from_test _ height.1;
-    }
+short_box b test = grind (arith, ints, and_parts, byte_from_test)
 
 -- the value of `x && y`, where y is evaluated only if x is true
 pub and_then : (x y a b : Bool) → x ≡ true → x ≡ a → y ≡ b → y ≡ (a && b)
@@ -49,6 +38,6 @@ and_else x true b fails x_is = cc
 and_else x false b fails x_is = x_is
 
 -- such a number may be cast to one byte
-pub byte_fits : (z : ℤ) → IsByte z → T (non_neg z) × Fits w8 (nat_abs z)
-byte_fits (pos n) byte = (tt, record { fits = omega (arith, ints, byte.greatest) })
-byte_fits (negsuc n) byte = absurd (omega (arith, ints, byte.least))
+pub byte_fits : (y z : ℤ) → y ≡ z → IsByte z → T (non_neg y) × Fits w8 (nat_abs y)
+byte_fits (pos n) z is byte = (tt, omega (arith, ints, is, byte))
+byte_fits (negsuc n) z is byte = absurd (omega (arith, ints, is, byte))

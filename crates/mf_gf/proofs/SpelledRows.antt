@@ -1,5 +1,5 @@
 -- The stretches of a picture, spelled one after another.
-use Rattle.std.proofs.Common.{◌≡◌, ℕ, ℤ, pos, ◌+ℤ◌, List, [], ◌∷◌, ◌++◌, refl, sym, ap, subst, ◌∙◌, arith, append_assoc}
+use Rattle.std.proofs.Common.{◌≡◌, ℕ, ℤ, pos, ◌+ℤ◌, List, [], ◌∷◌, ◌++◌, refl, sym, ap, ◌∙◌, arith, append_assoc}
 use Rattle.std.specs.List.{All}
 use Rattle.std.proofs.lemmas.Int.{ints}
 use Rattle.std.proofs.lemmas.List.{append-nil}
@@ -14,7 +14,6 @@ use Rattle.mf_gf.specs.declared.spelling.Spelling.{Spelling}
 use Rattle.mf_gf.specs.Boxes.{box_of_pixels}
 use Rattle.mf_gf.specs.Format as gf
 use Rattle.mf_gf.specs.Spelling.{approach, begin, paint, spell, stretches_text}
-use Rattle.mf_gf.specs.Spellings.{Holds}
 use Rattle.mf_gf.proofs.Writing.{Writes, write_both, write_same}
 
 -- the stretches still to come, from a position of the machine and in a box with this left end
@@ -39,24 +38,7 @@ pub record AreSpelled (before out : Spelling) (text : List ℕ) (c : Coming) : T
 
 pub none_spelled : (before : Spelling) (c : Coming) → All IsRun c.runs → IsCoordinate c.row → IsCoordinate c.column
     → AreSpelled before before (text_of c) c
-none_spelled before c runs row_in_range column_in_range = record {
-  written = [];
-  writes = λ text held. subst (Holds before) (sym (append-nil text)) held;
-  rest = refl;
-  room = refl;
-  runs = runs;
-  row_in_range = row_in_range;
-  column_in_range = column_in_range;
-}
-
-stretches_text-cons : (left row column : ℤ) (r : Run) (rs : List Run)
-    → stretches_text left row column (r ∷ rs) ≡ approach left row column r ++ paint r.len ++ stretches_text left r.y (r.x +ℤ pos r.len) rs
-unfolding stretches_text
-stretches_text-cons left row column r rs = refl
-
-stretches_text-nil : (left row column : ℤ) → stretches_text left row column [] ≡ []
-unfolding stretches_text
-stretches_text-nil left row column = refl
+none_spelled before c runs row_in_range column_in_range = grind (arith, ints, append-nil)
 
 module _ (before out : Spelling) (text : List ℕ) (c : Coming) where
   pub next_is_run : (r : Run) (others : List Run) → c.runs ≡ r ∷ others → AreSpelled before out text c → IsRun r
@@ -65,6 +47,7 @@ module _ (before out : Spelling) (text : List ℕ) (c : Coming) where
   pub one_more_spelled : (r : Run) (others : List Run) (painted : Spelling) → c.runs ≡ r ∷ others
       → Writes out painted (approach c.left c.row c.column r ++ paint r.len) → painted.room ≡ out.room → AreSpelled before out text c
       → AreSpelled before painted text (record { left = c.left; row = r.y; column = r.x +ℤ pos r.len; runs = others })
+  unfolding stretches_text
   one_more_spelled r others painted first puts same_room so_far =
       let run = next_is_run r others first so_far in
       let stroke = approach c.left c.row c.column r ++ paint r.len in
@@ -73,7 +56,6 @@ module _ (before out : Spelling) (text : List ℕ) (c : Coming) where
         writes = write_both _ _ _ _ _ so_far.writes puts;
         rest =
             append_assoc so_far.written stroke (stretches_text c.left r.y (r.x +ℤ pos r.len) others)
-            ∙ ap (λ bytes. so_far.written ++ bytes) (sym (stretches_text-cons c.left c.row c.column r others))
             ∙ ap (λ rs. so_far.written ++ stretches_text c.left c.row c.column rs) (sym first) ∙ so_far.rest;
         room = same_room ∙ so_far.room;
         runs = All-rest IsRun r others c.runs first so_far.runs;
@@ -82,11 +64,10 @@ module _ (before out : Spelling) (text : List ℕ) (c : Coming) where
       }
 
   pub all_spelled : c.runs ≡ [] → AreSpelled before out text c → Writes before out text
+  unfolding stretches_text
   all_spelled none so_far =
       write_same _ _ _ _
-      (sym (append-nil so_far.written) ∙ ap (λ bytes. so_far.written ++ bytes) (sym (stretches_text-nil c.left c.row c.column))
-      ∙ ap (λ rs. so_far.written ++ stretches_text c.left c.row c.column rs) (sym none) ∙ so_far.rest)
-      so_far.writes
+      (sym (append-nil so_far.written) ∙ ap (λ rs. so_far.written ++ stretches_text c.left c.row c.column rs) (sym none) ∙ so_far.rest) so_far.writes
 
 pub spell-is : (code : ℕ) (p : ℤ) (ds : List Dot) (b : CharacterBox) (rs : List Run) → b ≡ box_of_pixels ds → rs ≡ runs_of ds
     → begin code p b ++ stretches_text b.min_m b.max_n b.min_m rs ++ gf.eoc ∷ [] ≡ spell code p ds

@@ -1,6 +1,7 @@
 -- Bytes that are appended to a file.
 use Rattle.std.proofs.Common.{◌≡◌, ◌+◌, ◌<◌, ◌↔◌, ℕ, List, [], ◌∷◌, ◌++◌, Some, Result, Ok, Err}
-use Rattle.std.proofs.Common.{length, sym, ap, subst, ◌∙◌, append_assoc, length-append, arith}
+use Rattle.std.proofs.Common.{length, subst, append_assoc, length-append, arith}
+use Rattle.std.proofs.lemmas.Int.{ints}
 use Rattle.std.specs.Prelude.{IfErr}
 use Rattle.mf_gf.specs.declared.boxes.CharacterBox.{CharacterBox}
 use Rattle.mf_gf.specs.declared.fault.GfFault.{GfFault}
@@ -26,19 +27,13 @@ tail_held s words b place bytes locators is =
 -- there is no room for the tail exactly where there is none for the complete file
 pub too_long_behind : {P : Type 0} (room max_bytes : ℕ) (before text : List ℕ) → room + length before ≡ max_bytes
     → (room < length text) ↔ P → (max_bytes < length (before ++ text)) ↔ P
-too_long_behind room max_bytes before text is fits = (
-  λ long. let both = length-append before text in fits.0 (omega arith),
-  λ refused. let both = length-append before text in let long = fits.1 refused in omega arith,
-)
+too_long_behind room max_bytes before text is fits = grind (arith, ints, length-append)
 
 -- a file, split after its characters
 split_file : (characters post locators : List ℕ) (last : ℕ → List ℕ)
     → characters ++ post ++ locators ++ last (length (characters ++ post ++ locators))
     ≡ characters ++ (post ++ locators ++ last (length characters + length (post ++ locators)))
-split_file characters post locators last =
-    ap (λ all. all ++ last (length all)) (append_assoc characters post locators)
-    ∙ append_assoc characters (post ++ locators) (last (length (characters ++ (post ++ locators))))
-    ∙ ap (λ n. characters ++ (post ++ locators ++ last n)) (length-append characters (post ++ locators))
+split_file characters post locators last = grind (arith, ints, append_assoc, length-append)
 
 file_of-tail : (words : FontWords) (comment : List ℕ) (cs : List Character)
     → file_of words comment cs
@@ -56,13 +51,7 @@ box_of_all-some (c ∷ cs) b is = cc
 pub file_of-kept : (file : GfFile) (words : FontWords) (b : CharacterBox) (comment : List ℕ) (cs : List Character)
     → file.bounds ≡ Some b → Keeps file comment cs
     → file_of words comment cs ≡ file.bytes.items ++ tail_of words b file.bytes.items (table_text file.locators)
-file_of-kept file words b comment cs some keeps =
-    let locators = locators_from 0 code_count (shipments comment cs) in
-    let bounds = box_of_all-some cs b (sym keeps.bounds ∙ some) in
-    file_of-tail words comment cs
-    ∙ ap (λ box. bytes_so_far comment cs ++ tail_of words box (bytes_so_far comment cs) locators) bounds
-    ∙ ap (λ bytes. bytes ++ tail_of words b bytes locators) (sym keeps.bytes)
-    ∙ ap (λ text. file.bytes.items ++ tail_of words b file.bytes.items text) (sym (table_text-is file.locators (shipments comment cs) keeps.locators))
+file_of-kept file words b comment cs some keeps = grind (arith, ints, box_of_all-some, file_of-tail, table_text-is)
 
 -- a refusal with OutOfMemory is not one with FileTooLong
 pub wanting_only : (before : GfFile) (r : Result GfBytes (GfFile × GfFault))

@@ -1,6 +1,7 @@
 -- What a reader finds in a finished file besides its characters: the comment in the preamble, and what post says (The METAFONTbook,
 -- Appendix G; gftype.web). The opcodes are numerals, so that the law does not rest on those of `Format`, which files are made with.
 use Rattle.std.specs.Prelude.{◌≡◌, ◌+◌, ◌-◌, ◌*◌, ◌==◌, ◌&&◌, ℕ, ℤ, ◌≤ℤ◌, All, Any, List, take, drop, slice_index, Option, None, Some, if◌then◌else◌}
+use Rattle.std.specs.Option.{option_and_then}
 use Rattle.mf_gf.specs.declared.boxes.CharacterBox.{CharacterBox}
 use Rattle.mf_gf.specs.declared.file.FontWords.{FontWords}
 use Rattle.mf_gf.specs.Boxes.{box_of_pixels}
@@ -40,10 +41,7 @@ post_at place file = if slice_index file place == 248 then Some (read_post (drop
 
 -- post, at the place that the end of the file names
 unfoldable pub post_of : List ℕ → Option Post
-post_of file = elim (post_place file) [
-  | None ↦ None
-  | Some place ↦ post_at place file
-]
+post_of file = option_and_then (λ place. post_at place file) (post_place file)
 
 -- ---- what the reader finds
 
@@ -60,8 +58,8 @@ abbrev pub greatest_unsigned : ℕ
 greatest_unsigned = 4294967295
 
 -- the box of a character
-abbrev pub box_of : Character → CharacterBox
-box_of c = box_of_pixels c.black
+abbrev pub box_of_character : Character → CharacterBox
+box_of_character c = box_of_pixels c.black
 
 -- a box lies in another
 pub record IsWithin (outer inner : CharacterBox) : Type 0 where
@@ -72,8 +70,8 @@ pub record IsWithin (outer inner : CharacterBox) : Type 0 where
 
 -- the least box around the boxes of characters: each of them lies in it, and one is at each of its sides
 pub record IsLeastAround (characters : List Character) (b : CharacterBox) : Type 0 where
-  pub within : All (λ (c : Character). IsWithin b (box_of c)) characters
-  pub left : Any (λ (c : Character). (box_of c).min_m ≡ b.min_m) characters
-  pub right : Any (λ (c : Character). (box_of c).max_m ≡ b.max_m) characters
-  pub bottom : Any (λ (c : Character). (box_of c).min_n ≡ b.min_n) characters
-  pub top : Any (λ (c : Character). (box_of c).max_n ≡ b.max_n) characters
+  pub within : All (λ (c : Character). IsWithin b (box_of_character c)) characters
+  pub left : Any (λ (c : Character). (box_of_character c).min_m ≡ b.min_m) characters
+  pub right : Any (λ (c : Character). (box_of_character c).max_m ≡ b.max_m) characters
+  pub bottom : Any (λ (c : Character). (box_of_character c).min_n ≡ b.min_n) characters
+  pub top : Any (λ (c : Character). (box_of_character c).max_n ≡ b.max_n) characters

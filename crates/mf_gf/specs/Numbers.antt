@@ -12,8 +12,8 @@ abbrev pub greatest_byte : ℕ
 greatest_byte = 255
 
 -- the greatest number of two bytes, and so the greatest parameter of paint2 and skip2
-abbrev pub greatest_half : ℕ
-greatest_half = 65535
+abbrev pub greatest_halfword : ℕ
+greatest_halfword = 65535
 
 -- the greatest number of four bytes with a sign, and so the greatest place in a file, and number of its bytes
 abbrev pub greatest_word : ℕ

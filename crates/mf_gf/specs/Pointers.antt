@@ -3,6 +3,7 @@
 -- METAFONTbook, Appendix G; gftype.web).
 use Rattle.std.specs.Prelude.{◌≡◌, ◌<◌, ◌≤◌, ◌+◌, ◌*◌, ◌==◌, ◌↔◌, ℕ, zero, suc, ℤ, pos, negsuc, All, AllPairs, Any, List, [], ◌∷◌}
 use Rattle.std.specs.Prelude.{length, take, drop, reverse, filter, slice_index, Option, None, Some, option_map, if◌then◌else◌}
+use Rattle.std.specs.Option.{option_and_then}
 use Rattle.mf_gf.specs.declared.locator.Locator.{Locator}
 use Rattle.mf_gf.specs.Boxes.{box_of_pixels}
 use Rattle.mf_gf.specs.Files.{Character, bytes_so_far}
@@ -69,10 +70,7 @@ abbrev pub locators_after : ℕ → List ℕ → Option (List Locator)
 locators_after place file = if slice_index file place == gf.post then locators_within (code_count + 1) (drop (place + gf.post_size) file) else None
 
 abbrev pub locators_of : List ℕ → Option (List Locator)
-locators_of file = elim (post_place file) [
-  | None ↦ None
-  | Some place ↦ locators_after place file
-]
+locators_of file = option_and_then (λ place. locators_after place file) (post_place file)
 
 -- a character begins at a place with this p: its head says so, and its bytes paint its pixels
 pub record IsCharacterAt (file : List ℕ) (place : ℕ) (c : Character) (p : ℤ) : Type 0 where

@@ -7,4 +7,4 @@ use Rattle.mf_gf.specs.declared.spelling.Spelling.{Spelling}
 pub record Holds (s : Spelling) (text : List ℕ) : Type 0 where
   pub counted : length text ≤ s.room → s.length ≡ length text
   pub beyond : s.room < length text → s.room < s.length
-  pub kept : s.is_wanting ≡ false → length text ≤ s.room → s.bytes.items ≡ text
+  pub kept : s.is_out_of_memory ≡ false → length text ≤ s.room → s.bytes.items ≡ text

@@ -12,7 +12,7 @@ pub(crate) struct Spelling {
     length: usize,
     room: usize,
     /// Whether an allocation failed for some of the bytes.
-    is_wanting: bool,
+    is_out_of_memory: bool,
     ghost small: { room ≤ 2 ^ 31 },
     ghost counted: { length ≤ 2 ^ 33 },
 }

@@ -1,7 +1,7 @@
 //! The painting commands of a character.
 ghost use Rattle.std.specs.Prelude.{◌≡◌, ◌<◌, ◌≤◌, ◌++◌, List, ℕ};
 ghost use Rattle.mf_gf.specs.Format.{most_new_row};
-ghost use Rattle.mf_gf.specs.Numbers.{greatest_byte, greatest_half};
+ghost use Rattle.mf_gf.specs.Numbers.{greatest_byte, greatest_halfword};
 ghost use Rattle.mf_gf.specs.Spelling.{new_row, paint, skip, with_parameter};
 ghost use Rattle.mf_gf.specs.Spellings.{Holds};
 
@@ -26,7 +26,7 @@ impl Spelling {
     /// Appends a command that paints `length` pixels. Most stretches have at most 63, so only their command is inlined.
     #[inline(always)]
     pub(crate) fn paint(&mut self, length: u32)
-        requires { length ≤ greatest_half }
+        requires { length ≤ greatest_halfword }
         ensures held { (text : List ℕ) → Holds self.old text → Holds self.new (text ++ paint length) }
         ensures room { self.new.room ≡ self.old.room }
     {
@@ -39,7 +39,7 @@ impl Spelling {
 
     /// Appends a command that skips `rows` blank rows.
     pub(crate) fn skip(&mut self, rows: u32)
-        requires { rows ≤ greatest_half }
+        requires { rows ≤ greatest_halfword }
         ensures held { (text : List ℕ) → Holds self.old text → Holds self.new (text ++ skip rows) }
         ensures room { self.new.room ≡ self.old.room }
     {
@@ -63,7 +63,7 @@ impl Spelling {
     #[inline(never)]
     fn put_parameter(&mut self, opcode: u8, parameter: u32)
         requires opcode { opcode < greatest_byte }
-        requires parameter { parameter ≤ greatest_half }
+        requires parameter { parameter ≤ greatest_halfword }
         ensures held { (text : List ℕ) → Holds self.old text → Holds self.new (text ++ with_parameter opcode parameter) }
         ensures room { self.new.room ≡ self.old.room }
     {
@@ -71,7 +71,7 @@ impl Spelling {
             self.put(&[opcode, parameter as u8]);
         } else {
             self.put_byte(opcode + 1);
-            self.put_half(parameter as u16);
+            self.put_halfword(parameter as u16);
         }
     }
 }

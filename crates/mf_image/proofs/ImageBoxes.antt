@@ -1,5 +1,5 @@
 -- The boxes of images.
-use Rattle.std.proofs.Common.{◌≡◌, ◌+◌, ◌+ℤ◌, to_z, of_z, w32, ℕ, ℤ, ◌≤◌, pos, ◌≤ℤ◌, List, [], ◌∷◌, refl, sym, ⊎_elim, arith}
+use Rattle.std.proofs.Common.{◌≡◌, ◌+◌, ◌+ℤ◌, to_z, of_z, w32, ℕ, ℤ, ◌≤◌, pos, ◌≤ℤ◌, List, [], ◌∷◌, sym, ⊎_elim, arith}
 use Rattle.std.proofs.lemmas.Int.{ints}
 use Rattle.mf_geom.specs.Coordinates.{field_size, least_coordinate, last_in_field}
 use Rattle.mf_rows.specs.declared.bounds.Box4.{Box4}
@@ -25,18 +25,7 @@ box_of_picture ds b picture least = record { is = least_is_image_box ds b least;
 -- the image of the blank picture has the box of the origin, and is not too large
 pub box_of_blank : (ds : List Dot) → ds ≡ [] → IsImageBox ds origin
 unfolding image_box
-box_of_blank ds blank =
-    record {
-      is = rw blank refl;
-      field = record {
-        left = omega (arith, ints);
-        right = omega (arith, ints);
-        bottom = omega (arith, ints);
-        top = omega (arith, ints);
-        columns = omega (arith, ints);
-        rows = omega (arith, ints);
-      };
-    }
+box_of_blank ds blank = grind (arith, ints)
 
 pub blank_is_small : (ds : List Dot) → ds ≡ [] → IsTooLargeForImage ds → ⊥
 blank_is_small ds blank large = ⊎_elim (λ wide. omega (arith, wide)) (λ high. omega (arith, high)) (rw (sym (box_of_blank ds blank).is) at large)
@@ -53,12 +42,7 @@ pub signed : (n : ℕ) → n ≤ field_size → to_z w32 n ≡ pos n
 signed n small = omega (arith, ints)
 
 pub small_box : (b : Box4) → IsBoxOfField b → IsSmallBox (view_box_of b)
-small_box b field = record {
-  left = record { least = omega (arith, ints, field.left); greatest = omega (arith, ints, field.columns, field.right) };
-  top = record { least = omega (arith, ints, field.top); greatest = omega (arith, ints, field.rows, field.bottom) };
-  width = record { least = omega (arith, ints); greatest = omega (arith, ints, field.left, field.right, field.columns) };
-  height = record { least = omega (arith, ints); greatest = omega (arith, ints, field.bottom, field.top, field.rows) };
-}
+small_box b field = omega (arith, ints, field)
 
 -- a small number stays itself as a value of 32 bits
 abbrev StaysItself : ℤ → Type 0

@@ -1,5 +1,5 @@
 pub mod ImageBoxes
-pub mod Levels
+pub mod GrayValues
 pub mod PathTexts
 pub mod ReadPaths
 pub mod ReadTexts

@@ -1,9 +1,8 @@
 -- The weights of runs, and the texts of their paths.
-use Rattle.std.proofs.Common.{◌≡◌, ◌<◌, codes, length, ℕ, suc, ℤ, pos, ◌+ℤ◌, ◌≤ℤ◌, List, [], ◌∷◌, ◌++◌, refl, sym, ap, ◌∙◌, append_assoc, arith}
+use Rattle.std.proofs.Common.{◌≡◌, ◌<◌, codes, length, ℕ, ℤ, pos, ◌+ℤ◌, ◌≤ℤ◌, List, [], ◌∷◌, ◌++◌, refl, sym, ap, ◌∙◌, arith}
 use Rattle.std.specs.Int.{int_max, int_min}
 use Rattle.std.specs.List.{All, flat_map, fold}
 use Rattle.std.proofs.lemmas.Int.{ints, int_max_is, int_min_is}
-use Rattle.std.proofs.lemmas.List.{append-nil}
 use Rattle.std.proofs.lemmas.List.Elements.{All-rest}
 use Rattle.mf_rows.specs.declared.run.Run.{Run}
 use Rattle.mf_rows.specs.Dots.{Dot, IsPicture}
@@ -11,6 +10,7 @@ use Rattle.mf_rows.specs.Order.{IsRun}
 use Rattle.mf_rows.specs.Runs.{runs_of}
 use Rattle.mf_rows.proofs.PassedRuns.{runs_are_lawful}
 use Rattle.mf_show.specs.Grid.{extent}
+use Rattle.mf_show.proofs.Pieces.{piece_more, pieces_all}
 use Rattle.mf_show.proofs.ShownRows.{extent-next, extent-none}
 use Rattle.mf_show.proofs.WrittenRuns.{first_is_lawful}
 use Rattle.std.specs.Fmt.{signed_decimal}
@@ -30,15 +30,7 @@ pub record AreSpanned (ds : List Dot) (rs : List Run) (least greatest : ℤ) : T
   pub high : greatest ≤ℤ greatest_weight
 
 pub none_spanned : (ds : List Dot) (rs : List Run) → IsPicture ds → rs ≡ runs_of ds → AreSpanned ds rs (pos 0) (pos 0)
-none_spanned ds rs picture all = record {
-  runs = runs_are_lawful ds rs picture all;
-  below = rw all refl;
-  above = rw all refl;
-  low = omega (arith, ints);
-  down = omega (arith, ints);
-  up = omega (arith, ints);
-  high = omega (arith, ints);
-}
+none_spanned ds rs picture all = grind (arith, ints, runs_are_lawful)
 
 pub one_more_spanned : (ds : List Dot) (rs : List Run) (r : Run) (others : List Run) (least greatest low high : ℤ) → rs ≡ r ∷ others
     → low ≡ int_min least r.weight → high ≡ int_max greatest r.weight → AreSpanned ds rs least greatest → AreSpanned ds others low high
@@ -61,25 +53,18 @@ all_spanned ds rs least greatest none so_far =
 
 -- ---- the paths
 
-paths_from-next : (rs : List Run) (w : ℤ) (n : ℕ) → paths_from rs w (suc n) ≡ path_of_weight w (flat_map (rectangle_of w) rs) ++ paths_from rs (w +ℤ pos 1) n
-unfolding paths_from
-paths_from-next rs w n = refl
-
 -- with the paths of the weights from w on, the text so far is whole; so it is one path later
 pub one_more_path : (rs : List Run) (w greatest : ℤ) (text new whole : List ℕ) → w ≤ℤ greatest → new ≡ text ++ path_of_weight w (flat_map (rectangle_of w) rs)
     → text ++ paths_from rs w (extent w greatest) ≡ whole → new ++ paths_from rs (w +ℤ pos 1) (extent (w +ℤ pos 1) greatest) ≡ whole
+unfolding paths_from
 one_more_path rs w greatest text new whole within pushed so_far =
-    let rest = paths_from rs (w +ℤ pos 1) (extent (w +ℤ pos 1) greatest) in
-    let next : paths_from rs w (extent w greatest) ≡ path_of_weight w (flat_map (rectangle_of w) rs) ++ rest =
-    ap (paths_from rs w) (extent-next w greatest within) ∙ paths_from-next rs w (extent (w +ℤ pos 1) greatest) in
-    rw pushed (append_assoc text (path_of_weight w (flat_map (rectangle_of w) rs)) rest) ∙ ap (λ more. text ++ more) (sym next) ∙ so_far
+    piece_more text (path_of_weight w (flat_map (rectangle_of w) rs)) _ _ new whole pushed (ap (paths_from rs w) (extent-next w greatest within)) so_far
 
 -- no path is left
 pub all_paths : (rs : List Run) (w greatest : ℤ) (text whole : List ℕ) → w ≡ greatest +ℤ pos 1 → text ++ paths_from rs w (extent w greatest) ≡ whole
     → text ≡ whole
 unfolding paths_from
-all_paths rs w greatest text whole over so_far =
-    sym (append-nil text) ∙ ap (λ n. text ++ paths_from rs w n) (sym (extent-none w greatest over)) ∙ so_far
+all_paths rs w greatest text whole over so_far = pieces_all text _ whole (ap (paths_from rs w) (extent-none w greatest over)) so_far
 
 pub paths_are : (rs : List Run) (least greatest : ℤ) → least ≡ least_weight_of rs → greatest ≡ greatest_weight_of rs
     → paths_from rs least (extent least greatest) ≡ paths rs

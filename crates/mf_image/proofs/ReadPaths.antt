@@ -1,10 +1,10 @@
 -- An SVG image, read back.
-use Rattle.std.proofs.Common.{◌≡◌, inl, inr, int_lt, length, ℕ, zero, suc, true, false, ℤ, pos, ◌+ℤ◌, ◌≤ℤ◌, List, [], ◌∷◌, ◌++◌, codes}
+use Rattle.std.proofs.Common.{◌≡◌, length, ℕ, zero, suc, true, false, ℤ, pos, ◌+ℤ◌, ◌≤ℤ◌, List, [], ◌∷◌, ◌++◌, codes}
 use Rattle.std.proofs.Common.{refl, sym, ap, ◌∙◌, subst, append_assoc, arith}
 use Rattle.std.specs.Fmt.{signed_decimal}
 use Rattle.std.specs.List.{All, flat_map}
 use Rattle.std.specs.Ordering.{int_eq}
-use Rattle.std.proofs.lemmas.Bool.{cases_Bool, cond_both, cond-true, cond-false}
+use Rattle.std.proofs.lemmas.Bool.{cond_both}
 use Rattle.std.proofs.lemmas.Bool.Decides.{Decides-int_eq}
 use Rattle.std.proofs.lemmas.Int.{ints, fold-int_min_bounds, fold-int_max_bounds}
 use Rattle.std.proofs.lemmas.List.{append-nil}
@@ -12,7 +12,7 @@ use Rattle.std.proofs.lemmas.List.Elements.{All-head, All-tail}
 use Rattle.mf_rows.specs.declared.run.Run.{Run}
 use Rattle.mf_rows.specs.Dots.{Dot, IsPicture, start_of_field, weight_at}
 use Rattle.mf_rows.specs.Order.{IsRun}
-use Rattle.mf_rows.specs.Runs.{equal_dots, dots_of, runs_of}
+use Rattle.mf_rows.specs.Runs.{dots_of, runs_of}
 use Rattle.mf_rows.proofs.RunsLemmas.{dots_of-runs_of}
 use Rattle.mf_rows.proofs.PassedRuns.{runs_are_lawful}
 use Rattle.mf_rows.specs.Boxes.{IsBoxOfField, box_of_dots}
@@ -20,7 +20,7 @@ use Rattle.mf_show.specs.Grid.{extent}
 use Rattle.mf_rows.proofs.BoxesOfDots.{least_box_of_dots, least_box_of_field}
 use Rattle.mf_image.specs.declared.svg_image.ViewBox.{ViewBox}
 use Rattle.mf_image.specs.Boxes.{image_box}
-use Rattle.mf_image.specs.Reading.{after, number, read, read_svg}
+use Rattle.mf_image.specs.Reading.{rest_after, number, dots_in, read_svg}
 use Rattle.mf_image.specs.Svg.{IsSmall, IsSmallBox, axes, color, cover, greatest_weight_of, image, least_weight_of, opening}
 use Rattle.mf_image.specs.Svg.{path_of_weight, paths, paths_from, rectangle, rectangle_of, svg_text, view_box_of, weights_of}
 use Rattle.mf_image.proofs.ImageBoxes.{box_of_blank, small_box}
@@ -29,62 +29,41 @@ use Rattle.mf_image.proofs.ReadWeights.{dots_with, dots_with-append, dots_with-o
 
 -- ---- the rectangles of a path
 
-rectangle_of_read : (w : ℤ) (r : Run) (rest : List ℕ) → IsRun r → read true w (rectangle_of w r ++ rest) ≡ dots_with w (dots_of r) ++ read true w rest
+rectangle_of_read : (w : ℤ) (r : Run) (rest : List ℕ) → IsRun r → dots_in true w (rectangle_of w r ++ rest) ≡ dots_with w (dots_of r) ++ dots_in true w rest
 unfolding dots_of
-rectangle_of_read w r rest run =
-    elim (cases_Bool (int_eq r.weight w)) [
-      | inl matches ↦
-          (let same : r.weight ≡ w = (Decides-int_eq r.weight w).0 matches in
-          let dots : dots_with w (equal_dots r.y r.x r.weight r.len) ≡ equal_dots r.y r.x w r.len = rw same (dots_with-same w r.y r.x r.len) in
-          ap (λ text. read true w (text ++ rest)) (cond-true (int_eq r.weight w) (rectangle r) [] matches) ∙ rectangle_read w r rest run
-          ∙ ap (λ ds. ds ++ read true w rest) (sym dots))
-      | inr differs ↦
-          (let dots = dots_with-other w r.weight r.y r.x r.len differs in
-          ap (λ text. read true w (text ++ rest)) (cond-false (int_eq r.weight w) (rectangle r) [] differs) ∙ ap (λ ds. ds ++ read true w rest) (sym dots))
-    ]
+rectangle_of_read w r rest run = grind (arith, ints, cond_both, dots_with, Decides-int_eq, dots_with-same, rectangle_read, dots_with-other)
 
 rectangles_read : (w : ℤ) (rs : List Run) (rest : List ℕ) → All IsRun rs
-    → read true w (flat_map (rectangle_of w) rs ++ rest) ≡ dots_with w (flat_map dots_of rs) ++ read true w rest
+    → dots_in true w (flat_map (rectangle_of w) rs ++ rest) ≡ dots_with w (flat_map dots_of rs) ++ dots_in true w rest
 unfolding dots_with
 rectangles_read w [] rest runs = refl
 rectangles_read w (r ∷ rs) rest runs =
-    let others = flat_map (rectangle_of w) rs in
-    ap (read true w) (append_assoc (rectangle_of w r) others rest)
-    ∙ rectangle_of_read w r (others ++ rest) (All-head IsRun r rs runs)
-    ∙ ap (λ ds. dots_with w (dots_of r) ++ ds) (rectangles_read w rs rest (All-tail IsRun r rs runs))
-    ∙ sym (append_assoc (dots_with w (dots_of r)) (dots_with w (flat_map dots_of rs)) (read true w rest))
-    ∙ ap (λ ds. ds ++ read true w rest) (sym (dots_with-append w (dots_of r) (flat_map dots_of rs)))
+    grind (arith, ints, append_assoc, rectangle_of_read, All-head, dots_with, All-tail, dots_with-append, rectangles_read w rs rest (All-tail IsRun r rs runs))
 
 -- a weight that a run has is small
 some_weight : (w : ℤ) (rs : List Run) (b : ℕ) (bs : List ℕ) → All IsRun rs → flat_map (rectangle_of w) rs ≡ b ∷ bs → IsSmall w
 some_weight w [] b bs runs some = absurd (omega (arith, ap length some))
 some_weight w (r ∷ rs) b bs runs some =
-    elim (cases_Bool (int_eq r.weight w)) [
-      | inl matches ↦
-          (let same : r.weight ≡ w = (Decides-int_eq r.weight w).0 matches in
-          let lawful = (All-head IsRun r rs runs).lawful in
-          record { least = omega (arith, ints, lawful.least); greatest = omega (arith, ints, lawful.greatest) })
-      | inr differs ↦
-          some_weight w rs b bs (All-tail IsRun r rs runs)
-          (ap (λ text. text ++ flat_map (rectangle_of w) rs) (sym (cond-false (int_eq r.weight w) (rectangle r) [] differs)) ∙ some)
-    ]
+    cond_both (int_eq r.weight w) (rectangle r) [] (λ text. text ++ flat_map (rectangle_of w) rs ≡ b ∷ bs → IsSmall w)
+    (λ yes _.
+    let same : r.weight ≡ w = (Decides-int_eq r.weight w).0 yes in
+    let lawful = (All-head IsRun r rs runs).lawful in
+    omega (arith, ints, lawful))
+    (λ _ others. some_weight w rs b bs (All-tail IsRun r rs runs) others) some
 
 -- ---- a path
 
 color_passed : (v w : ℤ) → IsPassed v (color w)
-unfolding read
-color_passed v w =
-    cond_both (int_lt w (pos 0)) (codes "#f80") _ (IsPassed v) (λ _ rest. refl)
-    (λ _. cond_both (int_lt w (pos 2)) (codes "#444") _ (IsPassed v) (λ _ rest. refl)
-    (λ _. cond_both (int_lt w (pos 3)) (codes "#05a") (codes "#000") (IsPassed v) (λ _ rest. refl) (λ _ rest. refl)))
+unfolding dots_in
+color_passed v w = grind (arith, ints, cond_both)
 
 -- the path of a weight draws its rectangles, whatever path came before it
 path_read : (w v : ℤ) (text : List ℕ) (dots : List Dot) (rest : List ℕ) (later : List Dot)
     → ((b : ℕ) (bs : List ℕ) → text ≡ b ∷ bs → IsSmall w)
-    → ((more : List ℕ) → read true w (text ++ more) ≡ dots ++ read true w more)
-    → ((u : ℤ) → read true u rest ≡ later)
-    → read true v (path_of_weight w text ++ rest) ≡ dots ++ later
-unfolding read after
+    → ((more : List ℕ) → dots_in true w (text ++ more) ≡ dots ++ dots_in true w more)
+    → ((u : ℤ) → dots_in true u rest ≡ later)
+    → dots_in true v (path_of_weight w text ++ rest) ≡ dots ++ later
+unfolding dots_in rest_after
 path_read w v [] dots rest later small drawn others =
     let none : dots ≡ [] = sym (append-nil dots) ∙ sym (drawn []) in
     others v ∙ ap (λ ds. ds ++ later) (sym none)
@@ -102,17 +81,17 @@ path_read w v (b ∷ bs) dots rest later small drawn others =
     let text : path_of_weight w (b ∷ bs) ++ rest ≡ codes "<path id=\"weight" ++ line = simp append_assoc in
     let named : number line ≡ w =
     ap number (append_assoc (signed_decimal w) t3 body) ∙ number_read w _ _ weight refl in
-    ap (read true v) text ∙ ap (λ u. read false u line) named ∙ e4 body ∙ drawn (codes "\"/>\n" ++ rest) ∙ ap (λ ds. dots ++ ds) (others w)
+    ap (dots_in true v) text ∙ ap (λ u. dots_in false u line) named ∙ e4 body ∙ drawn (codes "\"/>\n" ++ rest) ∙ ap (λ ds. dots ++ ds) (others w)
 
 -- the paths of n weights from w on draw the dots of these weights
-paths_read : (rs : List Run) (w : ℤ) (n : ℕ) (v : ℤ) (rest : List ℕ) → All IsRun rs → ((u : ℤ) → read true u rest ≡ [])
-    → read true v (paths_from rs w n ++ rest) ≡ gathered (flat_map dots_of rs) w n
+paths_read : (rs : List Run) (w : ℤ) (n : ℕ) (v : ℤ) (rest : List ℕ) → All IsRun rs → ((u : ℤ) → dots_in true u rest ≡ [])
+    → dots_in true v (paths_from rs w n ++ rest) ≡ gathered (flat_map dots_of rs) w n
 unfolding paths_from gathered
 paths_read rs w zero v rest runs none = none v
 paths_read rs w (suc n) v rest runs none =
     let text = flat_map (rectangle_of w) rs in
     let others = paths_from rs (w +ℤ pos 1) n in
-    ap (read true v) (append_assoc (path_of_weight w text) others rest)
+    ap (dots_in true v) (append_assoc (path_of_weight w text) others rest)
     ∙ path_read w v text (dots_with w (flat_map dots_of rs)) (others ++ rest) (gathered (flat_map dots_of rs) (w +ℤ pos 1) n)
     (λ b bs some. some_weight w rs b bs runs some) (λ more. rectangles_read w rs more runs)
     (λ u. paths_read rs (w +ℤ pos 1) n u rest runs none)
@@ -120,21 +99,21 @@ paths_read rs w (suc n) v rest runs none =
 -- ---- the image
 
 -- nothing after the paths draws
-tail_read : (s : ViewBox) (u : ℤ) → IsSmallBox s → read true u (codes "</g>\n" ++ (cover s (codes "url(#grid)") ++ (axes s ++ codes "</svg>\n"))) ≡ []
-unfolding read after
+tail_read : (s : ViewBox) (u : ℤ) → IsSmallBox s → dots_in true u (codes "</g>\n" ++ (cover s (codes "url(#grid)") ++ (axes s ++ codes "</svg>\n"))) ≡ []
+unfolding dots_in rest_after
 tail_read s u small =
     cover_read u s (codes "url(#grid)") (axes s ++ codes "</svg>\n") small (λ rest. refl) ∙ axes_read u s (codes "</svg>\n") small
 
 image_read : (s : ViewBox) (rs : List Run) → IsSmallBox s → All IsRun rs
     → read_svg (image s rs) ≡ gathered (flat_map dots_of rs) (least_weight_of rs) (extent (least_weight_of rs) (greatest_weight_of rs))
-unfolding image paths read after
+unfolding image paths dots_in rest_after
 image_read s rs small runs =
     let tail = codes "</g>\n" ++ (cover s (codes "url(#grid)") ++ (axes s ++ codes "</svg>\n")) in
     let ink = paths rs ++ tail in
     let group = codes "<g shape-rendering=\"crispEdges\">\n" ++ ink in
     let text : image s rs ≡ opening s ++ (cover s (codes "#fff") ++ group) = simp append_assoc in
-    let begun : read true (pos 0) group ≡ read true (pos 0) ink = refl in
-    ap (read true (pos 0)) text ∙ opening_read (pos 0) s (cover s (codes "#fff") ++ group) small
+    let begun : dots_in true (pos 0) group ≡ dots_in true (pos 0) ink = refl in
+    ap (dots_in true (pos 0)) text ∙ opening_read (pos 0) s (cover s (codes "#fff") ++ group) small
     ∙ cover_read (pos 0) s (codes "#fff") group small (λ rest. refl) ∙ begun
     ∙ paths_read rs (least_weight_of rs) (extent (least_weight_of rs) (greatest_weight_of rs)) (pos 0) tail runs (λ u. tail_read s u small)
 

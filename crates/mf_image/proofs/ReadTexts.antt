@@ -1,9 +1,10 @@
 -- The texts of paths, read back.
-use Rattle.std.proofs.Common.{◌≡◌, ◌≢◌, ℕ, suc, ◌+◌, ◌-◌, ◌*◌, ◌/◌, ◌%◌, ◌^◌, ◌<◌, ◌==◌, true, false, ℤ, pos, negsuc, neg_ℤ, ◌+ℤ◌}
+use Rattle.std.proofs.Common.{◌≡◌, ◌≢◌, ℕ, suc, ◌+◌, ◌*◌, ◌/◌, ◌%◌, ◌^◌, ◌<◌, true, false, ℤ, pos, negsuc, neg_ℤ, ◌+ℤ◌}
 use Rattle.std.proofs.Common.{List, [], ◌∷◌, ◌++◌, Some, codes, decimal, refl, sym, ap, ◌∙◌, append_assoc, arith}
 use Rattle.std.specs.Char.{is_ascii_digit}
 use Rattle.std.specs.Fmt.{signed_decimal}
 use Rattle.std.specs.Int.RustNames.{unsigned_abs}
+use Rattle.std.proofs.lemmas.Bool.{ne_eqb}
 use Rattle.std.proofs.lemmas.Bool.Decides.{nat_tests}
 use Rattle.std.proofs.lemmas.Fmt.{decimal_by_steps}
 use Rattle.std.proofs.lemmas.Int.{ints}
@@ -12,16 +13,13 @@ use Rattle.mf_rows.specs.Order.{IsRun}
 use Rattle.mf_rows.specs.Runs.{equal_dots}
 use Rattle.mf_show.specs.Grid.{digit_zero, line_feed, minus_sign}
 use Rattle.mf_image.specs.declared.svg_image.ViewBox.{ViewBox}
-use Rattle.mf_image.specs.Reading.{after, after_first, before_edge, before_width, drawn_dots, number, read, with_digits}
+use Rattle.mf_image.specs.Reading.{rest_after, after_first, before_edge, before_width, dots_of_rectangle, number, dots_in, with_digits}
 use Rattle.mf_image.specs.Svg.{IsSmall, IsSmallBox, axes, cover, grid, opening, rectangle}
 
 -- ---- digits
 
 digit_is : (d : ℕ) → d < 10 → is_ascii_digit (digit_zero + d) ≡ true
 digit_is d below = grind (arith, nat_tests)
-
-other_byte : (b c : ℕ) → b ≢ c → (b == c) ≡ false
-other_byte b c apart = grind (arith, nat_tests)
 
 -- a function of texts passes a digit at the front
 abbrev pub PassesDigits : {A : Type 0} → (List ℕ → A) → Type 0
@@ -43,9 +41,7 @@ pass_number f digit sign (negsuc n) bs small = sign (decimal (suc n) ++ bs) ∙ 
 
 with_digits-digit : (n d : ℕ) (bs : List ℕ) → d < 10 → with_digits n ((digit_zero + d) ∷ bs) ≡ with_digits (10 * n + d) bs
 unfolding with_digits
-with_digits-digit n d bs below =
-    let value : 10 * n + ((digit_zero + d) - digit_zero) ≡ 10 * n + d = omega arith in
-    rw (digit_is d below) (ap (λ k. with_digits k bs) value)
+with_digits-digit n d bs below = grind (arith, ints, digit_is)
 
 with_digits-decimal : (n : ℕ) (bs : List ℕ) → n < 2 ^ 64 → with_digits 0 (decimal n ++ bs) ≡ with_digits n bs
 with_digits-decimal n bs small =
@@ -61,7 +57,7 @@ number-decimal : (n : ℕ) (bs : List ℕ) → n < 2 ^ 64 → number (decimal n 
 unfolding number
 number-decimal n bs small =
     decimal_by_steps (λ k ds. (rest : List ℕ) → number (ds ++ rest) ≡ pos (with_digits 0 (ds ++ rest)))
-    (λ d below rest. rw (other_byte (digit_zero + d) minus_sign (λ same. omega arith)) refl)
+    (λ d below rest. rw (ne_eqb (digit_zero + d) minus_sign (λ same. omega arith)) refl)
     (λ k ds more front rest.
     let shift = append_assoc ds ((digit_zero + k % 10) ∷ []) rest in
     ap number shift ∙ front ((digit_zero + k % 10) ∷ rest) ∙ ap (λ t. pos (with_digits 0 t)) (sym shift))
@@ -73,49 +69,47 @@ with_digits-end n c bs other = rw other refl
 
 pub number_read : (z : ℤ) (c : ℕ) (bs : List ℕ) → IsSmall z → is_ascii_digit c ≡ false → number (signed_decimal z ++ c ∷ bs) ≡ z
 unfolding number
-number_read (pos n) c bs small other =
-    number-decimal n (c ∷ bs) (omega (arith, ints, small.greatest))
-    ∙ ap (λ k. pos k) (with_digits-decimal n (c ∷ bs) (omega (arith, ints, small.greatest)) ∙ with_digits-end n c bs other)
+number_read (pos n) c bs small other = grind (arith, ints, number-decimal, with_digits-decimal, with_digits-end)
 number_read (negsuc n) c bs small other =
     ap (λ k. neg_ℤ (pos k)) (with_digits-decimal (suc n) (c ∷ bs) (omega (arith, ints, small.least)) ∙ with_digits-end (suc n) c bs other)
 
 first_passes_digits : (c : ℕ) → ((d : ℕ) → d < 10 → (digit_zero + d) ≢ c) → PassesDigits (after_first c)
 unfolding after_first
-first_passes_digits c apart d bs below = rw (other_byte (digit_zero + d) c (apart d below)) refl
+first_passes_digits c apart d bs below = rw (ne_eqb (digit_zero + d) c (apart d below)) refl
 
 -- ---- the middle of a line
 
-read_passes_digits : (w : ℤ) → PassesDigits (read false w)
-unfolding read
-read_passes_digits w d bs below = rw (other_byte (digit_zero + d) line_feed (λ same. omega arith)) refl
+read_passes_digits : (w : ℤ) → PassesDigits (dots_in false w)
+unfolding dots_in
+read_passes_digits w d bs below = rw (ne_eqb (digit_zero + d) line_feed (λ same. omega arith)) refl
 
 -- a text is passed in the middle of a line
 abbrev pub IsPassed : ℤ → List ℕ → Type 0
-IsPassed w t = (rest : List ℕ) → read false w (t ++ rest) ≡ read false w rest
+IsPassed w t = (rest : List ℕ) → dots_in false w (t ++ rest) ≡ dots_in false w rest
 
 -- a text ends a line, after which no line of it draws
 abbrev pub IsEnd : ℤ → List ℕ → Type 0
-IsEnd w t = (rest : List ℕ) → read false w (t ++ rest) ≡ read true w rest
+IsEnd w t = (rest : List ℕ) → dots_in false w (t ++ rest) ≡ dots_in true w rest
 
 pub number_passed : (w z : ℤ) → IsSmall z → IsPassed w (signed_decimal z)
-unfolding read
-number_passed w z small rest = pass_number (read false w) (read_passes_digits w) (λ bs. refl) z rest small
+unfolding dots_in
+number_passed w z small rest = pass_number (dots_in false w) (read_passes_digits w) (λ bs. refl) z rest small
 
 pub end_after : (w : ℤ) (s t : List ℕ) → IsPassed w s → IsEnd w t → IsEnd w (s ++ t)
-end_after w s t passed end rest = ap (read false w) (append_assoc s t rest) ∙ passed (t ++ rest) ∙ end rest
+end_after w s t passed end rest = ap (dots_in false w) (append_assoc s t rest) ∙ passed (t ++ rest) ∙ end rest
 
 -- ---- the lines before and after the paths
 
 grid_read : (w : ℤ) → IsEnd w grid
-unfolding read grid after
+unfolding dots_in grid rest_after
 grid_read w rest = refl
 
 -- a number and a mark after it are passed
 pair_end : (w z : ℤ) (mark t : List ℕ) → IsSmall z → IsPassed w mark → IsEnd w t → IsEnd w (signed_decimal z ++ (mark ++ t))
 pair_end w z mark t small passed end = end_after w (signed_decimal z) (mark ++ t) (number_passed w z small) (end_after w mark t passed end)
 
-pub opening_read : (w : ℤ) (s : ViewBox) (rest : List ℕ) → IsSmallBox s → read true w (opening s ++ rest) ≡ read true w rest
-unfolding opening read after
+pub opening_read : (w : ℤ) (s : ViewBox) (rest : List ℕ) → IsSmallBox s → dots_in true w (opening s ++ rest) ≡ dots_in true w rest
+unfolding opening dots_in rest_after
 opening_read w s rest small =
     let line = signed_decimal s.left ++ (codes " " ++ (signed_decimal s.top ++ (codes " " ++ (signed_decimal s.width ++ (codes " "
     ++ (signed_decimal s.height ++ grid)))))) in
@@ -124,10 +118,10 @@ opening_read w s rest small =
     (pair_end w s.width (codes " ") _ small.width (λ more. refl) (end_after w (signed_decimal s.height) grid
     (number_passed w s.height small.height) (grid_read w)))) in
     let text : opening s ++ rest ≡ codes "<svg xmlns=\"http://www.w3.org/2000/svg\" viewBox=\"" ++ (line ++ rest) = simp append_assoc in
-    ap (read true w) text ∙ ends rest
+    ap (dots_in true w) text ∙ ends rest
 
-pub cover_read : (w : ℤ) (s : ViewBox) (fill rest : List ℕ) → IsSmallBox s → IsPassed w fill → read true w (cover s fill ++ rest) ≡ read true w rest
-unfolding cover read after
+pub cover_read : (w : ℤ) (s : ViewBox) (fill rest : List ℕ) → IsSmallBox s → IsPassed w fill → dots_in true w (cover s fill ++ rest) ≡ dots_in true w rest
+unfolding cover dots_in rest_after
 cover_read w s fill rest small filled =
     let line = signed_decimal s.left ++ (codes "\" y=\"" ++ (signed_decimal s.top ++ (codes "\" width=\"" ++ (signed_decimal s.width
     ++ (codes "\" height=\"" ++ (signed_decimal s.height ++ (codes "\" fill=\"" ++ (fill ++ codes "\"/>\n")))))))) in
@@ -136,10 +130,10 @@ cover_read w s fill rest small filled =
     (pair_end w s.width (codes "\" height=\"") _ small.width (λ more. refl) (pair_end w s.height (codes "\" fill=\"") _ small.height
     (λ more. refl) (end_after w fill (codes "\"/>\n") filled (λ more. refl))))) in
     let text : cover s fill ++ rest ≡ codes "<rect x=\"" ++ (line ++ rest) = simp append_assoc in
-    ap (read true w) text ∙ ends rest
+    ap (dots_in true w) text ∙ ends rest
 
-pub axes_read : (w : ℤ) (s : ViewBox) (rest : List ℕ) → IsSmallBox s → read true w (axes s ++ rest) ≡ read true w rest
-unfolding axes read after
+pub axes_read : (w : ℤ) (s : ViewBox) (rest : List ℕ) → IsSmallBox s → dots_in true w (axes s ++ rest) ≡ dots_in true w rest
+unfolding axes dots_in rest_after
 axes_read w s rest small =
     let line = signed_decimal s.top ++ (codes "v" ++ (signed_decimal s.height ++ (codes "M" ++ (signed_decimal s.left ++ (codes " 0h"
     ++ (signed_decimal s.width ++ codes "\" stroke=\"#c00\" stroke-width=\".12\"/>\n")))))) in
@@ -148,7 +142,7 @@ axes_read w s rest small =
     (pair_end w s.left (codes " 0h") _ small.left (λ more. refl) (end_after w (signed_decimal s.width) _
     (number_passed w s.width small.width) (λ more. refl)))) in
     let text : axes s ++ rest ≡ codes "<path d=\"M0 " ++ (line ++ rest) = simp append_assoc in
-    ap (read true w) text ∙ ends rest
+    ap (dots_in true w) text ∙ ends rest
 
 -- ---- a rectangle
 
@@ -167,7 +161,7 @@ sides_on : (x top : ℤ) (n : ℕ) (rest : List ℕ)
 sides_on x top n rest = simp append_assoc
 
 sides_passed : (w x top : ℤ) (n : ℕ) → IsSmall x → IsSmall top → IsSmall (pos n) → IsEnd w (sides x top n)
-unfolding read
+unfolding dots_in
 sides_passed w x top n column row width =
     pair_end w x (codes " ") _ column (λ more. refl) (pair_end w top (codes "h") _ row (λ more. refl)
     (pair_end w (pos n) (codes "v1h-") _ width (λ more. refl) (end_after w (signed_decimal (pos n)) (codes "z\n")
@@ -190,13 +184,13 @@ width_found x top n rest column row =
     ∙ pass_number (after_first before_width) digits (λ bs. refl) top (before_width ∷ width_on n rest) row
 
 -- the line of a run draws its pixels, with the weight of the path
-pub rectangle_read : (w : ℤ) (r : Run) (rest : List ℕ) → IsRun r → read true w (rectangle r ++ rest) ≡ equal_dots r.y r.x w r.len ++ read true w rest
-unfolding rectangle read after
+pub rectangle_read : (w : ℤ) (r : Run) (rest : List ℕ) → IsRun r → dots_in true w (rectangle r ++ rest) ≡ equal_dots r.y r.x w r.len ++ dots_in true w rest
+unfolding rectangle dots_in rest_after
 rectangle_read w r rest run =
     let top = neg_ℤ (r.y +ℤ pos 1) in
-    let column : IsSmall r.x = record { least = omega (arith, ints, run.left); greatest = omega (arith, ints, run.right, run.some) } in
-    let row : IsSmall top = record { least = omega (arith, ints, run.top); greatest = omega (arith, ints, run.bottom) } in
-    let width : IsSmall (pos r.len) = record { least = omega (arith, ints); greatest = omega (arith, ints, run.left, run.right) } in
+    let column : IsSmall r.x = omega (arith, ints, run) in
+    let row : IsSmall top = omega (arith, ints, run) in
+    let width : IsSmall (pos r.len) = omega (arith, ints, run) in
     let text = sides r.x top r.len ++ rest in
     let x : number text ≡ r.x = ap number (sides_on r.x top r.len rest) ∙ number_read r.x _ _ column refl in
     let edge : number (after_first before_edge text) ≡ top = ap number (top_found r.x top r.len rest column) ∙ number_read top _ _ row refl in
@@ -204,5 +198,5 @@ rectangle_read w r rest run =
     let len : unsigned_abs (number (after_first before_width text)) ≡ r.len =
     ap (λ t. unsigned_abs (number t)) (width_found r.x top r.len rest column row) ∙ ap unsigned_abs (number_read (pos r.len) _ _ width refl) in
     let line : rectangle r ++ rest ≡ codes "M" ++ text = simp append_assoc in
-    let first : read true w (codes "M" ++ text) ≡ drawn_dots w (Some text) ++ read false w text = refl in
-    ap (read true w) line ∙ first ∙ rw (x, y, len) (ap (λ others. equal_dots r.y r.x w r.len ++ others) (sides_passed w r.x top r.len column row width rest))
+    let first : dots_in true w (codes "M" ++ text) ≡ dots_of_rectangle w (Some text) ++ dots_in false w text = refl in
+    ap (dots_in true w) line ∙ first ∙ rw (x, y, len) (ap (λ others. equal_dots r.y r.x w r.len ++ others) (sides_passed w r.x top r.len column row width rest))

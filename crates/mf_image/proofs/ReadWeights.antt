@@ -1,16 +1,16 @@
 -- The weights of pixels, gathered weight by weight.
-use Rattle.std.proofs.Common.{◌≡◌, ◌≢◌, ℕ, zero, suc, false, if◌then◌else◌, ◌&&◌, ℤ, pos, ◌+ℤ◌, ◌≤ℤ◌, ◌<ℤ◌, List, [], ◌∷◌, ◌++◌}
+use Rattle.std.proofs.Common.{◌≡◌, ◌≢◌, ℕ, zero, suc, false, if◌then◌else◌, ℤ, pos, ◌+ℤ◌, ◌≤ℤ◌, ◌<ℤ◌, List, [], ◌∷◌, ◌++◌}
 use Rattle.std.proofs.Common.{inl, inr, refl, sym, ap, ◌∙◌, subst, arith}
 use Rattle.std.specs.List.{All, flat_map}
 use Rattle.std.specs.Ordering.{int_eq}
 use Rattle.std.proofs.lemmas.Bool.{cond_both, cond-true, cond-false, cases_Bool, false≢true}
-use Rattle.std.proofs.lemmas.Bool.Decides.{Decides-int_eq}
+use Rattle.std.proofs.lemmas.Bool.Decides.{Decides-and, Decides-int_eq}
 use Rattle.std.proofs.lemmas.Int.{ints}
 use Rattle.std.proofs.lemmas.List.Elements.{All-head, All-tail, All-cons, All-nil, All-weaker}
 use Rattle.mf_rows.specs.declared.run.Run.{Run}
-use Rattle.mf_rows.specs.Dots.{Dot, AreDotsFrom, place, weight_at}
+use Rattle.mf_rows.specs.Dots.{Dot, AreDotsFrom, IsDot, place, weight_at}
 use Rattle.mf_rows.specs.Runs.{equal_dots, dots_of}
-use Rattle.mf_rows.proofs.DotsLemmas.{IsAt, weight_at-here, weight_at-elsewhere}
+use Rattle.mf_rows.proofs.DotsLemmas.{IsAt, dots_from-after, dots_from-lawful, weight_at-here, weight_at-elsewhere}
 use Rattle.mf_image.specs.Svg.{weights_of}
 
 -- the dots of this weight
@@ -26,11 +26,7 @@ gathered ds w (suc n) = dots_with w ds ++ gathered ds (w +ℤ pos 1) n
 pub dots_with-append : (w : ℤ) (ds es : List Dot) → dots_with w (ds ++ es) ≡ dots_with w ds ++ dots_with w es
 unfolding dots_with
 dots_with-append w [] es = refl
-dots_with-append w (d ∷ ds) es =
-    cond_both (int_eq d.weight w) (d ∷ dots_with w (ds ++ es)) (dots_with w (ds ++ es))
-    (λ all. all ≡ (if int_eq d.weight w then d ∷ dots_with w ds else dots_with w ds) ++ dots_with w es)
-    (λ yes. rw yes (ap (λ others. d ∷ others) (dots_with-append w ds es)))
-    (λ no. rw no (dots_with-append w ds es))
+dots_with-append w (d ∷ ds) es = grind (arith, ints, cond_both, dots_with-append w ds es)
 
 pub dots_with-same : (w y x : ℤ) (n : ℕ) → dots_with w (equal_dots y x w n) ≡ equal_dots y x w n
 unfolding dots_with equal_dots
@@ -47,14 +43,7 @@ dots_with-other w v y x (suc n) other = cond-false (int_eq v w) _ _ other ∙ do
 
 -- a pixel is there, or is not
 at_or_not : (P : Type 0) (d : Dot) (x y : ℤ) → (IsAt d x y → P) → ((IsAt d x y → ⊥) → P) → P
-at_or_not P d x y here elsewhere =
-    elim (cases_Bool (int_eq d.x x)) [
-      | inl column ↦ elim (cases_Bool (int_eq d.y y)) [
-        | inl row ↦ here (record { column = (Decides-int_eq d.x x).0 column; row = (Decides-int_eq d.y y).0 row })
-        | inr other ↦ elsewhere (λ at. false≢true (sym other ∙ (Decides-int_eq d.y y).1 at.row))
-      ]
-      | inr other ↦ elsewhere (λ at. false≢true (sym other ∙ (Decides-int_eq d.x x).1 at.column))
-    ]
+at_or_not P d x y here elsewhere = grind (arith, ints, Decides-and, Decides-int_eq, cases_Bool)
 
 -- no dot of weight w is at the pixel, so the dots of weight w do not affect it
 absent : (w : ℤ) (ds es : List Dot) (x y : ℤ) → All (λ d. d.weight ≡ w → IsAt d x y → ⊥) ds → weight_at (dots_with w ds ++ es) x y ≡ weight_at es x y
@@ -86,12 +75,9 @@ present w (d ∷ ds) es x y nonzero weight =
 
 -- dots from a place on are not at a pixel before it
 none_before : (low : ℤ) (ds : List Dot) (x y : ℤ) → AreDotsFrom low ds → place x y <ℤ low → All (λ d. IsAt d x y → ⊥) ds
-none_before low [] x y dots below = All-nil (λ d. IsAt d x y → ⊥)
-none_before low (d ∷ ds) x y dots below =
-    let start : low ≤ℤ place d.x d.y = dots.1 in
-    All-cons (λ d. IsAt d x y → ⊥) d ds
-    (λ at. let same : place d.x d.y ≡ place x y = rw (at.column, at.row) refl in omega (arith, ints))
-    (none_before (place d.x d.y +ℤ pos 1) ds x y dots.2 (omega (arith, ints)))
+none_before low ds x y dots below =
+    All-weaker (λ d. low ≤ℤ place d.x d.y) (λ d. IsAt d x y → ⊥)
+    (λ d start at. let same : place d.x d.y ≡ place x y = rw (at.column, at.row) refl in omega (arith, ints)) ds (dots_from-after low ds dots)
 
 -- no dot of a weight is at a pixel that has another weight, nor where the weight is 0
 none_of : (low w : ℤ) (ds : List Dot) (x y : ℤ) → AreDotsFrom low ds → weight_at ds x y ≢ w → All (λ d. d.weight ≡ w → IsAt d x y → ⊥) ds
@@ -108,9 +94,8 @@ none_of low w (d ∷ ds) x y dots other =
     (none_of (place d.x d.y +ℤ pos 1) w ds x y dots.2 (λ same. other (weight_at-elsewhere d ds x y elsewhere ∙ same))))
 
 none_of_zero : (low : ℤ) (ds : List Dot) (x y : ℤ) → AreDotsFrom low ds → All (λ d. d.weight ≡ pos 0 → IsAt d x y → ⊥) ds
-none_of_zero low [] x y dots = All-nil (λ d. d.weight ≡ pos 0 → IsAt d x y → ⊥)
-none_of_zero low (d ∷ ds) x y dots =
-    All-cons (λ d. d.weight ≡ pos 0 → IsAt d x y → ⊥) d ds (λ zero _. dots.0.nonzero zero) (none_of_zero (place d.x d.y +ℤ pos 1) ds x y dots.2)
+none_of_zero low ds x y dots =
+    All-weaker IsDot (λ d. d.weight ≡ pos 0 → IsAt d x y → ⊥) (λ d lawful zero _. lawful.nonzero zero) ds (dots_from-lawful low ds dots)
 
 -- a weight below all of those that are gathered is not found
 below : (low : ℤ) (ds : List Dot) (w : ℤ) (n : ℕ) (x y : ℤ) → AreDotsFrom low ds → weight_at ds x y <ℤ w → weight_at (gathered ds w n) x y ≡ pos 0
@@ -152,9 +137,7 @@ found low ds w (suc n) x y dots least greatest =
 either : (P : ℤ → Type 0) (y x w : ℤ) (n : ℕ) (es : List Dot) (u v : ℤ) → P w → P (weight_at es u v) → P (weight_at (equal_dots y x w n ++ es) u v)
 unfolding equal_dots weight_at
 either P y x w zero es u v here others = others
-either P y x w (suc n) es u v here others =
-    cond_both (int_eq x u && int_eq y v) w (weight_at (equal_dots y (x +ℤ pos 1) w n ++ es) u v) P (λ _. here)
-    (λ _. either P y (x +ℤ pos 1) w n es u v here others)
+either P y x w (suc n) es u v here others = grind (arith, ints, cond_both, either P y (x +ℤ pos 1) w n es u v here others)
 
 -- what holds for 0 and for the weights of all runs holds for the weight of each pixel
 pub weight_of_runs : (P : ℤ → Type 0) (rs : List Run) (x y : ℤ) → P (pos 0) → All P (weights_of rs) → P (weight_at (flat_map dots_of rs) x y)

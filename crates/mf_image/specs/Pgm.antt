@@ -1,4 +1,5 @@
--- The PGM image of a picture (Netpbm's portable graymap): a byte for each pixel of its least box, rows in order from the top.
+-- The PGM image of a picture (Netpbm's portable graymap): the gray value of each pixel of its least box in a byte, rows in order from
+-- the top.
 use Rattle.std.specs.Prelude.{◌+◌, ◌-◌, ◌*◌, ℕ, ℤ, pos, negsuc, int_lt, min, List, [], ◌++◌, codes, if◌then◌else◌}
 use Rattle.std.specs.Fmt.{signed_decimal}
 use Rattle.std.specs.Int.RustNames.{unsigned_abs}
@@ -8,41 +9,42 @@ use Rattle.mf_rows.specs.Dots.{Dot}
 use Rattle.mf_show.specs.Grid.{extent, shown_at, shown_box}
 use Rattle.mf_image.specs.Boxes.{image_box}
 
--- gray levels: that of weight 0, the step between those of 1, 2 and 3, and the one from which those of negative weights are counted
-abbrev pub white : ℕ
-white = 255
+-- the greatest gray value (Netpbm: maxval), which is white; the step between the gray values of 1, 2 and 3; and the number to which the
+-- absolute values of negative weights are added
+abbrev pub maxval : ℕ
+maxval = 255
 
 abbrev pub gray_step : ℕ
 gray_step = 40
 
-abbrev pub before_light : ℕ
-before_light = 199
+abbrev pub negative_base : ℕ
+negative_base = 199
 
--- the byte of a weight: 255 for 0; 120, 80 and 40 for 1, 2 and 3; 39 to 1 for 4 to 42, and 0 above; 200 to 253 for -1 to -54, and 254
--- below
-abbrev pub level : ℤ → ℕ
-level w =
-    if int_eq w (pos 0) then white
-    else (if int_lt w (pos 0) then min (before_light + unsigned_abs w) (white - 1)
+-- the gray value of a weight: 255 for 0; 120, 80 and 40 for 1, 2 and 3; 39 to 1 for 4 to 42, and 0 above; 200 to 253 for -1 to -54, and
+-- 254 below
+abbrev pub gray_value : ℤ → ℕ
+gray_value w =
+    if int_eq w (pos 0) then maxval
+    else (if int_lt w (pos 0) then min (negative_base + unsigned_abs w) (maxval - 1)
     else (if int_lt w (pos 4) then gray_step * (4 - unsigned_abs w) else gray_step + 3 - unsigned_abs w))
 
--- the least and the greatest weight that share their byte with no other weight
-abbrev pub least_told : ℤ
-least_told = negsuc 53
+-- the least and the greatest weight whose gray value no other weight has
+abbrev pub least_distinct_weight : ℤ
+least_distinct_weight = negsuc 53
 
-abbrev pub greatest_told : ℤ
-greatest_told = pos 42
+abbrev pub greatest_distinct_weight : ℤ
+greatest_distinct_weight = pos 42
 
--- what comes before the bytes of the pixels: the left column and the top row, and the numbers of columns and rows
+-- what comes before the gray values: the left column and the top row, and the numbers of columns and rows
 abbrev pub pgm_head : Box4 → List ℕ
 pgm_head b =
     codes "P5\n# left " ++ signed_decimal b.min_x ++ codes " top " ++ signed_decimal b.max_y ++ codes "\n" ++ signed_decimal
     (pos (extent b.min_x b.max_x)) ++ codes " "
     ++ signed_decimal (pos (extent b.min_y b.max_y)) ++ codes "\n255\n"
 
--- the bytes of the pixels of a box
+-- the gray values of the pixels of a box
 abbrev pub box_bytes : List Dot → Box4 → List ℕ
-box_bytes ds b = shown_box (shown_at level ds) [] b
+box_bytes ds b = shown_box (shown_at gray_value ds) [] b
 
 -- the PGM image of a picture
 unfoldable pub pgm_bytes : List Dot → List ℕ

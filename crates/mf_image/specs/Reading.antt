@@ -6,13 +6,13 @@ use Rattle.std.specs.Int.RustNames.{unsigned_abs}
 use Rattle.mf_rows.specs.Dots.{Dot}
 use Rattle.mf_rows.specs.Runs.{equal_dots}
 use Rattle.mf_show.specs.Grid.{digit_zero, line_feed, minus_sign}
-use Rattle.mf_image.specs.Pgm.{before_light, gray_step, white}
+use Rattle.mf_image.specs.Pgm.{gray_step, maxval, negative_base}
 
 -- what comes after these first bytes of a text, if it begins with them
-unfoldable pub after : List ℕ → List ℕ → Option (List ℕ)
-after [] text = Some text
-after (p ∷ ps) [] = None
-after (p ∷ ps) (b ∷ bs) = if b == p then after ps bs else None
+unfoldable pub rest_after : List ℕ → List ℕ → Option (List ℕ)
+rest_after [] text = Some text
+rest_after (p ∷ ps) [] = None
+rest_after (p ∷ ps) (b ∷ bs) = if b == p then rest_after ps bs else None
 
 -- what comes after the first byte c of a text
 unfoldable pub after_first : ℕ → List ℕ → List ℕ
@@ -42,25 +42,25 @@ abbrev pub before_width : ℕ
 before_width = 104
 
 -- the dots of a rectangle, `M` and then its column, the upper edge of its row, and its width
-abbrev pub drawn_dots : ℤ → Option (List ℕ) → List Dot
-drawn_dots w None = []
-drawn_dots w (Some text) =
+abbrev pub dots_of_rectangle : ℤ → Option (List ℕ) → List Dot
+dots_of_rectangle w None = []
+dots_of_rectangle w (Some text) =
     equal_dots (neg_ℤ (number (after_first before_edge text) +ℤ pos 1)) (number text) w (unsigned_abs (number (after_first before_width text)))
 
 -- the dots that the lines of a text draw, from the start of a line on or from its middle; a path of weight w is open
-unfoldable pub read : Bool → ℤ → List ℕ → List Dot
-read starts w [] = []
-read true w (b ∷ bs) =
-    drawn_dots w (after (codes "M") (b ∷ bs)) ++ read (b == line_feed) (named_weight w (after (codes "<path id=\"weight") (b ∷ bs))) bs
-read false w (b ∷ bs) = read (b == line_feed) w bs
+unfoldable pub dots_in : Bool → ℤ → List ℕ → List Dot
+dots_in starts w [] = []
+dots_in true w (b ∷ bs) =
+    dots_of_rectangle w (rest_after (codes "M") (b ∷ bs)) ++ dots_in (b == line_feed) (named_weight w (rest_after (codes "<path id=\"weight") (b ∷ bs))) bs
+dots_in false w (b ∷ bs) = dots_in (b == line_feed) w bs
 
 -- the dots of an image
 abbrev pub read_svg : List ℕ → List Dot
-read_svg text = read true (pos 0) text
+read_svg text = dots_in true (pos 0) text
 
--- the weight of a byte of a PGM image, where no other weight has this byte
-abbrev pub weight_of_level : ℕ → ℤ
-weight_of_level k =
-    if k == white then pos 0
-    else (if nat_lt before_light k then neg_ℤ (pos (k - before_light))
+-- the weight of a gray value, where no other weight has it
+abbrev pub weight_of_gray_value : ℕ → ℤ
+weight_of_gray_value k =
+    if k == maxval then pos 0
+    else (if nat_lt negative_base k then neg_ℤ (pos (k - negative_base))
     else (if nat_lt k gray_step then pos (gray_step + 3 - k) else pos (4 - k / gray_step)))

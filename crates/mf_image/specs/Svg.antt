@@ -89,13 +89,13 @@ axes v =
     ++ signed_decimal v.width ++ codes "\" stroke=\"#c00\" stroke-width=\".12\"/>\n"
 
 -- no number of an image is greater than this
-abbrev pub most : ℕ
-most = 40000
+abbrev pub greatest_number : ℕ
+greatest_number = 40000
 
 -- a number of an image is small
 pub record IsSmall (z : ℤ) : Type 0 where
-  pub least : negsuc most ≤ℤ z
-  pub greatest : z ≤ℤ pos most
+  pub least : negsuc greatest_number ≤ℤ z
+  pub greatest : z ≤ℤ pos greatest_number
 
 -- the numbers of a view box are small
 pub record IsSmallBox (v : ViewBox) : Type 0 where

@@ -4,21 +4,21 @@ ghost use Rattle.std.specs.Prelude.{◌≡◌, ◌<◌, ◌+◌, ◌*◌, ℕ, �
 ghost use Rattle.mf_rows.specs.Dots.{Dot, IsPicture, weight_at};
 ghost use Rattle.mf_show.specs.Grid.{extent};
 ghost use Rattle.mf_image.specs.Boxes.{image_box};
-ghost use Rattle.mf_image.specs.Pgm.{greatest_told, least_told, level, pgm_bytes, pgm_head};
-ghost use Rattle.mf_image.specs.Reading.{read_svg, weight_of_level};
+ghost use Rattle.mf_image.specs.Pgm.{gray_value, greatest_distinct_weight, least_distinct_weight, pgm_bytes, pgm_head};
+ghost use Rattle.mf_image.specs.Reading.{read_svg, weight_of_gray_value};
 ghost use Rattle.mf_image.specs.Svg.{svg_text};
 
-/// After its head, a PGM image has the byte of the weight of each pixel of its box, rows in order from the top and columns from the
-/// left, and nothing else.
+/// After its head, a PGM image has the gray value of each pixel of its box, rows in order from the top and columns from the left, and
+/// nothing else.
 pub fn pgm_has_each_pixel()
     ensures pixels { (ds : List Dot) (i j : ℕ) → let b = image_box ds in i < extent b.min_x b.max_x → j < extent b.min_y b.max_y →
-        get_or (pgm_bytes ds) (length (pgm_head b) + (j * extent b.min_x b.max_x + i)) 0 ≡ level (weight_at ds (b.min_x +ℤ pos i) (b.max_y -ℤ pos j)) }
+        get_or (pgm_bytes ds) (length (pgm_head b) + (j * extent b.min_x b.max_x + i)) 0 ≡ gray_value (weight_at ds (b.min_x +ℤ pos i) (b.max_y -ℤ pos j)) }
     ensures whole { (ds : List Dot) → let b = image_box ds in length (pgm_bytes ds) ≡ length (pgm_head b) + extent b.min_y b.max_y * extent b.min_x b.max_x }
 {}
 
-/// The byte of a weight in -54..=42 gives the weight back.
-pub fn levels_are_read_back()
-    ensures { (w : ℤ) → least_told ≤ℤ w → w ≤ℤ greatest_told → weight_of_level (level w) ≡ w }
+/// The gray value of a weight in -54..=42 gives the weight back.
+pub fn gray_values_are_read_back()
+    ensures { (w : ℤ) → least_distinct_weight ≤ℤ w → w ≤ℤ greatest_distinct_weight → weight_of_gray_value (gray_value w) ≡ w }
 {}
 
 /// An image is read back: a reader of its text, which passes all lines but those that begin a path and those of rectangles, finds

@@ -4,7 +4,7 @@ ghost use Rattle.mf_geom.specs.Coordinates.{least_coordinate, last_in_field};
 ghost use Rattle.mf_rows.specs.Boxes.{IsBoxOfField};
 ghost use Rattle.mf_show.specs.Grid.{extent, shown_at, shown_row};
 ghost use Rattle.mf_image.specs.Boxes.{IsImageBox, IsTooLargeForImage};
-ghost use Rattle.mf_image.specs.Pgm.{level, pgm_bytes, pgm_head};
+ghost use Rattle.mf_image.specs.Pgm.{gray_value, pgm_bytes, pgm_head};
 
 use crate::bounds::image_box;
 use crate::fault::ImageFault;
@@ -13,11 +13,11 @@ use mf_rows::{Box4, Picture};
 use mf_show::{extent, push_number};
 use std::alloc::Global;
 
-/// The PGM image of a picture (Netpbm's portable graymap, `P5`, maxval 255): a byte for each pixel of its least box, rows in order
-/// from the top. A comment has the column of the left edge and the row of the top. 0 is 255 (white); 1, 2 and 3 are 120, 80 and 40;
-/// 4 to 42 are 39 to 1, and what is above is 0; -1 to -54 are 200 to 253, and what is below is 254. The image of the blank picture is
-/// one white pixel at the origin. Refused with `ImageTooLarge` exactly where the least box is wider or higher than 4,096 pixels, and
-/// with `OutOfMemory` where an allocation fails.
+/// The PGM image of a picture (Netpbm's portable graymap, `P5`, maxval 255): the gray value of each pixel of its least box in a
+/// byte, rows in order from the top. A comment has the column of the left edge and the row of the top. The gray value of weight 0
+/// is 255 (white); 1, 2 and 3 are 120, 80 and 40; 4 to 42 are 39 to 1, and what is above is 0; -1 to -54 are 200 to 253, and what
+/// is below is 254. The image of the blank picture is one white pixel at the origin. Refused with `ImageTooLarge` exactly where the
+/// least box is wider or higher than 4,096 pixels, and with `OutOfMemory` where an allocation fails.
 pub fn pgm(alloc: Global, picture: &Picture) -> Result<Vec<u8>, ImageFault>
     ensures bytes { IfOk result (λ bytes. bytes.items ≡ pgm_bytes picture.now) }
     ensures too_large { IsTooLargeForImage picture.now ↔ (result ≡ Err ImageFault.ImageTooLarge) }
@@ -41,7 +41,7 @@ fn pgm_bytes(alloc: Global, picture: &Picture, bounds: &Box4) -> Result<Vec<u8>,
     Ok(bytes)
 }
 
-/// Appends what comes before the bytes of the pixels.
+/// Appends what comes before the gray values.
 fn push_head(bytes: &mut Vec<u8>, bounds: &Box4) -> Result<(), OutOfMemory>
     requires { IsBoxOfField bounds.now }
     ensures { IfOk result (λ _. bytes.new.items ≡ bytes.old.items ++ pgm_head bounds.now) }
@@ -55,7 +55,7 @@ fn push_head(bytes: &mut Vec<u8>, bounds: &Box4) -> Result<(), OutOfMemory>
     push_number(bytes, rows as i32, b"\n255\n")
 }
 
-/// Appends the bytes of a row, from the first to the last column.
+/// Appends the gray values of a row, from the first to the last column.
 fn push_row(
     bytes: &mut Vec<u8>,
     picture: &Picture,
@@ -66,17 +66,18 @@ fn push_row(
     requires least { least_coordinate ≤ℤ first }
     requires greatest { last ≤ℤ last_in_field }
     requires columns { first ≤ℤ last }
-    ensures { IfOk result (λ _. bytes.new.items ≡ bytes.old.items ++ shown_row (shown_at level picture.now y) first (extent first last)) }
+    ensures { IfOk result (λ _. bytes.new.items ≡ bytes.old.items ++ shown_row (shown_at gray_value picture.now y) first (extent first last)) }
 {
     for x in first..last + 1 {
-        bytes.push(level(picture.weight(x, y)))?;
+        bytes.push(gray_value(picture.weight(x, y)))?;
     }
     Ok(())
 }
 
-/// The byte of a weight. A byte cannot hold every weight, so 1, 2 and 3 differ at sight, and -54 to 42 are told apart.
-fn level(weight: i32) -> u8
-    ensures { result ≡ level weight }
+/// The gray value of a weight. A byte cannot hold every weight, so 1, 2 and 3 differ at sight, and no other weight has the gray value
+/// of one in -54 to 42.
+fn gray_value(weight: i32) -> u8
+    ensures { result ≡ gray_value weight }
 {
     match weight {
         0 => 255,

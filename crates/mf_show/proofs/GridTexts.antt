@@ -1,21 +1,21 @@
 -- Grid texts, and pictures that are too large for them.
-use Rattle.std.proofs.Common.{◌≡◌, ◌⊎◌, inl, inr, ⊎_elim, List, [], Option, None, Some, codes, ap, arith}
+use Rattle.std.proofs.Common.{◌≡◌, ◌⊎◌, inl, inr, ⊎_elim, List, [], Option, None, Some, codes, true, false, ap, arith}
 use Rattle.std.specs.Prelude.{MatchOption, ◌↔◌}
-use Rattle.std.proofs.lemmas.Bool.{cases_lt}
+use Rattle.std.proofs.lemmas.Bool.{cases_lt, false≢true}
 use Rattle.mf_rows.specs.declared.bounds.Box4.{Box4}
 use Rattle.mf_rows.specs.Bounds.{IsLeastBox}
 use Rattle.mf_rows.specs.Boxes.{box_of}
 use Rattle.mf_rows.specs.Dots.{Dot}
 use Rattle.mf_rows.proofs.BoxesOfDots.{least_box_is, no_box}
-use Rattle.mf_show.specs.Grid.{IsLargerThan, IsTooLargeForGrid, box_text, extent, greatest_grid_side, grid_text, text_in}
+use Rattle.mf_show.specs.Grid.{IsLargerThan, IsTooLargeForGrid, box_text, extent, greatest_grid_side, grid_text, grid_text_in}
 
 pub grid_of_box : (ds : List Dot) (b : Box4) → IsLeastBox ds b → grid_text ds ≡ box_text ds b
 unfolding grid_text
-grid_of_box ds b least = ap (text_in ds) (least_box_is ds b least)
+grid_of_box ds b least = ap (grid_text_in ds) (least_box_is ds b least)
 
 pub grid_of_blank : (ds : List Dot) → ds ≡ [] → grid_text ds ≡ codes "blank\n"
 unfolding grid_text
-grid_of_blank ds blank = ap (text_in ds) (no_box ds blank)
+grid_of_blank ds blank = ap (grid_text_in ds) (no_box ds blank)
 
 -- whether a picture is too large can be told
 pub large_or_not : (ds : List Dot) → IsTooLargeForGrid ds ⊎ (IsTooLargeForGrid ds → ⊥)
@@ -32,9 +32,16 @@ large_or_not ds = by_box (box_of ds)
           ]
         ]
 
+-- a picture whose text is not refused as too large is not
+pub neither : {P Q : Type 0} → (P → ⊥) → (Q → ⊥) → P ↔ Q
+neither no_p no_q = (λ p. absurd (no_p p), λ q. absurd (no_q q))
+
 pub blank_fits : (ds : List Dot) → ds ≡ [] → IsTooLargeForGrid ds → ⊥
 blank_fits ds blank large = rw (no_box ds blank) at large
 
 -- a picture is too large exactly where its least box is
 pub large_box : (ds : List Dot) (b : Box4) → IsLeastBox ds b → IsTooLargeForGrid ds ↔ IsLargerThan greatest_grid_side b
 large_box ds b least = rw (least_box_is ds b least) (λ large. large, λ large. large)
+
+pub small_box_fits : (ds : List Dot) (b : Box4) → IsLeastBox ds b → (IsLargerThan greatest_grid_side b → false ≡ true) → IsTooLargeForGrid ds → ⊥
+small_box_fits ds b least test large = false≢true (test ((large_box ds b least).0 large))

@@ -32,11 +32,7 @@ weight_off r x y off = sym (weight_at-off_run [] r x y off)
 -- pixels after the first run have the weights of the other runs
 same_after : (r : Run) (rs : List Run) (p : ℤ) → place (r.x +ℤ pos r.len) r.y ≤ℤ p → AreSameFrom p (flat_map dots_of (r ∷ rs)) (flat_map dots_of rs)
 unfolding dots_of
-same_after r rs p end = record {
-  same = λ x y from.
-      let passed = before_equal_dots-end r.y r.x r.weight r.len (place x y) (omega (arith, ints)) in
-      sym (weight_at-append_after (equal_dots r.y r.x r.weight r.len) (flat_map dots_of rs) x y passed);
-}
+same_after r rs p end = grind (arith, ints, before_equal_dots-end, weight_at-append_after)
 
 -- a pixel that the first run does not end before has the weight that this run gives to it
 weight_reached : (r : Run) (rs : List Run) (x y : ℤ) → AreRuns (r ∷ rs) → IsNotBefore x y r
@@ -61,10 +57,7 @@ none_passed low all ordered = record { order = ordered; same = record { same = �
 -- fewer runs are ahead, and later pixels have the same weights
 pub ahead_later : (low between high : ℤ) (ds : List Dot) (rs others : List Run) → low ≤ℤ high → between ≤ℤ high → AreRuns others
     → AreSameFrom between (flat_map dots_of rs) (flat_map dots_of others) → AreAhead low ds rs → AreAhead high ds others
-ahead_later low between high ds rs others le more ordered later so_far = record {
-  order = ordered;
-  same = record { same = λ x y from. later.same x y (omega (arith, ints)) ∙ so_far.same.same x y (omega (arith, ints)) };
-}
+ahead_later low between high ds rs others le more ordered later so_far = grind (arith, ints)
 
 -- ---- runs that are passed
 

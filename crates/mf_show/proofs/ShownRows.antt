@@ -1,10 +1,10 @@
 -- Rows of pixels, written row by row and pixel by pixel.
-use Rattle.std.proofs.Common.{◌≡◌, ℕ, suc, ℤ, pos, ◌+ℤ◌, ◌-ℤ◌, ◌≤ℤ◌, List, [], ◌∷◌, ◌++◌, refl, sym, ap, ◌∙◌, append_assoc, arith}
+use Rattle.std.proofs.Common.{◌≡◌, ℕ, suc, ℤ, pos, ◌+ℤ◌, ◌-ℤ◌, ◌≤ℤ◌, List, [], ◌∷◌, ◌++◌, refl, ap, append_assoc, arith}
 use Rattle.std.proofs.lemmas.Int.{ints}
-use Rattle.std.proofs.lemmas.List.{append-nil}
 use Rattle.mf_rows.specs.declared.bounds.Box4.{Box4}
 use Rattle.mf_rows.specs.Boxes.{IsBoxOfField}
 use Rattle.mf_show.specs.Grid.{extent, shown_box, shown_line, shown_row, shown_rows}
+use Rattle.mf_show.proofs.Pieces.{piece_more, pieces_all}
 
 pub extent-next : (x last : ℤ) → x ≤ℤ last → extent x last ≡ suc (extent (x +ℤ pos 1) last)
 extent-next x last le = omega (arith, ints)
@@ -37,23 +37,18 @@ pub record IsRowSoFar (r : ShownRow) (x : ℤ) (text : List ℕ) : Type 0 where
 pub row_none : (r : ShownRow) → r.first ≤ℤ r.last → IsRowSoFar r r.first r.old
 row_none r columns = record { left = omega (arith, ints); right = omega (arith, ints); row = refl }
 
-row_from-next : (r : ShownRow) (x : ℤ) → x ≤ℤ r.last → row_from r x ≡ r.show x ∷ row_from r (x +ℤ pos 1)
-unfolding shown_row
-row_from-next r x column = ap (shown_row r.show x) (extent-next x r.last column)
-
 pub row_more : (r : ShownRow) (x : ℤ) (text new : List ℕ) (k : ℕ) → x ≤ℤ r.last → new ≡ text ++ k ∷ [] → k ≡ r.show x
     → IsRowSoFar r x text → IsRowSoFar r (x +ℤ pos 1) new
+unfolding shown_row
 row_more r x text new k column pushed shown so_far = record {
   left = omega (arith, ints, so_far.left);
   right = omega (arith, ints);
-  row = rw (pushed, shown) (append_assoc text (r.show x ∷ []) (row_from r (x +ℤ pos 1)))
-      ∙ ap (λ more. text ++ more) (sym (row_from-next r x column)) ∙ so_far.row;
+  row = piece_more text (r.show x ∷ []) _ _ new _ (rw shown at pushed) (ap (shown_row r.show x) (extent-next x r.last column)) so_far.row;
 }
 
 pub row_all : (r : ShownRow) (x : ℤ) (text : List ℕ) → x ≡ r.last +ℤ pos 1 → IsRowSoFar r x text → text ≡ r.old ++ row_from r r.first
 unfolding shown_row
-row_all r x text over so_far =
-    sym (append-nil text) ∙ ap (λ n. text ++ shown_row r.show x n) (sym (extent-none x r.last over)) ∙ so_far.row
+row_all r x text over so_far = pieces_all text _ _ (ap (shown_row r.show x) (extent-none x r.last over)) so_far.row
 
 -- ---- a box
 
@@ -77,22 +72,15 @@ pub record IsBoxSoFar (s : ShownBox) (y : ℤ) (text : List ℕ) : Type 0 where
 pub box_none : (s : ShownBox) (y : ℤ) (text : List ℕ) → IsBoxOfField s.bounds → y ≡ s.bounds.max_y → text ≡ s.head → IsBoxSoFar s y text
 box_none s y text box start begun = record { bottom = omega (arith, ints, box.rows); top = omega (arith, ints); rows = rw (start, begun) refl }
 
-rows_from-next : (s : ShownBox) (y : ℤ) → s.bounds.min_y ≤ℤ y → rows_from s y ≡ shown_line s.show s.end s.bounds y ++ rows_from s (y -ℤ pos 1)
-unfolding shown_rows
-rows_from-next s y row = ap (shown_rows (shown_line s.show s.end s.bounds) y) (extent-lower s.bounds.min_y y row)
-
 pub box_more : (s : ShownBox) (y : ℤ) (text new : List ℕ) → s.bounds.min_y ≤ℤ y
     → new ≡ text ++ shown_row (s.show y) s.bounds.min_x (extent s.bounds.min_x s.bounds.max_x) ++ s.end
     → IsBoxSoFar s y text → IsBoxSoFar s (y -ℤ pos 1) new
-box_more s y text new row pushed so_far = record {
-  bottom = omega (arith, ints);
-  top = omega (arith, ints, so_far.top);
-  rows = rw pushed (simp append_assoc) ∙ ap (λ all. text ++ all) (sym (rows_from-next s y row)) ∙ so_far.rows;
-}
+unfolding shown_rows
+box_more s y text new row pushed so_far = grind (arith, ints, piece_more, append_assoc, extent-lower)
 
 pub box_all : (s : ShownBox) (y : ℤ) (text : List ℕ) → y +ℤ pos 1 ≡ s.bounds.min_y → IsBoxSoFar s y text
     → text ≡ s.head ++ shown_box s.show s.end s.bounds
 unfolding shown_rows
 box_all s y text over so_far =
     let none : extent s.bounds.min_y y ≡ 0 = omega (arith, ints) in
-    sym (append-nil text) ∙ ap (λ n. text ++ shown_rows (shown_line s.show s.end s.bounds) y n) (sym none) ∙ so_far.rows
+    pieces_all text _ _ (ap (shown_rows (shown_line s.show s.end s.bounds) y) none) so_far.rows

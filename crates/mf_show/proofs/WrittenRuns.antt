@@ -1,7 +1,7 @@
 -- The lines of a picture's runs, written one after another.
-use Rattle.std.proofs.Common.{◌≡◌, ℕ, List, [], ◌∷◌, ◌++◌, codes, length, refl, sym, ap, ◌∙◌, append_assoc, length-append, arith}
+use Rattle.std.proofs.Common.{◌≡◌, ℕ, List, [], ◌∷◌, ◌++◌, codes, length, refl, sym, ap, ◌∙◌, length-append, arith}
+use Rattle.std.proofs.lemmas.Int.{ints}
 use Rattle.std.specs.List.{All, flat_map}
-use Rattle.std.proofs.lemmas.List.{append-nil}
 use Rattle.std.proofs.lemmas.List.Elements.{All-head, All-rest, All-same}
 use Rattle.mf_rows.specs.declared.run.Run.{Run}
 use Rattle.mf_rows.specs.Dots.{Dot, IsPicture}
@@ -9,6 +9,7 @@ use Rattle.mf_rows.specs.Order.{IsRun}
 use Rattle.mf_rows.specs.Runs.{runs_of}
 use Rattle.mf_rows.proofs.PassedRuns.{runs_are_lawful}
 use Rattle.mf_show.specs.RunText.{run_line, run_text}
+use Rattle.mf_show.proofs.Pieces.{piece_more, pieces_all}
 
 -- with the texts of the last runs, rs, the text so far is whole
 pub record AreWritten (line : Run → List ℕ) (whole : List ℕ) (rs : List Run) (text : List ℕ) : Type 0 where
@@ -26,11 +27,11 @@ pub one_more_written : (line : Run → List ℕ) (whole : List ℕ) (rs : List R
     → new ≡ text ++ line r → AreWritten line whole rs text → AreWritten line whole others new
 one_more_written line whole rs r others text new first written so_far = record {
   runs = All-rest IsRun r others rs first so_far.runs;
-  lines = rw written (append_assoc text (line r) (flat_map line others)) ∙ ap (λ all. text ++ flat_map line all) (sym first) ∙ so_far.lines;
+  lines = piece_more text (line r) _ _ new whole written (ap (flat_map line) first) so_far.lines;
 }
 
 pub all_written : (line : Run → List ℕ) (whole : List ℕ) (rs : List Run) (text : List ℕ) → rs ≡ [] → AreWritten line whole rs text → text ≡ whole
-all_written line whole rs text none so_far = sym (append-nil text) ∙ ap (λ all. text ++ flat_map line all) (sym none) ∙ so_far.lines
+all_written line whole rs text none so_far = pieces_all text _ whole (ap (flat_map line) none) so_far.lines
 
 -- ---- the run text
 
@@ -44,9 +45,7 @@ run_text-some [] ds same some = absurd (some refl)
 run_text-some (r ∷ rs) ds same some = rw same refl
 
 pub blank_text : (ds : List Dot) (text : List ℕ) → text ≡ flat_map run_line (runs_of ds) → text ≡ [] → codes "blank\n" ≡ run_text ds
-blank_text ds text lines empty =
-    let blank = some_written (runs_of ds) (sym lines ∙ empty) in
-    rw blank refl
+blank_text ds text lines empty = grind (arith, ints, some_written)
 
 pub lines_text : (ds : List Dot) (text : List ℕ) → text ≡ flat_map run_line (runs_of ds) → (text ≡ [] → ⊥) → text ≡ run_text ds
 lines_text ds text lines some = lines ∙ sym (run_text-some (runs_of ds) ds refl (λ blank. some (lines ∙ ap (λ all. flat_map run_line all) blank)))

@@ -78,13 +78,13 @@ abbrev pub box_text : List Dot → Box4 → List ℕ
 box_text ds b = shown_box (shown_at grid_character ds) (codes "\n") b
 
 -- the grid text of a picture with this least box, or `blank` where it has none
-abbrev pub text_in : List Dot → Option Box4 → List ℕ
-text_in ds None = codes "blank\n"
-text_in ds (Some b) = box_text ds b
+abbrev pub grid_text_in : List Dot → Option Box4 → List ℕ
+grid_text_in ds None = codes "blank\n"
+grid_text_in ds (Some b) = box_text ds b
 
 -- the grid text of a picture
 unfoldable pub grid_text : List Dot → List ℕ
-grid_text ds = text_in ds (box_of ds)
+grid_text ds = grid_text_in ds (box_of ds)
 
 -- the greatest number of columns, and of rows, of a grid
 abbrev pub greatest_grid_side : ℕ

@@ -1,12 +1,13 @@
 -- The tokens of a line are its bytes, each cut as long as possible, and no other list of tokens is cut from it so.
 use Rattle.std.proofs.Common.{◌≡◌, ℕ, zero, suc, ◌+◌, ◌≤◌, true, false, eqb, List, [], ◌∷◌, ◌++◌, length, drop, refl, sym, ap, subst, ◌∙◌, arith}
+use Rattle.std.proofs.lemmas.Int.{ints}
 use Rattle.std.specs.List.{All}
 use Rattle.std.proofs.Math.Seq.{drop-append_seam}
 use Rattle.std.proofs.lemmas.Bool.{cond_both, eqb-true, false≢true}
 use Rattle.std.proofs.lemmas.List.Elements.{All-cons, All-head, All-nil, All-tail}
 use Rattle.mf_text.specs.Limits.{percent_sign}
 use Rattle.mf_text.specs.Token as token
-use Rattle.mf_text.specs.Tokens.{Taken, first_token, token_at, tokens_from, tokens_within, is_blank, Placed, Token}
+use Rattle.mf_text.specs.Tokens.{SizedToken, first_token, token_at, tokens_from, tokens_within, is_blank, PlacedToken, Token}
 use Rattle.mf_text.specs.TokenTexts.{AreTokens, IsEnd, IsTokenText, OtherByte}
 use Rattle.mf_text.proofs.LineTokens.{rest_shorter, tokens-step, tokens_at_comment}
 use Rattle.mf_text.proofs.TokenTexts.{BeginsToken, Front, Other, Text, begins, front, text_first}
@@ -16,7 +17,7 @@ use Rattle.mf_text.proofs.TokenTexts.{BeginsToken, Front, Other, Text, begins, f
 abbrev blank_byte : ℕ → Type 0
 blank_byte b = is_blank b ≡ true
 
-more-blank : (column b : ℕ) (bs : List ℕ) (ps : List Placed) → is_blank b ≡ true → AreTokens (column + 1) bs ps → AreTokens column (b ∷ bs) ps
+more-blank : (column b : ℕ) (bs : List ℕ) (ps : List PlacedToken) → is_blank b ≡ true → AreTokens (column + 1) bs ps → AreTokens column (b ∷ bs) ps
 more-blank column b bs [] blank end = record {
   blanks = b ∷ end.blanks;
   rest = end.rest;
@@ -41,11 +42,11 @@ more-blank column b bs (p ∷ ps) blank (cut, later) = (
 no_more : (column : ℕ) (rest : List ℕ) → IsEnd rest → AreTokens column rest []
 no_more column rest end = record { blanks = []; rest = rest; parts = refl; blank = All-nil blank_byte; end = end }
 
-one-token : (column : ℕ) (bs : List ℕ) (ps : List Placed) (t : Token) (text rest : List ℕ) → bs ≡ text ++ rest → IsTokenText t text rest
+one-token : (column : ℕ) (bs : List ℕ) (ps : List PlacedToken) (t : Token) (text rest : List ℕ) → bs ≡ text ++ rest → IsTokenText t text rest
     → AreTokens (column + (first_token bs).bytes) (drop (first_token bs).bytes bs) ps → AreTokens column bs (token_at column (first_token bs) ∷ ps)
 one-token column bs ps t text rest parts is later =
     let rest_is : rest ≡ drop (length text) bs = sym (ap (drop (length text)) parts ∙ drop-append_seam text rest) in
-    subst (λ (f : Taken). AreTokens (column + f.bytes) (drop f.bytes bs) ps → AreTokens column bs (token_at column f ∷ ps))
+    subst (λ (f : SizedToken). AreTokens (column + f.bytes) (drop f.bytes bs) ps → AreTokens column bs (token_at column f ∷ ps))
     (sym (ap first_token parts ∙ text_first t text rest is))
     (λ after. (
       record {
@@ -62,7 +63,7 @@ one-token column bs ps t text rest parts is later =
     )) later
 
 -- a byte that is no blank and begins no comment begins a token
-first-token : (column b : ℕ) (bs : List ℕ) (ps : List Placed) → is_blank b ≡ false → eqb b percent_sign ≡ false → Front (b ∷ bs)
+first-token : (column b : ℕ) (bs : List ℕ) (ps : List PlacedToken) → is_blank b ≡ false → eqb b percent_sign ≡ false → Front (b ∷ bs)
     → AreTokens (column + (first_token (b ∷ bs)).bytes) (drop (first_token (b ∷ bs)).bytes (b ∷ bs)) ps
     → AreTokens column (b ∷ bs) (token_at column (first_token (b ∷ bs)) ∷ ps)
 first-token column b bs ps blank comment (Text t text rest parts is) = one-token column (b ∷ bs) ps t text rest parts is
@@ -97,17 +98,14 @@ are_tokens line = cut-within (length line) 1 line (omega arith)
 blanks_passed : (column : ℕ) (blanks rest : List ℕ) → All blank_byte blanks → tokens_from column (blanks ++ rest) ≡ tokens_from (column + length blanks) rest
 unfolding tokens_from tokens_within
 blanks_passed column [] rest all = ap (λ n. tokens_from n rest) (omega arith)
-blanks_passed column (b ∷ bs) rest all =
-    let later = blanks_passed (column + 1) bs rest (All-tail blank_byte b bs all) in
-    let same : column + 1 + length bs ≡ column + length (b ∷ bs) = omega arith in
-    rw (All-head blank_byte b bs all) (later ∙ ap (λ n. tokens_from n rest) same)
+blanks_passed column (b ∷ bs) rest all = grind (arith, ints, All-tail, All-head, blanks_passed (column + 1) bs rest (All-tail blank_byte b bs all))
 
 none_left : (column : ℕ) (rest : List ℕ) → IsEnd rest → tokens_from column rest ≡ []
 unfolding tokens_from tokens_within
 none_left column [] end = refl
 none_left column (b ∷ bs) end = tokens_at_comment column (b ∷ bs) (omega arith) end
 
-one_passed : (p : Placed) (text rest : List ℕ) → IsTokenText p.token text rest → BeginsToken text → p.after ≡ p.column + length text
+one_passed : (p : PlacedToken) (text rest : List ℕ) → IsTokenText p.token text rest → BeginsToken text → p.after ≡ p.column + length text
     → tokens_from p.column (text ++ rest) ≡ p ∷ tokens_from p.after rest
 one_passed p [] rest is begun after = absurd (omega (arith, begun.some))
 one_passed p (b ∷ bs) rest is begun after =
@@ -115,12 +113,12 @@ one_passed p (b ∷ bs) rest is begun after =
     ∙ rw (text_first p.token (b ∷ bs) rest is, drop-append_seam (b ∷ bs) rest, sym after) refl
 
 -- bytes are cut into these tokens alone
-pub one_cut : (column : ℕ) (bs : List ℕ) (ps : List Placed) → AreTokens column bs ps → ps ≡ tokens_from column bs
+pub one_cut : (column : ℕ) (bs : List ℕ) (ps : List PlacedToken) → AreTokens column bs ps → ps ≡ tokens_from column bs
 one_cut column bs [] end =
     sym (ap (tokens_from column) end.parts ∙ blanks_passed column end.blanks end.rest end.blank ∙ none_left (column + length end.blanks) end.rest end.end)
 one_cut column bs (p ∷ ps) (cut, later) =
     let xs : List ℕ = cut.text ++ cut.rest in
-    ap (λ (qs : List Placed). p ∷ qs) (one_cut p.after cut.rest ps later)
+    ap (λ (qs : List PlacedToken). p ∷ qs) (one_cut p.after cut.rest ps later)
     ∙ sym (one_passed p cut.text cut.rest cut.token (begins p.token cut.text cut.rest cut.token) cut.after_is)
     ∙ ap (λ n. tokens_from n xs) cut.column_is
     ∙ sym (blanks_passed column cut.blanks xs cut.blank)

@@ -1,6 +1,7 @@
 -- Rows of at most nine digits, and their numbers.
 use Rattle.std.proofs.Common.{◌≡◌, ◌≢◌, inl, inr, ℕ, ◌+◌, ◌-◌, ◌*◌, ◌^◌, ◌<◌, ◌≤◌, true, false, nat_lt}
-use Rattle.std.proofs.Common.{if◌then◌else◌, None, Some, List, length, get_or, take, ap, sym, subst, ◌∙◌, arith}
+use Rattle.std.proofs.Common.{if◌then◌else◌, None, Some, List, length, get_or, take, sym, subst, arith}
+use Rattle.std.proofs.lemmas.Int.{ints}
 use Rattle.std.specs.Char.{digit_value, is_ascii_digit}
 use Rattle.std.specs.List.{prefix_len, take_while}
 use Rattle.std.specs.Str.Parse.{AllDigits, digits_value}
@@ -16,7 +17,7 @@ use Rattle.std.proofs.lemmas.Str.Parse.{numerals_by_value, tells_digits, digits_
 use Rattle.mf_text.specs.Limits.{most_digits}
 use Rattle.mf_text.specs.Token.{value_in}
 use Rattle.mf_text.specs.Token as token
-use Rattle.mf_text.specs.Tokens.{Finds, Taken, first_token, number_token}
+use Rattle.mf_text.specs.Tokens.{Finds, first_token, number_token}
 use Rattle.mf_text.proofs.Found.{number_lacking}
 use Rattle.mf_text.proofs.TokenTexts.{digits_first}
 
@@ -43,11 +44,7 @@ digit_goes_on text i in_prefix inside digit =
 -- a byte at i that is not a digit ends the digits before it
 pub digits_end : (text : List ℕ) (i : ℕ) → i ≤ prefix_len is_ascii_digit text → is_ascii_digit (get_or text i 0) ≡ false
     → i ≡ prefix_len is_ascii_digit text
-digits_end text i in_prefix other =
-    elim (eq-or-lt_of_le in_prefix) [
-      | inl ends ↦ ends
-      | inr goes_on ↦ absurd (let yes = prefix_len_passes is_ascii_digit text i 0 goes_on in cc)
-    ]
+digits_end text i in_prefix other = grind (arith, ints, eq-or-lt_of_le, prefix_len_passes)
 
 -- one more digit, which is not the tenth
 pub record HasNextDigit (text : List ℕ) (i value : ℕ) : Type 0 where
@@ -79,15 +76,7 @@ number-more text i value to inside digit not_last =
 number-ends : (text : List ℕ) (i value : ℕ) → IsNumberTo text i value → i ≡ prefix_len is_ascii_digit text
     → token.Number value ≡ number_token (take_while is_ascii_digit text)
 unfolding number_token
-number-ends text i value to ends =
-    rw (
-      sym ends,
-      le-leb (length (take i text)) most_digits (omega (
-        arith,
-        to.few,
-        length-take-le i text (omega (arith, to.in_prefix, prefix_len-le-length is_ascii_digit text)),
-      )),
-    ) (ap token.Number to.value_is)
+number-ends text i value to ends = grind (arith, ints, le-leb, length-take-le, prefix_len-le-length)
 
 pub number-whole : (text : List ℕ) (i value : ℕ) → IsNumberTo text i value → length text ≤ i → i ≡ prefix_len is_ascii_digit text
 number-whole text i value to ended = omega (arith, to.in_prefix, ended, prefix_len-le-length is_ascii_digit text)
@@ -96,16 +85,7 @@ number-whole text i value to ended = omega (arith, to.in_prefix, ended, prefix_l
 pub number-found : (text : List ℕ) (i value : ℕ) → IsNumberTo text i value → i ≡ prefix_len is_ascii_digit text
     → Finds value_in text (if nat_lt 0 i then Some (value, i) else None)
 number-found text i value to ends =
-    cond_both (nat_lt 0 i) (Some (value, i)) None (Finds value_in text) (λ some. found (digits_first text (omega (arith, ltb-true 0 i some, ends))))
-    (λ none. number_lacking text (λ some few. omega (arith, some, ltb-false 0 i none, ends))) where
-      found : first_token text ≡ record { token = number_token (take_while is_ascii_digit text); bytes = length (take_while is_ascii_digit text) }
-          → Finds value_in text (Some (value, i))
-      found first =
-          let count = length-prefix_len is_ascii_digit text in (
-            ap (λ (t : Taken). value_in t.token) first ∙ ap value_in (sym (number-ends text i value to ends)),
-            sym (ap (λ (t : Taken). t.bytes) first ∙ count ∙ sym ends),
-            omega (arith, ends, prefix_len-le-length is_ascii_digit text),
-          )
+    grind (arith, ints, cond_both, digits_first, ltb-true, number_lacking, ltb-false, length-prefix_len, number-ends, prefix_len-le-length)
 
 -- with a tenth digit there is no number
 pub number-long : (text : List ℕ) (i value : ℕ) → IsNumberTo text i value → i ≡ most_digits → i < length text

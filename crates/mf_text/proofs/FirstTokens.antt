@@ -1,9 +1,9 @@
 -- The token at the front of bytes that do not start with a blank, and what is ahead there.
-use Rattle.std.proofs.Common.{◌≡◌, inl, inr, ℕ, ◌+◌, ◌<◌, ◌≤◌, true, eqb, List, [], ◌∷◌, drop, length, Option, None, Some, refl, sym, ap, ◌∙◌, arith}
+use Rattle.std.proofs.Common.{◌≡◌, ℕ, ◌+◌, ◌<◌, ◌≤◌, true, List, [], ◌∷◌, drop, length, Option, None, Some, refl, sym, ap, ◌∙◌, arith}
+use Rattle.std.proofs.lemmas.Int.{ints}
 use Rattle.std.specs.Option.{option_map}
 use Rattle.std.proofs.lemmas.Bool.{cases_Bool, eqb-true}
 use Rattle.mf_text.specs.declared.tokens.Tokens.{Tokens}
-use Rattle.mf_text.specs.Limits.{percent_sign}
 use Rattle.mf_text.specs.Reads.{TakesToken, TakesValue, ahead, next_value, remaining_tokens}
 use Rattle.mf_text.specs.Token.{Ahead, Token, Unknown, this_in}
 use Rattle.mf_text.specs.Tokens.{IsClear, first_token, mark_among, token_at, tokens_from}
@@ -19,11 +19,7 @@ data IsAtFront (column : ℕ) (text : List ℕ) : Type 0 where
 first : (column : ℕ) (text : List ℕ) → IsClear text → IsAtFront column text
 unfolding first_token mark_among
 first column [] clear = Ended (tokens_at_end column [] (omega arith)) refl
-first column (b ∷ bs) clear =
-    elim (cases_Bool (eqb b percent_sign)) [
-      | inl comment ↦ Ended (tokens_at_comment column (b ∷ bs) (omega arith) (eqb-true b percent_sign comment)) (rw (eqb-true b percent_sign comment) refl)
-      | inr token ↦ Starts (tokens-step column b bs clear token)
-    ]
+first column (b ∷ bs) clear = grind (arith, ints, cases_Bool, tokens_at_comment, eqb-true, tokens-step)
 
 module _ (old : Tokens) (column : ℕ) (text : List ℕ) (same : remaining_tokens old ≡ tokens_from column text) (clear : IsClear text) where
   abbrev bytes : ℕ

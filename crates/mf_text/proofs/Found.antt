@@ -11,7 +11,7 @@ use Rattle.std.proofs.lemmas.List.Elements.{All-cons, All-nil}
 use Rattle.mf_text.specs.Limits.{letter_a, letter_z, most_digits}
 use Rattle.mf_text.specs.Token as token
 use Rattle.mf_text.specs.Token.{letter_in, value_in}
-use Rattle.mf_text.specs.Tokens.{Finds, FindsToken, Taken, first_token, first_is, is_longer, mark_text, word_text, word_token, this_in, Mark, Token, Word}
+use Rattle.mf_text.specs.Tokens.{Finds, FindsToken, SizedToken, first_token, first_is, is_longer, mark_text, word_text, word_token, this_in, Mark, Token, Word}
 use Rattle.mf_text.specs.TokenTexts.{AMark, IsTokenText, Letters}
 use Rattle.mf_text.proofs.TokenTexts.{IsSaid, IsSmall, said, same_token, starts-append, starts-drop, text_first, token_is, word_letters}
 
@@ -24,7 +24,7 @@ found : (t : Token) (bs text : List ℕ) → bs ≡ text ++ drop (length text) b
     → FindsToken t bs (Some (length text))
 found t bs text parts is within =
     let first = ap first_token parts ∙ text_first t text (drop (length text) bs) is in
-    (ap (λ (f : Taken). this_in t f.token) first ∙ rw (same_token t) refl, sym (ap (λ (f : Taken). f.bytes) first), within)
+    (ap (λ (f : SizedToken). this_in t f.token) first ∙ rw (same_token t) refl, sym (ap (λ (f : SizedToken). f.bytes) first), within)
 
 -- whether a word is found, where these letters are its text
 module _ (w : Word) (bs ls : List ℕ) (is : ls ≡ word_text w) where
@@ -88,7 +88,7 @@ letter_found (b ∷ bs) some least greatest ends =
       all = All-cons (λ c. is_ascii_alphabetic c ≡ true) b [] letter (All-nil (λ c. is_ascii_alphabetic c ≡ true));
       longest = ap (first_is is_ascii_alphabetic) (sym (take_rest (b ∷ bs) 1)) ∙ ends;
     }) (rw (le-leb letter_a b least, le-leb b letter_z greatest) refl)) in
-    (ap (λ (f : Taken). letter_in f.token) first, sym (ap (λ (f : Taken). f.bytes) first), some)
+    (ap (λ (f : SizedToken). letter_in f.token) first, sym (ap (λ (f : SizedToken). f.bytes) first), some)
 
 -- ---- a number
 

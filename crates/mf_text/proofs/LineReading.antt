@@ -1,17 +1,18 @@
 -- What tokens give: they are a line, or go wrong where no line continues them.
 use Rattle.std.proofs.Common.{◌≡◌, ◌⊎◌, ◌&&◌, inl, inr, ℕ, zero, suc, ◌-◌, ◌<◌, ◌≤◌, Bool, true, false, List, [], ◌∷◌, ◌++◌, eqb}
 use Rattle.std.proofs.Common.{get_or, length, take, Option, Some, None, Ok, Err, ok_or, if◌then◌else◌, refl, sym, ap, subst, ◌∙◌, arith}
+use Rattle.std.proofs.lemmas.Int.{ints}
 use Rattle.std.proofs.lemmas.Bool.{and_parts, eqb-true, false≢true}
 use Rattle.std.proofs.lemmas.Option.{none-some, same_Some}
 use Rattle.mf_text.specs.declared.token.Mark.TheVariants as mark
 use Rattle.mf_text.specs.Token as token
 use Rattle.mf_text.specs.declared.token.Word.TheVariants as word
-use Rattle.mf_text.specs.Token.{Ahead, Placed, Token, ahead_after, token_column, column_of}
+use Rattle.mf_text.specs.Token.{Ahead, PlacedToken, Token, ahead_after, token_column, column_of}
 use Rattle.mf_text.specs.Grammar.{Line, spell_line}
 use Rattle.mf_text.specs.Lines.{line_ahead}
 use Rattle.mf_text.specs.Rests.{Rest, ends, follow, from, is_code_number, step, line}
 use Rattle.mf_text.specs.Syntax.{StartsLine, IsSyntaxFault, IsWrongAt, is_negative_code, report_place}
-use Rattle.mf_text.specs.Tokens.{kinds, tokens}
+use Rattle.mf_text.specs.Tokens.{without_columns, tokens}
 use Rattle.mf_text.specs.TokenTexts.{AreTokens, IsTokenText}
 use Rattle.mf_text.proofs.Cuts.{are_tokens}
 use Rattle.mf_text.proofs.Rests.{CanGoOn, is_code_number_at, line_to, rest_ends, reads}
@@ -64,57 +65,33 @@ abbrev reported : Bool → Ahead → ℕ
 reported is_coded ahead = if is_coded then ahead.past - 1 else column_of ahead.tokens ahead.past
 
 -- the tokens that must be this rest go wrong, which is reported at this column
-record Stops (r : Rest) (past : ℕ) (ps : List Placed) (column : ℕ) : Type 0 where
+record Stops (r : Rest) (past : ℕ) (ps : List PlacedToken) (column : ℕ) : Type 0 where
   place : ℕ
-  at : Wrong (Some r) (kinds ps) place
-  column_is : column ≡ reported (is_code_number_at (Some r) (kinds ps) place) (ahead_after place ps past)
+  at : Wrong (Some r) (without_columns ps) place
+  column_is : column ≡ reported (is_code_number_at (Some r) (without_columns ps) place) (ahead_after place ps past)
 
 at_end : (r : Rest) (past column : ℕ) (end : Option Line) → ends r ≡ end → ok_or end past ≡ Err column → Stops r past [] column
 unfolding reads is_code_number_at
-at_end r past column None is wrong = record {
-  place = 0;
-  at = record {
-    within = omega arith;
-    before = rest_ends r;
-    wrong = λ more. absurd (omega (arith, more));
-    unended = λ whole l read. none-some l (sym is ∙ read);
-  };
-  column_is = (let is_err : Err past ≡ Err column = wrong in cc);
-}
+at_end r past column None is wrong = grind (arith, ints, rest_ends, none-some)
 at_end r past column (Some l) is wrong = absurd (let no = wrong in cc)
 
 later : (r : Rest) (t : Token) (ts : List Token) (k : ℕ) → Wrong (step r t) ts k → Wrong (Some r) (t ∷ ts) (suc k)
 unfolding reads
-later r t ts k wrong = record {
-  within = omega (arith, wrong.within);
-  before = wrong.before;
-  wrong = λ more on. wrong.wrong (omega (arith, more)) on;
-  unended = λ whole l read. wrong.unended (omega (arith, whole)) l read;
-}
+later r t ts k wrong = grind (arith, ints)
 
-at_token : (r : Rest) (past : ℕ) (t : Placed) (ps : List Placed) (column : ℕ) (q : Option Rest) → step r t.token ≡ q
+at_token : (r : Rest) (past : ℕ) (t : PlacedToken) (ps : List PlacedToken) (column : ℕ) (q : Option Rest) → step r t.token ≡ q
     → follow (ok_or q (reported (is_code_number r t.token) (record { tokens = t ∷ ps; past = past }))) t.after ps ≡ Err column
     → ((s : Rest) → follow (Ok s) t.after ps ≡ Err column → Stops s t.after ps column) → Stops r past (t ∷ ps) column
 unfolding reads is_code_number_at follow
-at_token r past t ps column None is wrong behind_it = record {
-  place = 0;
-  at = record {
-    within = omega arith;
-    before = rest_ends r;
-    wrong = λ more on. none-some on.1.0 (ap (λ q. reads q on.0) (sym is) ∙ on.1.1);
-    unended = λ whole. absurd (omega (arith, whole));
-  };
-  column_is =
-      (let is_err : Err (reported (is_code_number r t.token) (record { tokens = t ∷ ps; past = past })) ≡ Err column = wrong in cc);
-}
+at_token r past t ps column None is wrong behind_it = grind (arith, ints, rest_ends, none-some, reads)
 at_token r past t ps column (Some s) is wrong behind_it = let stops = behind_it s wrong in record {
   place = suc stops.place;
-  at = later r t.token (kinds ps) stops.place (subst (λ q. Wrong q (kinds ps) stops.place) (sym is) stops.at);
+  at = later r t.token (without_columns ps) stops.place (subst (λ q. Wrong q (without_columns ps) stops.place) (sym is) stops.at);
   column_is = stops.column_is
-      ∙ ap (λ q. reported (is_code_number_at q (kinds ps) stops.place) (ahead_after stops.place ps t.after)) (sym is);
+      ∙ ap (λ q. reported (is_code_number_at q (without_columns ps) stops.place) (ahead_after stops.place ps t.after)) (sym is);
 }
 
-stops : (r : Rest) (past : ℕ) (ps : List Placed) (column : ℕ) → follow (Ok r) past ps ≡ Err column → Stops r past ps column
+stops : (r : Rest) (past : ℕ) (ps : List PlacedToken) (column : ℕ) → follow (Ok r) past ps ≡ Err column → Stops r past ps column
 unfolding follow
 stops r past [] column is = at_end r past column (ends r) refl is
 stops r past (t ∷ ps) column is = at_token r past t ps column (step r t.token) refl is (λ s. stops s t.after ps column)
@@ -136,7 +113,8 @@ fourth_is_minus (token.Word word.Shipout ∷ s ∷ token.Word word.Code ∷ toke
 fourth_is_minus ts is = absurd (false≢true is)
 
 -- a `-` is one byte
-minus_ends : (k column past : ℕ) (bytes : List ℕ) (ps : List Placed) → AreTokens column bytes ps → get_or (kinds ps) k token.Unknown ≡ token.Mark mark.Minus
+minus_ends : (k column past : ℕ) (bytes : List ℕ) (ps : List PlacedToken) → AreTokens column bytes ps
+    → get_or (without_columns ps) k token.Unknown ≡ token.Mark mark.Minus
     → (ahead_after (suc k) ps past).past - 1 ≡ column_of (ahead_after k ps past).tokens (ahead_after k ps past).past
 minus_ends k column past bytes [] cut is = absurd (let no = is in cc)
 minus_ends zero column past bytes (p ∷ ps) (cut, later) is =
@@ -149,7 +127,7 @@ module _ (bytes : List ℕ) (column : ℕ) (found : Stops line 1 (tokens bytes) 
   ahead = line_ahead bytes
 
   abbrev ts : List Token
-  ts = kinds ahead.tokens
+  ts = without_columns ahead.tokens
 
   abbrev is_shown : Bool
   is_shown = is_code_number_at (Some line) ts found.place
@@ -194,7 +172,7 @@ goes_wrong bytes column is = syntax_fault bytes column (stops line 1 (tokens byt
 
 -- ---- tokens that are followed to the end of a line are read as that line
 
-follows : (r : Rest) (past : ℕ) (ps : List Placed) (l : Line) → follow (Ok r) past ps ≡ Ok l → reads (Some r) (kinds ps) ≡ Some l
+follows : (r : Rest) (past : ℕ) (ps : List PlacedToken) (l : Line) → follow (Ok r) past ps ≡ Ok l → reads (Some r) (without_columns ps) ≡ Some l
 unfolding follow reads
 follows r past [] l is = end_is (ends r) is where
   end_is : (end : Option Line) → ok_or end past ≡ Ok l → end ≡ Some l
@@ -202,9 +180,9 @@ follows r past [] l is = end_is (ends r) is where
   end_is (Some m) same = cc
 follows r past (t ∷ ps) l is = on_to (step r t.token) is (λ s. follows s t.after ps l) where
   on_to : (q : Option Rest) → follow (ok_or q (reported (is_code_number r t.token) (record { tokens = t ∷ ps; past = past }))) t.after ps ≡ Ok l
-      → ((s : Rest) → follow (Ok s) t.after ps ≡ Ok l → reads (Some s) (kinds ps) ≡ Some l) → reads q (kinds ps) ≡ Some l
+      → ((s : Rest) → follow (Ok s) t.after ps ≡ Ok l → reads (Some s) (without_columns ps) ≡ Some l) → reads q (without_columns ps) ≡ Some l
   on_to None other later = absurd (let wrong = other in cc)
   on_to (Some s) is later = later s is
 
-pub is_line : (ahead : Ahead) (l : Line) → from line ahead ≡ Ok l → kinds ahead.tokens ≡ spell_line l
-is_line ahead l is = read_is_line (kinds ahead.tokens) l (follows line ahead.past ahead.tokens l is)
+pub is_line : (ahead : Ahead) (l : Line) → from line ahead ≡ Ok l → without_columns ahead.tokens ≡ spell_line l
+is_line ahead l is = read_is_line (without_columns ahead.tokens) l (follows line ahead.past ahead.tokens l is)

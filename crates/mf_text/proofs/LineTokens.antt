@@ -1,16 +1,17 @@
 -- The tokens of a line, one at a time.
 use Rattle.std.proofs.Common.{◌≡◌, ◌≢◌, ℕ, zero, suc, ◌+◌, ◌-◌, ◌<◌, ◌≤◌, true, false, eqb, List, [], ◌∷◌, length}
 use Rattle.std.proofs.Common.{get_or, take, drop, refl, sym, ap, subst, ◌∙◌, arith, length-append, length-drop}
+use Rattle.std.proofs.lemmas.Int.{ints}
 use Rattle.std.proofs.lemmas.Bool.{ne_eqb}
 use Rattle.std.proofs.lemmas.List.{take_rest}
 use Rattle.mf_text.specs.Limits.{percent_sign}
-use Rattle.mf_text.specs.Tokens.{IsClear, is_blank, Taken, token_at, first_token, tokens_within, tokens_from}
+use Rattle.mf_text.specs.Tokens.{IsClear, is_blank, SizedToken, token_at, first_token, tokens_within, tokens_from}
 use Rattle.mf_text.proofs.TokenTexts.{Front, Other, Text, begins, front, text_first, unknown_first}
 
 -- ---- how many bytes a token takes
 
 -- the token takes at least one byte, and at most n
-pub record TakesSome (n : ℕ) (t : Taken) : Type 0 where
+pub record TakesSome (n : ℕ) (t : SizedToken) : Type 0 where
   pub some : 0 < t.bytes
   pub within : t.bytes ≤ n
 
@@ -21,15 +22,13 @@ first_taken b bs = by_front (front (b ∷ bs)) where
       subst (TakesSome (suc (length bs))) (sym (ap first_token parts ∙ text_first t text rest is))
       (record { some = (begins t text rest is).some; within = omega (arith, ap length parts, length-append text rest) })
   by_front (Other no_letter no_digit none) =
-      subst (TakesSome (suc (length bs))) (sym (unknown_first (b ∷ bs) no_letter no_digit none)) (record { some = omega arith; within = omega arith })
+      subst (TakesSome (suc (length bs))) (sym (unknown_first (b ∷ bs) no_letter no_digit none)) (omega arith)
 
 -- ---- a line from its front
 
 -- fewer bytes are left after the first token
 pub rest_shorter : (b : ℕ) (bs : List ℕ) → length (drop (first_token (b ∷ bs)).bytes (b ∷ bs)) ≤ length bs
-rest_shorter b bs =
-    let some = first_taken b bs in
-    omega (arith, some.some, some.within, length-drop (first_token (b ∷ bs)).bytes (b ∷ bs))
+rest_shorter b bs = omega (arith, first_taken b bs, length-drop (first_token (b ∷ bs)).bytes (b ∷ bs))
 
 -- any number of steps that is at least the number of bytes finds the same tokens
 tokens_within-same : (m n column : ℕ) (bs : List ℕ) → length bs ≤ m → length bs ≤ n → tokens_within m column bs ≡ tokens_within n column bs
@@ -56,10 +55,7 @@ pub tokens-step : (column b : ℕ) (bs : List ℕ) → is_blank b ≡ false → 
     → tokens_from column (b ∷ bs) ≡ token_at column (first_token (b ∷ bs))
     ∷ tokens_from (column + (first_token (b ∷ bs)).bytes) (drop (first_token (b ∷ bs)).bytes (b ∷ bs))
 unfolding tokens_from tokens_within
-tokens-step column b bs clear token =
-    let first = first_token (b ∷ bs) in
-    let rest = drop first.bytes (b ∷ bs) in
-    rw (clear, token, tokens_within-same (length bs) (length rest) (column + first.bytes) rest (rest_shorter b bs) (omega arith)) refl
+tokens-step column b bs clear token = grind (arith, ints, tokens_within-same, rest_shorter)
 
 -- ---- the tokens that are left
 

@@ -1,7 +1,8 @@
 -- A line has one answer: a command, or a refusal.
-use Rattle.std.proofs.Common.{◌≡◌, ◌≢◌, false, inl, inr, ℕ, suc, ◌<◌, ◌≤◌, List, ◌++◌, length, take, drop, append_assoc, refl, sym, ap, ◌∙◌, subst, arith}
+use Rattle.std.proofs.Common.{◌≡◌, ◌≢◌, false, inl, inr, ℕ, suc, ◌<◌, ◌≤◌, List}
+use Rattle.std.proofs.Common.{◌++◌, length, take, drop, append_assoc, refl, sym, ap, ◌∙◌, subst, arith}
 use Rattle.std.specs.List.{list_all}
-use Rattle.std.proofs.lemmas.Bool.{cases_lt}
+use Rattle.std.proofs.lemmas.Bool.{cases_lt, cases_order}
 use Rattle.std.proofs.lemmas.Int.{ints}
 use Rattle.std.proofs.lemmas.List.{take-append-drop, take-take}
 use Rattle.mf_ops.specs.declared.quarter.Quarter.TheVariants.{Once, Twice, Thrice}
@@ -12,7 +13,7 @@ use Rattle.mf_text.specs.Lines.{IsText, line_ahead, IsLineOf, IsLineWith, Gives,
 use Rattle.mf_text.specs.Meaning.{Value, Points, Angle, Meaning, Is, If, Turns, IsUnlawful, Means, Refuses, meaning, degrees, Quarter, Command, TextFault}
 use Rattle.mf_text.specs.Syntax.{IsLine, IsSyntaxFault, IsWrongAt, StartsLine, report_place}
 use Rattle.mf_text.specs.Token.{Ahead, Token, token_column}
-use Rattle.mf_text.specs.Tokens.{kinds}
+use Rattle.mf_text.specs.Tokens.{without_columns}
 use Rattle.mf_text.proofs.LineReading.{same_line}
 
 -- ---- forms
@@ -29,11 +30,7 @@ one_meant (If value rest) one other p q = one_meant rest one other p.1 q.1
 one_meant (Turns name angle) one other p q = p.is ∙ ap (command.Quarter name) (same_angle p.quarter q.quarter (p.angle_is ∙ sym q.angle_is)) ∙ sym q.is
 
 one_unlawful : (value : Value) (one other : TextFault) → IsUnlawful value one → IsUnlawful value other → one ≡ other
-one_unlawful (Points points) one other p q =
-    let first = p.is.fault in
-    let second = q.is.fault in
-    let same : p.is.cause ≡ q.is.cause = cc in
-    p.is.is ∙ ap faults.Cycle same ∙ sym q.is.is
+one_unlawful (Points points) one other p q = grind (arith, ints)
 one_unlawful value one other p q = p.is ∙ sym q.is
 
 one_refused : (m : Meaning) (one other : TextFault) → Refuses m one → Refuses m other → one ≡ other
@@ -53,10 +50,7 @@ not_both (Turns name angle) given fault p q = q.unlawful (p.quarter, p.angle_is)
 -- ---- where tokens go wrong
 
 starts_front : (ts us : List Token) → StartsLine (ts ++ us) → StartsLine ts
-starts_front ts us begun = record {
-  rest = us ++ begun.rest;
-  line = record { tree = begun.line.tree; spelled = sym (append_assoc ts us begun.rest) ∙ begun.line.spelled };
-}
+starts_front ts us begun = grind (arith, ints, append_assoc)
 
 -- where some line starts with tokens, one starts with each prefix of them
 starts-sooner : (ts : List Token) (j k : ℕ) → j ≤ k → StartsLine (take k ts) → StartsLine (take j ts)
@@ -71,22 +65,15 @@ not_before ts j k p q before =
     p.wrong (omega arith) (starts-sooner ts (suc j) k (omega arith) q.starts)
 
 one_place : (ts : List Token) (j k : ℕ) → IsWrongAt ts j → IsWrongAt ts k → j ≡ k
-one_place ts j k p q =
-    elim (cases_lt j k) [
-      | inl before ↦ absurd (not_before ts j k p q before)
-      | inr after ↦ elim (cases_lt k j) [
-        | inl beyond ↦ absurd (not_before ts k j q p beyond)
-        | inr same ↦ omega arith
-      ]
-    ]
+one_place ts j k p q = grind (arith, ints, cases_order, not_before)
 
 one_column : (ahead : Ahead) (one other : ℕ) → IsSyntaxFault ahead one → IsSyntaxFault ahead other → one ≡ other
 one_column ahead one other p q =
-    let ts = kinds ahead.tokens in
+    let ts = without_columns ahead.tokens in
     p.column_is ∙ ap (λ k. token_column ahead (report_place ts k)) (one_place ts p.place q.place p.at q.at) ∙ sym q.column_is
 
-pub wrong_is_no_line : (ahead : Ahead) (column : ℕ) → IsSyntaxFault ahead column → IsLine (kinds ahead.tokens) → ⊥
-wrong_is_no_line ahead column wrong line = not_wrong (kinds ahead.tokens) wrong.place wrong.at line where
+pub wrong_is_no_line : (ahead : Ahead) (column : ℕ) → IsSyntaxFault ahead column → IsLine (without_columns ahead.tokens) → ⊥
+wrong_is_no_line ahead column wrong line = not_wrong (without_columns ahead.tokens) wrong.place wrong.at line where
   not_wrong : (ts : List Token) (k : ℕ) → IsWrongAt ts k → IsLine ts → ⊥
   not_wrong ts k wrong line =
       elim (cases_lt k (length ts)) [

@@ -1,6 +1,7 @@
 -- What a line gives at its next token, and after phrases.
 use Rattle.std.proofs.Common.{◌≡◌, ◌≢◌, ℕ, ◌-◌, ◌<◌, true, false, List, [], ◌∷◌, ◌++◌, length, map, Option, Some, None}
-use Rattle.std.proofs.Common.{Result, Ok, Err, Bool, if◌then◌else◌, refl, sym, ap, subst, ◌∙◌, append_assoc, arith}
+use Rattle.std.proofs.Common.{Result, Ok, Err, Bool, if◌then◌else◌, refl, sym, ap, ◌∙◌, append_assoc, arith}
+use Rattle.std.proofs.lemmas.Int.{ints}
 use Rattle.std.specs.Option.{option_map}
 use Rattle.std.specs.Result.{IsErrAnd}
 use Rattle.std.proofs.lemmas.Option.{none-some, same_Some}
@@ -12,53 +13,37 @@ use Rattle.mf_text.specs.declared.tokens.Tokens.{Tokens}
 use Rattle.mf_text.specs.Grammar.{Line, Path, path_value, Point, Code, Name, Current, Register, Int, Pair, pair_value}
 use Rattle.mf_text.specs.Reads.{HasPoints, PassesPath, TakesToken, TakesValue, ahead, remaining_tokens, next_value}
 use Rattle.mf_text.specs.Rests.{Kind, Of, This, Numbers, Codes, Rest, Take, OrTake, Corners, One, Or, CodeNumber}
-use Rattle.mf_text.specs.Rests.{Ends, corner, path, follow, from, is_code_number, name_token, step, value}
-use Rattle.mf_text.specs.Token.{Ahead, Placed, Token, column_of, letter_in, name_in, this_in, value_in}
+use Rattle.mf_text.specs.Rests.{Ends, rest_of_corner, path, follow, from, is_code_number, name_token, step, value}
+use Rattle.mf_text.specs.Token.{Ahead, PlacedToken, Token, column_of, letter_in, name_in, this_in, value_in}
 use Rattle.mf_text.specs.Token as token
 use Rattle.mf_text.proofs.Rests.{name_of, named, this_only}
 
 -- ---- the value of the next token
 
 -- what holds where the first token has this value
-at_first : {A : Type 0} (f : Token → Option A) (a : A) (P : List Placed → Ahead → Type 0)
-    → ((p : Placed) (ps : List Placed) → f p.token ≡ Some a → P (p ∷ ps) (record { tokens = ps; past = p.after }))
-    → (ps : List Placed) (after : Ahead) → next_value f ps ≡ Some (a, after) → P ps after
+at_first : {A : Type 0} (f : Token → Option A) (a : A) (P : List PlacedToken → Ahead → Type 0)
+    → ((p : PlacedToken) (ps : List PlacedToken) → f p.token ≡ Some a → P (p ∷ ps) (record { tokens = ps; past = p.after }))
+    → (ps : List PlacedToken) (after : Ahead) → next_value f ps ≡ Some (a, after) → P ps after
 at_first f a P there [] after is = absurd (none-some (a, after) is)
-at_first {A} f a P there (p ∷ ps) after is = by_value (f p.token) refl is where
-  by_value : (v : Option A) → f p.token ≡ v → option_map {U = A × Ahead} (λ x. (x, record { tokens = ps; past = p.after })) v ≡ Some (a, after)
-      → P (p ∷ ps) after
-  by_value None found none = absurd (none-some (a, after) none)
-  by_value (Some x) found same =
-      let pairs = same_Some (x, record { tokens = ps; past = p.after }) (a, after) same in
-      subst (P (p ∷ ps)) (ap (λ (v : A × Ahead). v.1) pairs) (there p ps (found ∙ ap (λ (v : A × Ahead). Some v.0) pairs))
+at_first {A} f a P there (p ∷ ps) after is = grind (arith, ints, none-some, same_Some)
 
 -- where no value is taken, the first token has none
-lacks : {A : Type 0} (f : Token → Option A) (p : Placed) (ps : List Placed) → next_value f (p ∷ ps) ≡ None → f p.token ≡ None
-lacks {A} f p ps is = by_value (f p.token) is where
-  by_value : (v : Option A) → option_map {U = A × Ahead} (λ x. (x, record { tokens = ps; past = p.after })) v ≡ None → v ≡ None
-  by_value None none = refl
-  by_value (Some x) other = absurd (none-some (x, record { tokens = ps; past = p.after }) (sym other))
+lacks : {A : Type 0} (f : Token → Option A) (p : PlacedToken) (ps : List PlacedToken) → next_value f (p ∷ ps) ≡ None → f p.token ≡ None
+lacks {A} f p ps is = grind (arith, ints, none-some)
 
 -- what a line gives where its next token has a value
 passes : (r : Rest) (k : Kind) (next : Of k → Rest) → ((t : Token) (a : Of k) → value k t ≡ Some a → step r t ≡ Some (next a))
     → (old new : Tokens) (a : Of k) → TakesValue (value k) old new (Some a) → from r (ahead old) ≡ from (next a) (ahead new)
 unfolding follow
-passes r k next allows old new a is =
-    at_first (value k) a (λ ps on. from r (record { tokens = ps; past = old.column }) ≡ from (next a) on)
-    (λ p ps found. rw (allows p.token a found, follow) refl) (remaining_tokens old) (ahead new) is
+passes r k next allows old new a is = grind (arith, ints, at_first)
 
 -- what it gives where its next token has none
 misses : (r : Rest) (k : Kind) (out : Ahead → Result Line ℕ)
     → ((past : ℕ) → from r (record { tokens = []; past = past }) ≡ out (record { tokens = []; past = past }))
-    → ((p : Placed) (ps : List Placed) (past : ℕ) → value k p.token ≡ None
+    → ((p : PlacedToken) (ps : List PlacedToken) (past : ℕ) → value k p.token ≡ None
     → from r (record { tokens = p ∷ ps; past = past }) ≡ out (record { tokens = p ∷ ps; past = past }))
     → (old new : Tokens) → TakesValue (value k) old new None → from r (ahead old) ≡ out (ahead new)
-misses r k out ended goes_on old new (none, same) =
-    by_tokens (remaining_tokens old) none ∙ ap (λ (t : Tokens). out (ahead t)) (sym same) where
-      by_tokens : (ps : List Placed) → next_value (value k) ps ≡ None
-          → from r (record { tokens = ps; past = old.column }) ≡ out (record { tokens = ps; past = old.column })
-      by_tokens [] none = ended old.column
-      by_tokens (p ∷ ps) none = goes_on p ps old.column (lacks (value k) p ps none)
+misses r k out ended goes_on old new (none, same) = grind (arith, ints, lacks)
 
 -- the line goes wrong at its next token
 abbrev stuck : Ahead → Result Line ℕ
@@ -97,15 +82,14 @@ module _ (u : Token) (this : Rest) where
   this_missed other = misses (Or u this other) (This u) (from other) (λ _. refl) (λ p ps past none. rw (none, follow) refl)
 
 -- fewer tokens remain after one
-pub fewer : {A : Type 0} (f : Token → Option A) (a : A) (ps : List Placed) (after : Ahead) → next_value f ps ≡ Some (a, after) → length after.tokens < length ps
+pub fewer : {A : Type 0} (f : Token → Option A) (a : A) (ps : List PlacedToken) (after : Ahead) → next_value f ps ≡ Some (a, after)
+    → length after.tokens < length ps
 fewer f a ps after is = at_first f a (λ qs on. length on.tokens < length qs) (λ p qs value. omega arith) ps after is
 
 -- where each token with the value a also has the value b, taking a takes b
 taken_as : {A B : Type 0} (f : Token → Option A) (g : Token → Option B) (a : A) (b : B) → ((t : Token) → f t ≡ Some a → g t ≡ Some b)
-    → (ps : List Placed) (after : Ahead) → next_value f ps ≡ Some (a, after) → next_value g ps ≡ Some (b, after)
-taken_as f g a b same ps after is =
-    at_first f a (λ qs on. next_value g qs ≡ Some (b, on))
-    (λ p qs value. ap (option_map (λ x. (x, record { tokens = qs; past = p.after }))) (same p.token value)) ps after is
+    → (ps : List PlacedToken) (after : Ahead) → next_value f ps ≡ Some (a, after) → next_value g ps ≡ Some (b, after)
+taken_as f g a b same ps after is = grind (arith, ints, at_first)
 
 -- ---- an int
 
@@ -121,10 +105,11 @@ letter_name : (t : Token) (n : ℕ) → letter_in t ≡ Some n → name_in t ≡
 letter_name (token.Letter m) n is = ap (λ k. Some (Register k)) (same_Some m n is)
 letter_name t n is = absurd (none-some n is)
 
-pub letter_taken : (ps : List Placed) (n : ℕ) (after : Ahead) → next_value letter_in ps ≡ Some (n, after) → next_value name_in ps ≡ Some (Register n, after)
+pub letter_taken : (ps : List PlacedToken) (n : ℕ) (after : Ahead) → next_value letter_in ps ≡ Some (n, after)
+    → next_value name_in ps ≡ Some (Register n, after)
 letter_taken ps n after is = taken_as letter_in name_in n (Register n) (λ t. letter_name t n) ps after is
 
-pub current_taken : (ps : List Placed) (after : Ahead) → next_value (this_in (token.Word word.CurrentPicture)) ps ≡ Some (tt, after)
+pub current_taken : (ps : List PlacedToken) (after : Ahead) → next_value (this_in (token.Word word.CurrentPicture)) ps ≡ Some (tt, after)
     → next_value name_in ps ≡ Some (Current, after)
 current_taken = taken_as (this_in (token.Word word.CurrentPicture)) name_in tt Current (λ t is. ap name_in (this_only (token.Word word.CurrentPicture) t is))
 
@@ -133,30 +118,19 @@ no_name (token.Word word.CurrentPicture) other none = absurd (none-some tt (sym 
 no_name (token.Letter n) other none = absurd (none-some n (sym none))
 no_name t other none = refl
 
-pub no_name_taken : (ps : List Placed) → next_value (this_in (token.Word word.CurrentPicture)) ps ≡ None → next_value letter_in ps ≡ None
+pub no_name_taken : (ps : List PlacedToken) → next_value (this_in (token.Word word.CurrentPicture)) ps ≡ None → next_value letter_in ps ≡ None
     → next_value name_in ps ≡ None
 no_name_taken [] other none = refl
-no_name_taken (p ∷ ps) other none =
-    let lacking = no_name p.token (lacks (this_in (token.Word word.CurrentPicture)) p ps other) (lacks letter_in p ps none) in
-    ap (option_map (λ x. (x, record { tokens = ps; past = p.after }))) lacking
+no_name_taken (p ∷ ps) other none = grind (arith, ints, no_name, lacks)
 
 -- a given name is the next token exactly where it is the name that the token is
-pub this_name : (name : Name) (ps : List Placed) (after : Ahead) → next_value name_in ps ≡ Some (name, after)
+pub this_name : (name : Name) (ps : List PlacedToken) (after : Ahead) → next_value name_in ps ≡ Some (name, after)
     → next_value (this_in (name_token name)) ps ≡ Some (tt, after)
 this_name name ps after is = taken_as name_in (this_in (name_token name)) name tt (λ t. named t name) ps after is
 
 pub other_name : (name : Name) (old after : Tokens) (r : Option Name) → TakesValue name_in old after r
     → (r ≡ Some name → ⊥) → TakesValue (this_in (name_token name)) old old None
-other_name name old after r took other = (by_this (next_value (this_in (name_token name)) (remaining_tokens old)) refl, refl) where
-  taken_is : (r : Option Name) → TakesValue name_in old after r → (v : Ahead) → next_value name_in (remaining_tokens old) ≡ Some (name, v) → r ≡ Some name
-  taken_is None none v is = absurd (none-some (name, v) (sym none.0 ∙ is))
-  taken_is (Some x) some v is = ap (λ (w : Name × Ahead). Some w.0) (same_Some (x, ahead after) (name, v) (sym some ∙ is))
-
-  by_this : (v : Option (Unit {0} × Ahead)) → next_value (this_in (name_token name)) (remaining_tokens old) ≡ v → v ≡ None
-  by_this None is = refl
-  by_this (Some (tt, v)) is = absurd (other (taken_is r took v
-      (taken_as (this_in (name_token name)) name_in tt name (λ t this. ap name_in (this_only (name_token name) t this) ∙ name_of name)
-      (remaining_tokens old) v is)))
+other_name name old after r took other = grind (arith, ints, none-some, same_Some, taken_as, this_only, name_of)
 
 -- what the search needs where a name is taken, or a given one
 pub ruleset name_taken = (letter_taken, current_taken, no_name_taken, or_passed, or_missed)
@@ -165,11 +139,11 @@ pub ruleset same_name_taken = (one_passed, one_missed, this_name, other_name)
 
 -- ---- the end of a line
 
-pub line_ends : (line : Line) (past : ℕ) (ps : List Placed) → ps ≡ [] → from (Ends line) (record { tokens = ps; past = past }) ≡ Ok line
+pub line_ends : (line : Line) (past : ℕ) (ps : List PlacedToken) → ps ≡ [] → from (Ends line) (record { tokens = ps; past = past }) ≡ Ok line
 unfolding follow
 line_ends line past ps none = ap (λ qs. from (Ends line) (record { tokens = qs; past = past })) none
 
-pub line_goes_on : (line : Line) (past : ℕ) (ps : List Placed) → ps ≢ [] → from (Ends line) (record { tokens = ps; past = past }) ≡ Err (column_of ps past)
+pub line_goes_on : (line : Line) (past : ℕ) (ps : List PlacedToken) → ps ≢ [] → from (Ends line) (record { tokens = ps; past = past }) ≡ Err (column_of ps past)
 unfolding follow
 line_goes_on line past [] some = absurd (some refl)
 line_goes_on line past (p ∷ ps) some = refl
@@ -191,7 +165,7 @@ module _ (next : Code → Rest) (old same : Tokens) where
   code_missed =
       misses (CodeNumber next) (Codes true) (λ on. on_number on (next_value value_in on.tokens)) (λ _. refl)
       (λ p ps past none. rw (none, follow) (by_token p ps past p.token)) old same where
-        by_token : (p : Placed) (ps : List Placed) (past : ℕ) (t : Token) → Err (if is_code_number (CodeNumber next) t then past - 1 else p.column)
+        by_token : (p : PlacedToken) (ps : List PlacedToken) (past : ℕ) (t : Token) → Err (if is_code_number (CodeNumber next) t then past - 1 else p.column)
             ≡ on_number (record { tokens = p ∷ ps; past = past }) (option_map {U = ℕ × Ahead} (λ n. (n, record { tokens = ps; past = p.after })) (value_in t))
         by_token p ps past (token.Number n) = refl
         by_token p ps past t = refl
@@ -217,10 +191,10 @@ pub record IsInPath (old now : Tokens) (kept : paths.Path) : Type 0 where
   -- the path, by its corners from here on
   pub path_of : Pair → List Pair → Path
   pub value_is : (p : Pair) (ps : List Pair) → path_value (path_of p ps) ≡ points ++ pair_value p ∷ map pair_value ps
-  pub read : (next : Path → Rest) → from (path next) (ahead old) ≡ from (corner (one_more path_of next)) (ahead now)
+  pub read : (next : Path → Rest) → from (path next) (ahead old) ≡ from (rest_of_corner (one_more path_of next)) (ahead now)
 
-corners_or : (next : List Pair → Rest) (past : ℕ) (ps : List Placed) → from (Corners next) (record { tokens = ps; past = past })
-    ≡ from (Or (token.Mark mark.Open) (corner (λ p. Corners (λ qs. next (p ∷ qs)))) (One (token.Word word.Cycle) (next [])))
+corners_or : (next : List Pair → Rest) (past : ℕ) (ps : List PlacedToken) → from (Corners next) (record { tokens = ps; past = past })
+    ≡ from (Or (token.Mark mark.Open) (rest_of_corner (λ p. Corners (λ qs. next (p ∷ qs)))) (One (token.Word word.Cycle) (next [])))
     (record { tokens = ps; past = past })
 unfolding follow
 corners_or next past [] = refl
@@ -230,7 +204,7 @@ corners_or next past (p ∷ ps) = refl
 pub corners_go_on : (next : List Pair → Rest) (now after : Tokens) (passes : Bool)
     → ((this other : Rest) → from (Or (token.Mark mark.Open) this other) (ahead now) ≡ (if passes then from this (ahead after) else from other (ahead after)))
     → (more : Bool) → passes ≡ more → from (Corners next) (ahead now)
-    ≡ (if more then from (corner (λ p. Corners (λ ps. next (p ∷ ps)))) (ahead after) else from (One (token.Word word.Cycle) (next [])) (ahead after))
+    ≡ (if more then from (rest_of_corner (λ p. Corners (λ ps. next (p ∷ ps)))) (ahead after) else from (One (token.Word word.Cycle) (next [])) (ahead after))
 corners_go_on next now after passes read more is = corners_or next now.column (remaining_tokens now) ∙ rw (sym is) (read _ _)
 
 pub path_wrong : (before after : Tokens) (r : Result paths.Path SyntaxFault) (fault : SyntaxFault) → IsErrAnd r (λ y. y ≡ fault)

@@ -8,7 +8,7 @@ use Rattle.mf_text.specs.Grammar.{spell_form, spell_end, Sign, Plus, Minus, Name
 use Rattle.mf_text.specs.Lines.{Gives}
 use Rattle.mf_text.specs.Meaning.{Meaning, Is, If, Turns, Means, meaning, Command}
 use Rattle.mf_text.specs.Registers.{IsName, IsSource, HasNames, register_count}
-use Rattle.mf_text.specs.Tokens.{kinds, tokens, Placed, Token}
+use Rattle.mf_text.specs.Tokens.{without_columns, tokens, PlacedToken, Token}
 use Rattle.mf_text.specs.TokenTexts.{AreTokens}
 use Rattle.mf_text.proofs.Cuts.{are_tokens}
 use Rattle.mf_text.proofs.TokenTexts.{IsSaid, text_says}
@@ -27,7 +27,7 @@ token_letter : (t : Token) (bs : List ℕ) → IsSaid t bs → IsLetter t
 token_letter (token.Letter n) bs is = omega (arith, is.least, is.greatest, is.number)
 token_letter t bs is = tt
 
-all_letters : (column : ℕ) (bytes : List ℕ) (ps : List Placed) → AreTokens column bytes ps → AreLetters (kinds ps)
+all_letters : (column : ℕ) (bytes : List ℕ) (ps : List PlacedToken) → AreTokens column bytes ps → AreLetters (without_columns ps)
 all_letters column bytes [] cut = tt
 all_letters column bytes (p ∷ ps) (cut, later) =
     (token_letter p.token (cut.text ++ cut.rest) (text_says p.token cut.text cut.rest cut.token), all_letters p.after cut.rest ps later)

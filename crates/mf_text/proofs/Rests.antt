@@ -1,5 +1,7 @@
 -- The rests of lines: the tokens that they take, that each line can be read, and that each rest can be ended.
 use Rattle.std.proofs.Common.{◌≡◌, inl, inr, ℕ, zero, suc, Bool, true, false, List, [], ◌∷◌, ◌++◌, Option, Some, None, refl, sym, ap, ◌∙◌}
+use Rattle.std.proofs.Common.{arith}
+use Rattle.std.proofs.lemmas.Int.{ints}
 use Rattle.std.specs.Option.{option_and_then, option_map, option_or}
 use Rattle.std.proofs.lemmas.Bool.{cases_Bool, true_from_ne_false}
 use Rattle.std.proofs.lemmas.Option.{none-some, same_Some}
@@ -9,9 +11,9 @@ use Rattle.mf_text.specs.declared.token.Word.TheVariants as word
 use Rattle.mf_text.specs.Grammar.{Line, Path, Code, Name, Current, Register, Source, Null, Named, Int, Pair, Form, Nothing, AddContour}
 use Rattle.mf_text.specs.Grammar.{AddPicture, CullKeeping, CullDropping, Clear, Move, ShowTotal, ShowPicture, ShowProof, ShipOut}
 use Rattle.mf_text.specs.Grammar.{SetCheck, PublishAll, Shifted, Scaled, XScaled, YScaled, Rotated, Transform, Sign, Plus, Minus}
-use Rattle.mf_text.specs.Rests.{Kind, Of, This, Names, Numbers, Codes, Rest, Ends, Take, OrTake, Corners, One, Or, ACode, CodeNumber}
-use Rattle.mf_text.specs.Rests.{corner, ends, if_kind, inner, int, is_code_number, path, source, step, value, Token, code_of, int_of}
-use Rattle.mf_text.specs.Rests.{line, line_end, name_token, assignment, of_int, of_source, transform, weighable, name_in, this_in}
+use Rattle.mf_text.specs.Rests.{Kind, Of, This, Names, Numbers, Codes, Rest, Ends, Take, OrTake, Corners, One, Or, character_code, CodeNumber}
+use Rattle.mf_text.specs.Rests.{rest_of_corner, ends, if_kind, rest_of_pair, int, is_code_number, path, source, step, value, Token, code_of, int_of}
+use Rattle.mf_text.specs.Rests.{line, line_end, name_token, assignment, int_at_end, source_at_end, transform, weight_at_end, name_in, this_in}
 use Rattle.mf_text.proofs.ReadInts.{some_code, code_of-is, int_of-is, short_int}
 use Rattle.mf_text.proofs.TokenTexts.{same_token, token_is}
 
@@ -65,10 +67,7 @@ Says k t a = HasSign k a × (t ≡ token_of k a)
 code_says : (negative : Bool) (m : ℕ) (c : Code) (i : Option Int) → int_of negative m ≡ i → option_and_then code_of i ≡ Some c
     → Says (Codes negative) (token.Number m) c
 code_says negative m c None of is = absurd (none-some c is)
-code_says negative m c (Some n) of is =
-    let number = int_of-is negative m n of in
-    let same = code_of-is n c is in
-    (ap (λ (i : Int). i.negative) same ∙ number.0, ap token.Number (sym (ap (λ (i : Int). i.magnitude) same ∙ number.1)))
+code_says negative m c (Some n) of is = grind (arith, ints, int_of-is, code_of-is)
 
 pub value_is : (k : Kind) (t : Token) (a : Of k) → value k t ≡ Some a → Says k t a
 value_is (This u) t a is = (tt, this_only u t is)
@@ -121,34 +120,34 @@ int_to {next} n after = elim (cases_Bool n.negative) [
   | inr is ↦ kind_to (Numbers false) next None (token.Number n.magnitude) n refl (value_back (Numbers false) n is) after
 ]
 
-code_to : {next : Code → Rest} {l : Line} (c : Code) → To (next c) l → To (ACode next) l
+code_to : {next : Code → Rest} {l : Line} (c : Code) → To (next c) l → To (character_code next) l
 code_to {next} c after = elim (cases_Bool c.int.negative) [
   | inl is ↦ or_to (kind_to (Codes true) next None (token.Number c.int.magnitude) c refl (value_back (Codes true) c is) after)
   | inr is ↦ kind_to (Codes false) next None (token.Number c.int.magnitude) c refl (value_back (Codes false) c is) after
 ]
 
-inner_to : {next : Pair → Rest} {l : Pair → Line} → ((p : Pair) → To (next p) (l p)) → (p : Pair) → To (inner next) (l p)
-inner_to each p = int_to p.across (one_to (int_to p.up (one_to (each p))))
+rest_of_pair_to : {next : Pair → Rest} {l : Pair → Line} → ((p : Pair) → To (next p) (l p)) → (p : Pair) → To (rest_of_pair next) (l p)
+rest_of_pair_to each p = int_to p.across (one_to (int_to p.up (one_to (each p))))
 
-corner_to : {next : Pair → Rest} {l : Pair → Line} → ((p : Pair) → To (next p) (l p)) → (p : Pair) → To (corner next) (l p)
-corner_to each p = inner_to (λ q. one_to {u = token.Mark mark.Join} (each q)) p
+rest_of_corner_to : {next : Pair → Rest} {l : Pair → Line} → ((p : Pair) → To (next p) (l p)) → (p : Pair) → To (rest_of_corner next) (l p)
+rest_of_corner_to each p = rest_of_pair_to (λ q. one_to {u = token.Mark mark.Join} (each q)) p
 
 corners_to : (next : List Pair → Rest) (l : List Pair → Line) → ((ps : List Pair) → To (next ps) (l ps)) → (ps : List Pair) → To (Corners next) (l ps)
 corners_to next l each [] = on (token.Word word.Cycle) refl (each [])
 corners_to next l each (p ∷ ps) =
-    on (token.Mark mark.Open) refl (corner_to (λ q. corners_to (λ qs. next (q ∷ qs)) (λ qs. l (q ∷ qs)) (λ qs. each (q ∷ qs)) ps) p)
+    on (token.Mark mark.Open) refl (rest_of_corner_to (λ q. corners_to (λ qs. next (q ∷ qs)) (λ qs. l (q ∷ qs)) (λ qs. each (q ∷ qs)) ps) p)
 
 path_to : {next : Path → Rest} {l : Path → Line} → ((p : Path) → To (next p) (l p)) → (p : Path) → To (path next) (l p)
 path_to {next} {l} each p =
     let path_of : Pair → List Pair → Path = λ first others. record { first = first; others = others } in
-    one_to (corner_to (λ q. corners_to (λ qs. next (path_of q qs)) (λ qs. l (path_of q qs)) (λ qs. each (path_of q qs)) p.others) p.first)
+    one_to (rest_of_corner_to (λ q. corners_to (λ qs. next (path_of q qs)) (λ qs. l (path_of q qs)) (λ qs. each (path_of q qs)) p.others) p.first)
 
 end_to : (form : Form) (ended : Bool) → To (line_end form) (record { form = form; ended = ended })
 unfolding reads
 end_to form true = or_to (record { tokens = []; read = refl })
 end_to form false = record { tokens = []; read = refl }
 
-weight_to : (form : Option Int → Form) (w : Option Int) (ended : Bool) → To (weighable form) (record { form = form w; ended = ended })
+weight_to : (form : Option Int → Form) (w : Option Int) (ended : Bool) → To (weight_at_end form) (record { form = form w; ended = ended })
 unfolding reads
 weight_to form None true = on (token.Mark mark.Semicolon) refl (record { tokens = []; read = refl })
 weight_to form None false = record { tokens = []; read = refl }
@@ -165,7 +164,7 @@ assignment_to Current after = on (token.Word word.CurrentPicture) refl after
 assignment_to (Register n) after = on (token.Letter n) refl after
 
 motion_to : (name : Name) (motion : Transform) (ended : Bool) → To (transform name) (record { form = Move name motion; ended = ended })
-motion_to name (Shifted by) ended = or_to (one_to (inner_to (λ p. end_to (Move name (Shifted p)) ended) by))
+motion_to name (Shifted by) ended = or_to (one_to (rest_of_pair_to (λ p. end_to (Move name (Shifted p)) ended) by))
 motion_to name (Scaled n) ended = on (token.Word word.Scaled) refl (int_to n (end_to _ ended))
 motion_to name (XScaled n) ended = on (token.Word word.XScaled) refl (int_to n (end_to _ ended))
 motion_to name (YScaled n) ended = on (token.Word word.YScaled) refl (int_to n (end_to _ ended))
@@ -177,17 +176,17 @@ form_to Nothing true = on (token.Mark mark.Semicolon) refl (record { tokens = []
 form_to Nothing false = record { tokens = []; read = refl }
 form_to (AddContour name p w) ended = or_to (take_to name tt (or_to (path_to (λ q. weight_to (AddContour name q) w ended) p)))
 form_to (AddPicture name sign s) ended = or_to (take_to name tt (on (token.Word word.Also) refl (by_sign sign s))) where
-  by_sign : (g : Sign) (s : Source) → To (Or (token.Mark mark.Minus) (of_source (AddPicture name Minus)) (of_source (AddPicture name Plus)))
+  by_sign : (g : Sign) (s : Source) → To (Or (token.Mark mark.Minus) (source_at_end (AddPicture name Minus)) (source_at_end (AddPicture name Plus)))
       (record { form = AddPicture name g s; ended = ended })
   by_sign Minus s = or_to (source_to (λ t. end_to (AddPicture name Minus t) ended) s)
   by_sign Plus Null = on (token.Word word.NullPicture) refl (end_to _ ended)
   by_sign Plus (Named Current) = on (token.Word word.CurrentPicture) refl (end_to _ ended)
   by_sign Plus (Named (Register n)) = on (token.Letter n) refl (end_to _ ended)
 form_to (CullKeeping name range w) ended =
-    on (token.Word word.Cull) refl (take_to name tt (or_to (one_to (inner_to (λ p. weight_to (CullKeeping name p) w ended) range))))
+    on (token.Word word.Cull) refl (take_to name tt (or_to (one_to (rest_of_pair_to (λ p. weight_to (CullKeeping name p) w ended) range))))
 form_to (CullDropping name range w) ended =
     on (token.Word word.Cull) refl (take_to name tt (on (token.Word word.Dropping) refl (one_to
-    (inner_to (λ p. weight_to (CullDropping name p) w ended) range))))
+    (rest_of_pair_to (λ p. weight_to (CullDropping name p) w ended) range))))
 form_to (Clear name) ended = assignment_to name (one_to (or_to (end_to _ ended)))
 form_to (Move name motion) ended = assignment_to name (again_to name (motion_to name motion ended))
 form_to (ShowTotal s) ended = on (token.Word word.Show) refl (or_to (source_to (λ t. end_to (ShowTotal t) ended) s))
@@ -198,8 +197,8 @@ form_to (ShowProof s) ended = on (token.Word word.Proof) refl (source_to (λ t. 
 form_to (ShipOut s code dx width) ended =
     on (token.Word word.Shipout) refl (source_to after_source s) where
       after_source : (t : Source)
-          → To (One (token.Word word.Code) (ACode (λ c. One (token.Word word.Dx) (int (λ x. One (token.Word word.Width) (of_int (ShipOut t c x)))))))
-          (record { form = ShipOut t code dx width; ended = ended })
+          → To (One (token.Word word.Code) (character_code (λ c. One (token.Word word.Dx) (int (λ x. One (token.Word word.Width)
+          (int_at_end (ShipOut t c x))))))) (record { form = ShipOut t code dx width; ended = ended })
       after_source t = one_to (code_to code (one_to (int_to dx (one_to (int_to width (end_to _ ended))))))
 form_to (SetCheck n) ended = on (token.Word word.TurningCheck) refl (one_to (int_to n (end_to _ ended)))
 form_to PublishAll ended = on (token.Word word.Publish) refl (end_to _ ended)

@@ -18,7 +18,7 @@ use Rattle.mf_text.specs.Meaning.{Value, Points, AWeight, ACull, AScale, Angle, 
 use Rattle.mf_text.specs.Meaning.{Refuses, meaning, CycleFault, IsContourWeight, IsLawfulCull, CullRule, Keeping, Dropping, Quarter, Command, TextFault}
 use Rattle.mf_text.specs.Rests.{from, line}
 use Rattle.mf_text.specs.Syntax.{IsLine}
-use Rattle.mf_text.specs.Tokens.{kinds, tokens}
+use Rattle.mf_text.specs.Tokens.{without_columns, tokens}
 use Rattle.mf_text.proofs.LineAnswers.{of_values, refusals_of_values}
 use Rattle.mf_text.proofs.LineReading.{goes_wrong, is_line}
 
@@ -43,24 +43,11 @@ factor_or_not f =
     ]))
 
 factors_or_not : (s : Factors) → AreFactors s ⊎ (AreFactors s → ⊥)
-factors_or_not s =
-    elim (factor_or_not s.x) [
-      | inr never ↦ inr (λ are. never are.columns)
-      | inl columns ↦ elim (factor_or_not s.y) [
-        | inr never ↦ inr (λ are. never are.rows)
-        | inl rows ↦ inl (record { columns = columns; rows = rows })
-      ]
-    ]
+factors_or_not s = grind (arith, ints, factor_or_not)
 
 cull_or_not : (rule : CullRule) → IsLawfulCull rule ⊎ (IsLawfulCull rule → ⊥)
-cull_or_not (Keeping a b w) =
-    by_lt_z b a (λ none. inr (λ is. omega (arith, ints, is.some)))
-    (λ some. by_lt_z (pos 0) a (λ above. inl (record { some = some; not_zero = λ least greatest. omega (arith, ints, least) }))
-    (λ least. by_lt_z b (pos 0) (λ below. inl (record { some = some; not_zero = λ _ greatest. omega (arith, ints, greatest) }))
-    (λ greatest. inr (λ is. is.not_zero least greatest))))
-cull_or_not (Dropping a b w) =
-    by_lt_z (pos 0) a (λ above. inr (λ is. omega (arith, ints, is.least)))
-    (λ least. by_lt_z b (pos 0) (λ below. inr (λ is. omega (arith, ints, is.greatest))) (λ greatest. inl (record { least = least; greatest = greatest })))
+cull_or_not (Keeping a b w) = grind (arith, ints, by_lt_z)
+cull_or_not (Dropping a b w) = grind (arith, ints, by_lt_z)
 
 no_turn : (angle : ℤ) → (degrees Once ≡ angle → ⊥) → (degrees Twice ≡ angle → ⊥) → (degrees Thrice ≡ angle → ⊥)
     → (quarter : Quarter) → degrees quarter ≡ angle → ⊥
@@ -131,7 +118,7 @@ abbrev HasAnswer : List ℕ → Type 0
 HasAnswer bytes =
     ((given : Command) × Gives bytes given) ⊎ ((fault : TextFault) × (fault ≢ faults.OutOfMemory) × IsRefused bytes fault)
 
-line_answered : (bytes : List ℕ) → IsText bytes → (line : IsLine (kinds (tokens bytes))) → MeansSomething (meaning line.tree.form) → HasAnswer bytes
+line_answered : (bytes : List ℕ) → IsText bytes → (line : IsLine (without_columns (tokens bytes))) → MeansSomething (meaning line.tree.form) → HasAnswer bytes
 line_answered bytes text line (inl (given, is)) =
     inl (given, record { line = line.tree; line_is = record { text = text; spelled = line.spelled }; so = is })
 line_answered bytes text line (inr (fault, is)) =

@@ -1,18 +1,20 @@
 -- Tokens that are read as a line are the spelling of that line.
 use Rattle.std.proofs.Common.{◌≡◌, ℕ, zero, suc, ◌+◌, true, false, List, [], ◌∷◌, ◌++◌, length, Option, Some, None}
 use Rattle.std.proofs.Common.{refl, sym, ap, subst, ◌∙◌, append_assoc, append-nil, flat_map, length-append, arith}
+use Rattle.std.proofs.lemmas.Int.{ints}
 use Rattle.std.specs.Option.{IfSome, option_map, option_or}
 use Rattle.std.proofs.lemmas.Bool.{false≢true}
 use Rattle.std.proofs.lemmas.Option.{none-some, same_Some}
 use Rattle.mf_text.specs.declared.token.Mark.TheVariants as mark
 use Rattle.mf_text.specs.Token as token
 use Rattle.mf_text.specs.declared.token.Word.TheVariants as word
-use Rattle.mf_text.specs.Grammar.{Form, Nothing, AddContour, AddPicture, CullKeeping, CullDropping, Clear, Move, ShowTotal}
-use Rattle.mf_text.specs.Grammar.{ShowPicture, ShowProof, ShipOut, SetCheck, PublishAll, Shifted, Scaled, XScaled, YScaled, Rotated}
+use Rattle.mf_text.specs.Grammar.{Form, Nothing, AddContour, AddPicture, CullKeeping, CullDropping, Clear, ShowTotal}
+use Rattle.mf_text.specs.Grammar.{ShowPicture, ShowProof, ShipOut, SetCheck, PublishAll}
 use Rattle.mf_text.specs.Grammar.{Line, Path, spell_form, spell_weight, spell_int, spell_pair, spell_name, spell_source, spell_corner}
 use Rattle.mf_text.specs.Grammar.{spell_path, spell_line, Plus, Minus, Code, Name, Current, Register, Source, Null, Named, Int, Pair}
-use Rattle.mf_text.specs.Rests.{Kind, Of, This, Names, Codes, Rest, Ends, Take, OrTake, Corners, One, Or, ACode, CodeNumber, corner, ends, if_kind, inner}
-use Rattle.mf_text.specs.Rests.{int, is_code_number, pair, path, source, step, assignment, line, line_end, name_token, transform, value, weighable, Token}
+use Rattle.mf_text.specs.Rests.{Kind, Of, This, Names, Codes, Rest, Ends, Take, OrTake, Corners, One, Or, CodeNumber, ends, if_kind}
+use Rattle.mf_text.specs.Rests.{character_code, int, is_code_number, pair, path, rest_of_corner, rest_of_pair, source, step, assignment, line, line_end}
+use Rattle.mf_text.specs.Rests.{name_token, transform, value, weight_at_end, Token}
 use Rattle.mf_text.specs.Syntax.{is_negative_code}
 use Rattle.mf_text.proofs.Rests.{HasSign, token_of, value_is, is_code_number_at, reads}
 
@@ -80,43 +82,32 @@ plain_tokens : (past : List Token) (n : Int) → n.negative ≡ false → past +
 plain_tokens past n is = rw is refl
 
 sound_int : {past : List Token} {next : Int → Rest} → ((n : Int) → Sound (past ++ spell_int n) (next n)) → Sound past (int next)
-sound_int {past} each = record {
-  by = (λ n is. (sound_at (minus_tokens past n is) (each n)).by, λ n is. (sound_at (plain_tokens past n is) (each n)).by);
-}
+sound_int {past} each = grind (arith, ints, sound_at, minus_tokens, plain_tokens)
 
 sound_code : {past : List Token} {next : Code → Rest} → ((s : Token) × (past ++ token.Mark mark.Minus ∷ [] ≡ to_number s))
-    → ((c : Code) → Sound (past ++ spell_int c.int) (next c)) → Sound past (ACode next)
-sound_code {past} place each = record {
-  by = ((place, λ c is. (sound_at (minus_tokens past c.int is) (each c)).by), λ c is. (sound_at (plain_tokens past c.int is) (each c)).by);
-}
+    → ((c : Code) → Sound (past ++ spell_int c.int) (next c)) → Sound past (character_code next)
+sound_code {past} place each = grind (arith, ints, sound_at, minus_tokens, plain_tokens)
 
 -- a pair after its `(`
 sound_inner : (past : List Token) {next : Pair → Rest} → ((p : Pair) → Sound (past ++ spell_pair p) (next p))
-    → Sound (past ++ token.Mark mark.Open ∷ []) (inner next)
-sound_inner past each =
-    sound_int (λ across. sound_one (sound_int (λ up. sound_one
-    (sound_at (simp append_assoc) (each (record { across = across; up = up }))))))
+    → Sound (past ++ token.Mark mark.Open ∷ []) (rest_of_pair next)
+sound_inner past each = grind (arith, ints, sound_int, sound_one, sound_at, append_assoc)
 
 sound_pair : {past : List Token} {next : Pair → Rest} → ((p : Pair) → Sound (past ++ spell_pair p) (next p)) → Sound past (pair next)
 sound_pair {past} each = sound_one (sound_inner past each)
 
 -- a corner after its `(`
 sound_corner : (past : List Token) (next : Pair → Rest) → ((p : Pair) → Sound (past ++ spell_corner p) (next p))
-    → Sound (past ++ token.Mark mark.Open ∷ []) (corner next)
+    → Sound (past ++ token.Mark mark.Open ∷ []) (rest_of_corner next)
 sound_corner past next each = sound_inner past (λ p. sound_one (sound_at (sym (append_assoc past (spell_pair p) _)) (each p)))
 
 sound_path : {past : List Token} {next : Path → Rest} → ((p : Path) → Sound (past ++ spell_path p) (next p)) → Sound past (path next)
-sound_path {past} {next} each =
-    sound_one (sound_corner past (λ first. Corners (λ others. next (record { first = first; others = others }))) (λ first. record {
-      by = λ more. (sound_at (simp append_assoc) (each (record { first = first; others = more }))).by;
-    }))
+sound_path {past} {next} each = grind (arith, ints, sound_one, sound_corner, sound_at, append_assoc)
 
 -- after some corners, one more
 one_more : (past : List Token) (next : List Pair → Rest) → Spells past (Corners next)
-    → Sound (past ++ token.Mark mark.Open ∷ []) (corner (λ p. Corners (λ ps. next (p ∷ ps))))
-one_more past next spells = sound_corner past (λ p. Corners (λ ps. next (p ∷ ps))) (λ p. record {
-  by = λ more. subst (λ ts. Spells ts (next (p ∷ more))) (simp append_assoc) (spells (p ∷ more));
-})
+    → Sound (past ++ token.Mark mark.Open ∷ []) (rest_of_corner (λ p. Corners (λ ps. next (p ∷ ps))))
+one_more past next spells = grind (arith, ints, sound_corner, append_assoc)
 
 -- ---- what is read is spelled
 
@@ -166,9 +157,7 @@ coded_on : (past ts : List Token) (t : Token) (k : ℕ) (q : Option Rest) → If
     → IsCoded past (t ∷ ts) (suc k)
 unfolding is_code_number_at
 coded_on past ts t k None spells is later = absurd (false≢true is)
-coded_on past ts t k (Some r) spells is later =
-    let coded = later r spells is in
-    (ap is_negative_code (sym (append_assoc past (t ∷ []) ts)) ∙ coded.0, omega (arith, coded.1, length-append past (t ∷ [])))
+coded_on past ts t k (Some r) spells is later = grind (arith, ints, append_assoc, length-append)
 
 pub coded : (ts past : List Token) (r : Rest) (k : ℕ) → Spells past r → is_code_number_at (Some r) ts k ≡ true → IsCoded past ts k
 unfolding is_code_number_at
@@ -183,18 +172,11 @@ sound_end form spelled = record { by = (ap (λ ts. ts ++ token.Mark mark.Semicol
 
 -- a weight that may be left out
 sound_weight : {past : List Token} (form : Option Int → Form) → ((w : Option Int) → spell_form (form w) ≡ past ++ spell_weight w)
-    → Sound past (weighable form)
-sound_weight {past} form spelled =
-    sound_or (sound_int (λ n. sound_end (form (Some n)) (spelled (Some n) ∙ sym (append_assoc past (token.Word word.WithWeight ∷ []) (spell_int n)))))
-    (sound_end (form None) (spelled None ∙ append-nil past))
+    → Sound past (weight_at_end form)
+sound_weight {past} form spelled = grind (arith, ints, sound_or, sound_int, sound_end, spelled, append_assoc, append-nil)
 
 sound_transform : (name : Name) → Sound ((spell_name name ++ token.Mark mark.Becomes ∷ []) ++ spell_name name) (transform name)
-sound_transform name =
-    sound_or (sound_pair (λ by. sound_end (Move name (Shifted by)) (simp append_assoc)))
-    (sound_or (sound_int (λ n. sound_end (Move name (Scaled n)) (simp append_assoc)))
-    (sound_or (sound_int (λ n. sound_end (Move name (XScaled n)) (simp append_assoc)))
-    (sound_or (sound_int (λ n. sound_end (Move name (YScaled n)) (simp append_assoc)))
-    (sound_one (sound_int (λ n. sound_end (Move name (Rotated n)) (simp append_assoc)))))))
+sound_transform name = grind (arith, ints, sound_or, sound_pair, sound_end, append_assoc, sound_int, sound_one)
 
 sound_assignment : (name : Name) → Sound (spell_name name) (assignment name)
 sound_assignment name =

@@ -1,6 +1,7 @@
 -- The token at the front of bytes, and the text that it has there.
 use Rattle.std.proofs.Common.{◌≡◌, ◌⊎◌, inl, inr, ℕ, suc, ◌+◌, ◌-◌, ◌<◌, ◌≤◌, Bool, true, false, not, bytes_eq, eqb, leb, List, [], ◌∷◌}
 use Rattle.std.proofs.Common.{◌++◌, Option, None, Some, length, get_or, take, drop, if◌then◌else◌, refl, sym, ap, subst, ◌∙◌, arith, rules}
+use Rattle.std.proofs.lemmas.Int.{ints}
 use Rattle.std.specs.Char.{is_ascii_alphabetic, is_ascii_digit}
 use Rattle.std.specs.List.{All, list_all, prefix_len, starts_with, take_while}
 use Rattle.std.specs.Option.{option_map_or}
@@ -17,7 +18,7 @@ use Rattle.mf_text.specs.declared.token.Mark.TheVariants as mark
 use Rattle.mf_text.specs.declared.token.Word.TheVariants as word
 use Rattle.mf_text.specs.Limits.{letter_a, letter_z, most_digits, percent_sign, space, tab}
 use Rattle.mf_text.specs.Token as token
-use Rattle.mf_text.specs.Tokens.{Taken, first_token, first_is, is_blank, is_letter, is_longer, mark_among, mark_text, marks}
+use Rattle.mf_text.specs.Tokens.{SizedToken, first_token, first_is, is_blank, is_letter, is_longer, mark_among, mark_text, marks}
 use Rattle.mf_text.specs.Tokens.{number_token, word_among, word_text, word_token, words, is_token, Mark, Token, Word}
 use Rattle.mf_text.specs.TokenTexts.{AMark, Digits, IsRow, IsTokenText, Letters, OtherByte}
 
@@ -33,9 +34,7 @@ token_is t u same = search rules
 row_text : (p : ℕ → Bool) (text rest : List ℕ) → All (λ b. p b ≡ true) text → first_is p rest ≡ false → take_while p (text ++ rest) ≡ text
 row_text p [] [] all ends = refl
 row_text p [] (b ∷ bs) all ends = take_while-cons p b bs ∙ rw ends refl
-row_text p (b ∷ bs) rest all ends =
-    take_while-cons p b (bs ++ rest)
-    ∙ rw (All-head (λ c. p c ≡ true) b bs all) (ap (λ (xs : List ℕ). b ∷ xs) (row_text p bs rest (All-tail (λ c. p c ≡ true) b bs all) ends))
+row_text p (b ∷ bs) rest all ends = grind (arith, ints, take_while-cons, All-head, All-tail, row_text p bs rest (All-tail (λ c. p c ≡ true) b bs all) ends)
 
 pub row_count : (p : ℕ → Bool) (text rest : List ℕ) → IsRow p text rest → prefix_len p (text ++ rest) ≡ length text
 row_count p text rest row = sym (length-prefix_len p (text ++ rest)) ∙ ap length (row_text p text rest row.all row.longest)
@@ -94,10 +93,7 @@ unknown_first (b ∷ bs) no_letter no_digit none =
 row_first : (p : ℕ → Bool) (f : List ℕ → Token)
     → ((bs : List ℕ) → 0 < prefix_len p bs → first_token bs ≡ record { token = f (take_while p bs); bytes = length (take_while p bs) })
     → (t : Token) (text rest : List ℕ) → IsRow p text rest → t ≡ f text → first_token (text ++ rest) ≡ record { token = t; bytes = length text }
-row_first p f first t text rest row is =
-    first (text ++ rest) (omega (arith, row.some, row_count p text rest row))
-    ∙ ap (λ ts. record { token = f ts; bytes = length ts }) (row_text p text rest row.all row.longest)
-    ∙ ap (λ u. record { token = u; bytes = length text }) (sym is)
+row_first p f first t text rest row is = grind (arith, ints, row, row_count, row_text)
 
 -- a text at the front is that of the token there
 pub text_first : (t : Token) (text rest : List ℕ) → IsTokenText t text rest → first_token (text ++ rest) ≡ record { token = t; bytes = length text }
@@ -176,12 +172,7 @@ other_byte p b c is none = false_from_ne_true _ (λ same. false≢true (sym none
 
 row_begins : (p : ℕ → Bool) (text rest : List ℕ) → p space ≡ false → p tab ≡ false → p percent_sign ≡ false → IsRow p text rest → BeginsToken text
 row_begins p [] rest no_space no_tab no_percent row = absurd (omega (arith, row.some))
-row_begins p (b ∷ bs) rest no_space no_tab no_percent row =
-    let is = All-head (λ c. p c ≡ true) b bs row.all in record {
-      clear = rw (other_byte p b space is no_space, other_byte p b tab is no_tab) refl;
-      no_comment = other_byte p b percent_sign is no_percent;
-      some = row.some;
-    }
+row_begins p (b ∷ bs) rest no_space no_tab no_percent row = grind (arith, ints, All-head, row, other_byte)
 
 mark_begins : (m : Mark) → BeginsToken (mark_text m)
 mark_begins mark.Becomes = record { clear = refl; no_comment = refl; some = omega arith }
@@ -260,10 +251,7 @@ letters_say text rest ends =
 
 digits_say : (text rest : List ℕ) → IsRow is_ascii_digit text rest → IsSaid (number_token text) (text ++ rest)
 unfolding number_token
-digits_say text rest row =
-    let count = row_count is_ascii_digit text rest row in
-    cond_both (leb (length text) most_digits) _ _ (λ t. IsSaid t (text ++ rest))
-    (λ few. (omega (arith, count, row.some), omega (arith, count, leb-true (length text) most_digits few))) (λ _. tt)
+digits_say text rest row = grind (arith, ints, row_count, row, cond_both, leb-true)
 
 pub text_says : (t : Token) (text rest : List ℕ) → IsTokenText t text rest → IsSaid t (text ++ rest)
 text_says t text rest (Letters row is) = subst (λ u. IsSaid u (text ++ rest)) (sym is) (letters_say text rest row.longest)
@@ -276,12 +264,12 @@ pub mark_length : (m : Mark) (text rest : List ℕ) → IsTokenText (token.Mark 
 mark_length m text rest is =
     let said = text_says (token.Mark m) text rest is in
     let parts = starts-drop (text ++ rest) (mark_text m) said.0 in
-    ap (λ (f : Taken). f.bytes) (sym (text_first (token.Mark m) text rest is) ∙ ap first_token parts ∙ counts m _ (ap (is_longer m) (sym parts) ∙ said.1))
+    ap (λ (f : SizedToken). f.bytes) (sym (text_first (token.Mark m) text rest is) ∙ ap first_token parts ∙ counts m _ (ap (is_longer m) (sym parts) ∙ said.1))
 
 pub said : (bs : List ℕ) → IsSaid (first_token bs).token bs
 said bs = by_front (front bs) where
   by_front : Front bs → IsSaid (first_token bs).token bs
   by_front (Text t text rest parts is) =
       subst (λ xs. IsSaid (first_token xs).token xs) (sym parts)
-      (subst (λ (f : Taken). IsSaid f.token (text ++ rest)) (sym (text_first t text rest is)) (text_says t text rest is))
-  by_front (Other no_letter no_digit none) = subst (λ (f : Taken). IsSaid f.token bs) (sym (unknown_first bs no_letter no_digit none)) tt
+      (subst (λ (f : SizedToken). IsSaid f.token (text ++ rest)) (sym (text_first t text rest is)) (text_says t text rest is))
+  by_front (Other no_letter no_digit none) = subst (λ (f : SizedToken). IsSaid f.token bs) (sym (unknown_first bs no_letter no_digit none)) tt

@@ -8,7 +8,7 @@ use Rattle.mf_text.specs.Limits.{last_printed, space, tab}
 use Rattle.mf_text.specs.Meaning.{Means, Refuses, TakesMemory, meaning, Command, TextFault}
 use Rattle.mf_text.specs.Syntax.{IsSyntaxFault}
 use Rattle.mf_text.specs.Token.{Ahead}
-use Rattle.mf_text.specs.Tokens.{tokens, kinds}
+use Rattle.mf_text.specs.Tokens.{tokens, without_columns}
 
 -- the byte is text: a tab or printed ASCII
 abbrev pub is_text_byte : ℕ → Bool
@@ -26,7 +26,7 @@ line_ahead line = record { tokens = tokens line; past = 1 }
 -- the bytes are this line of the grammar
 pub record IsLineOf (bytes : List ℕ) (line : Line) : Type 0 where
   pub text : IsText bytes
-  pub spelled : kinds (tokens bytes) ≡ spell_line line
+  pub spelled : without_columns (tokens bytes) ≡ spell_line line
 
 -- the bytes are a line of the grammar, and this is so of its form
 pub record IsLineWith (bytes : List ℕ) (IsSo : Form → Type 0) : Type 0 where

@@ -8,11 +8,11 @@ use Rattle.mf_text.specs.declared.tokens.Tokens.{Tokens}
 use Rattle.mf_text.specs.declared.path.Path as paths
 use Rattle.mf_text.specs.Grammar.{Form, Line, Path, path_value, Point}
 use Rattle.mf_text.specs.Meaning.{IsAnswerOf, Command, TextFault}
-use Rattle.mf_text.specs.Rests.{Rest, path, from, line_end, Ahead, Token, Placed, this_in}
+use Rattle.mf_text.specs.Rests.{Rest, path, from, line_end, Ahead, Token, PlacedToken, this_in}
 use Rattle.mf_text.specs.Tokens.{tokens_from}
 
 -- the tokens of a line that remain to be read
-abbrev pub remaining_tokens : Tokens → List Placed
+abbrev pub remaining_tokens : Tokens → List PlacedToken
 remaining_tokens t = tokens_from t.column t.rest.now
 
 -- what is ahead of the reader: the tokens that remain, and the column one past the token before them
@@ -24,7 +24,7 @@ abbrev pub LeavesNoMore : Tokens → Tokens → Type 0
 LeavesNoMore after before = length (remaining_tokens after) ≤ length (remaining_tokens before)
 
 -- the value of the next token, if it has one, and what is ahead after it
-abbrev pub next_value : {A : Type 0} → (Token → Option A) → List Placed → Option (A × Ahead)
+abbrev pub next_value : {A : Type 0} → (Token → Option A) → List PlacedToken → Option (A × Ahead)
 next_value f [] = None
 next_value f (p ∷ ps) = option_map (λ a. (a, record { tokens = ps; past = p.after })) (f p.token)
 
@@ -61,7 +61,7 @@ PassesPhrase {A} phrase before after result = (next : A → Rest) → from (phra
 pub record HasPoints (path : paths.Path) (points : List Point) : Type 0 where
   pub few : path.corners ≤ most_points → path.corners ≡ length points
   pub many : most_points < path.corners → most_points < length points
-  pub kept : path.corners ≤ most_points → path.is_wanting ≡ false → path.points.items ≡ points
+  pub kept : path.corners ≤ most_points → path.is_out_of_memory ≡ false → path.points.items ≡ points
 
 -- a path was passed, whatever may follow it, and its points are kept
 pub record HasPassedPath (before after : Tokens) (kept : paths.Path) : Type 0 where

@@ -8,7 +8,7 @@ use Rattle.mf_text.specs.Grammar.{Form, Nothing, AddContour, AddPicture, CullKee
 use Rattle.mf_text.specs.Grammar.{ShowPicture, ShowProof, ShipOut, SetCheck, PublishAll, Shifted, Scaled, XScaled, YScaled}
 use Rattle.mf_text.specs.Grammar.{Rotated, Path, Line, Plus, Minus, Name, Current, Register, Source, Null, Named, Int, Pair}
 unfoldable pub use Rattle.mf_text.specs.Ints.{int_of, is_code, where_true}
-pub use Rattle.mf_text.specs.Token.{Ahead, Token, Placed, name_in, this_in, value_in}
+pub use Rattle.mf_text.specs.Token.{Ahead, Token, PlacedToken, name_in, this_in, value_in}
 use Rattle.mf_text.specs.Token as token
 
 -- a kind of tokens: this token, names, or the numbers of ints or of codes, which are negative where this is true
@@ -54,8 +54,8 @@ pub data Rest : Type 0 where
 -- ---- phrases
 
 -- an int that is a code
-abbrev pub ACode : (Code → Rest) → Rest
-ACode next = Or (token.Mark mark.Minus) (CodeNumber next) (Take (Codes false) next)
+abbrev pub character_code : (Code → Rest) → Rest
+character_code next = Or (token.Mark mark.Minus) (CodeNumber next) (Take (Codes false) next)
 
 -- a source
 abbrev pub source : (Source → Rest) → Rest
@@ -66,20 +66,20 @@ abbrev pub int : (Int → Rest) → Rest
 int next = Or (token.Mark mark.Minus) (Take (Numbers true) next) (Take (Numbers false) next)
 
 -- the rest of a pair after its `(`
-abbrev pub inner : (Pair → Rest) → Rest
-inner next = int (λ across. One (token.Mark mark.Comma) (int (λ up. One (token.Mark mark.Close) (next (record { across = across; up = up })))))
+abbrev pub rest_of_pair : (Pair → Rest) → Rest
+rest_of_pair next = int (λ across. One (token.Mark mark.Comma) (int (λ up. One (token.Mark mark.Close) (next (record { across = across; up = up })))))
 
 -- a pair
 abbrev pub pair : (Pair → Rest) → Rest
-pair next = One (token.Mark mark.Open) (inner next)
+pair next = One (token.Mark mark.Open) (rest_of_pair next)
 
 -- the rest of a corner after its `(`
-abbrev pub corner : (Pair → Rest) → Rest
-corner next = inner (λ p. One (token.Mark mark.Join) (next p))
+abbrev pub rest_of_corner : (Pair → Rest) → Rest
+rest_of_corner next = rest_of_pair (λ p. One (token.Mark mark.Join) (next p))
 
 -- a path
 abbrev pub path : (Path → Rest) → Rest
-path next = One (token.Mark mark.Open) (corner (λ first. Corners (λ others. next (record { first = first; others = others }))))
+path next = One (token.Mark mark.Open) (rest_of_corner (λ first. Corners (λ others. next (record { first = first; others = others }))))
 
 -- ---- lines
 
@@ -92,44 +92,44 @@ abbrev pub weight : (Option Int → Rest) → Rest
 weight next = Or (token.Word word.WithWeight) (int (λ n. next (Some n))) (next None)
 
 -- after a command that may have a weight: the weight, if there is one, and the end of the line
-abbrev pub weighable : (Option Int → Form) → Rest
-weighable form = weight (λ n. line_end (form n))
+abbrev pub weight_at_end : (Option Int → Form) → Rest
+weight_at_end form = weight (λ n. line_end (form n))
 
 -- a source, and the end of the line
-abbrev pub of_source : (Source → Form) → Rest
-of_source form = source (λ picture. line_end (form picture))
+abbrev pub source_at_end : (Source → Form) → Rest
+source_at_end form = source (λ picture. line_end (form picture))
 
 -- an int, and the end of the line
-abbrev pub of_int : (Int → Form) → Rest
-of_int form = int (λ n. line_end (form n))
+abbrev pub int_at_end : (Int → Form) → Rest
+int_at_end form = int (λ n. line_end (form n))
 
 -- a range, and a weight and the end of the line
-abbrev pub of_range : (Pair → Option Int → Form) → Rest
-of_range form = pair (λ range. weighable (form range))
+abbrev pub range_at_end : (Pair → Option Int → Form) → Rest
+range_at_end form = pair (λ range. weight_at_end (form range))
 
 -- after `addto`
 abbrev pub addto : Rest
 addto =
-    Take Names (λ name. Or (token.Word word.Contour) (path (λ p. weighable (AddContour name p)))
-    (One (token.Word word.Also) (Or (token.Mark mark.Minus) (of_source (AddPicture name Minus)) (of_source (AddPicture name Plus)))))
+    Take Names (λ name. Or (token.Word word.Contour) (path (λ p. weight_at_end (AddContour name p)))
+    (One (token.Word word.Also) (Or (token.Mark mark.Minus) (source_at_end (AddPicture name Minus)) (source_at_end (AddPicture name Plus)))))
 
 -- after `cull`
 abbrev pub cull : Rest
-cull = Take Names (λ name. Or (token.Word word.Keeping) (of_range (CullKeeping name)) (One (token.Word word.Dropping) (of_range (CullDropping name))))
+cull = Take Names (λ name. Or (token.Word word.Keeping) (range_at_end (CullKeeping name)) (One (token.Word word.Dropping) (range_at_end (CullDropping name))))
 
 -- after `show`
 abbrev pub show : Rest
-show = Or (token.Word word.TotalWeight) (of_source ShowTotal) (of_source ShowPicture)
+show = Or (token.Word word.TotalWeight) (source_at_end ShowTotal) (source_at_end ShowPicture)
 
 -- after `shipout`
 abbrev pub shipout : Rest
 shipout =
-    source (λ picture. One (token.Word word.Code) (ACode (λ code. One (token.Word word.Dx) (int (λ dx. One (token.Word word.Width)
-    (of_int (ShipOut picture code dx)))))))
+    source (λ picture. One (token.Word word.Code) (character_code (λ code. One (token.Word word.Dx) (int (λ dx. One (token.Word word.Width)
+    (int_at_end (ShipOut picture code dx)))))))
 
 -- after `turningcheck`
 abbrev pub turning_check : Rest
-turning_check = One (token.Mark mark.Becomes) (of_int SetCheck)
+turning_check = One (token.Mark mark.Becomes) (int_at_end SetCheck)
 
 -- the token of a name
 abbrev pub name_token : Name → Token
@@ -139,8 +139,8 @@ name_token (Register letter) = token.Letter letter
 -- after name `:=` name, where `shifted` does not come: another transform
 abbrev pub scale_or_turn : Name → Rest
 scale_or_turn name =
-    Or (token.Word word.Scaled) (of_int (λ n. Move name (Scaled n))) (Or (token.Word word.XScaled) (of_int (λ n. Move name (XScaled n)))
-    (Or (token.Word word.YScaled) (of_int (λ n. Move name (YScaled n))) (One (token.Word word.Rotated) (of_int (λ n. Move name (Rotated n))))))
+    Or (token.Word word.Scaled) (int_at_end (λ n. Move name (Scaled n))) (Or (token.Word word.XScaled) (int_at_end (λ n. Move name (XScaled n)))
+    (Or (token.Word word.YScaled) (int_at_end (λ n. Move name (YScaled n))) (One (token.Word word.Rotated) (int_at_end (λ n. Move name (Rotated n))))))
 
 -- after name `:=` name: a transform
 abbrev pub transform : Name → Rest
@@ -153,7 +153,7 @@ assignment name = One (token.Mark mark.Becomes) (Or (token.Word word.NullPicture
 -- a complete line
 abbrev pub line : Rest
 line =
-    Or (token.Word word.Addto) addto (Or (token.Word word.Cull) cull (Or (token.Word word.Show) show (Or (token.Word word.Proof) (of_source ShowProof)
+    Or (token.Word word.Addto) addto (Or (token.Word word.Cull) cull (Or (token.Word word.Show) show (Or (token.Word word.Proof) (source_at_end ShowProof)
     (Or (token.Word word.Shipout) shipout (Or (token.Word word.TurningCheck) turning_check (Or (token.Word word.Publish) (line_end PublishAll)
     (OrTake Names assignment (line_end Nothing))))))))
 
@@ -172,7 +172,8 @@ step (Take k next) t = if_kind k next t None
 step (OrTake k next other) t = if_kind k next t (step other t)
 step (CodeNumber next) t = if_kind (Codes true) next t None
 step (Corners next) t =
-    if_kind (This (token.Mark mark.Open)) (λ _. corner (λ p. Corners (λ ps. next (p ∷ ps)))) t (if_kind (This (token.Word word.Cycle)) (λ _. next []) t None)
+    if_kind (This (token.Mark mark.Open)) (λ _. rest_of_corner (λ p. Corners (λ ps. next (p ∷ ps)))) t
+    (if_kind (This (token.Word word.Cycle)) (λ _. next []) t None)
 
 -- the line that can end here, if there is one
 abbrev pub ends : Rest → Option Line
@@ -192,7 +193,7 @@ is_code_number r t = false
 
 -- what the tokens give where they must be this rest: a line, or the column at which they go wrong; the token before them ends before
 -- column `past`. A token that may not come is reported at its own column, but a number after `code -` at the `-`, the byte before
-unfoldable pub follow : Result Rest ℕ → ℕ → List Placed → Result Line ℕ
+unfoldable pub follow : Result Rest ℕ → ℕ → List PlacedToken → Result Line ℕ
 follow (Err column) past ps = Err column
 follow (Ok rest) past [] = ok_or (ends rest) past
 follow (Ok rest) past (p ∷ ps) = follow (ok_or (step rest p.token) (if is_code_number rest p.token then past - 1 else p.column)) p.after ps

@@ -5,7 +5,7 @@ use Rattle.mf_text.specs.Token as token
 use Rattle.mf_text.specs.declared.token.Word.TheVariants as word
 use Rattle.mf_text.specs.Token.{Ahead, Token, token_column}
 use Rattle.mf_text.specs.Grammar.{Line, spell_line}
-use Rattle.mf_text.specs.Tokens.{kinds}
+use Rattle.mf_text.specs.Tokens.{without_columns}
 
 -- the tokens are a line of the grammar
 pub record IsLine (ts : List Token) : Type 0 where
@@ -37,5 +37,5 @@ report_place ts k = if is_negative_code ts && eqb k 4 then 3 else k
 -- the tokens ahead are not a line, which is reported at this column
 pub record IsSyntaxFault (ahead : Ahead) (column : ℕ) : Type 0 where
   pub place : ℕ
-  pub at : IsWrongAt (kinds ahead.tokens) place
-  pub column_is : column ≡ token_column ahead (report_place (kinds ahead.tokens) place)
+  pub at : IsWrongAt (without_columns ahead.tokens) place
+  pub column_is : column ≡ token_column ahead (report_place (without_columns ahead.tokens) place)

@@ -27,7 +27,7 @@ is_token Unknown Unknown = true
 is_token t u = false
 
 -- a token with its columns in the line, counted in bytes from 1: that of its first byte, and that of the byte after its last
-pub record Placed : Type 0 where
+pub record PlacedToken : Type 0 where
   pub token : Token
   pub column : ℕ
   pub after : ℕ
@@ -54,16 +54,16 @@ name_in t = None
 
 -- the tokens still to come, and the column one past the token before them
 pub record Ahead : Type 0 where
-  pub tokens : List Placed
+  pub tokens : List PlacedToken
   pub past : ℕ
 
 -- the column of the first of these tokens, or `past` where there are none
-abbrev pub column_of : List Placed → ℕ → ℕ
+abbrev pub column_of : List PlacedToken → ℕ → ℕ
 column_of [] past = past
 column_of (p ∷ ps) past = p.column
 
 -- what is ahead after k of these tokens, or after all of them where they are fewer
-abbrev pub ahead_after : ℕ → List Placed → ℕ → Ahead
+abbrev pub ahead_after : ℕ → List PlacedToken → ℕ → Ahead
 ahead_after zero ps past = record { tokens = ps; past = past }
 ahead_after (suc k) [] past = record { tokens = []; past = past }
 ahead_after (suc k) (p ∷ ps) past = ahead_after k ps p.after

@@ -4,7 +4,7 @@ use Rattle.std.specs.Char.{is_ascii_alphabetic, is_ascii_digit}
 use Rattle.std.specs.List.{All, starts_with}
 use Rattle.mf_text.specs.Limits.{percent_sign}
 use Rattle.mf_text.specs.Token as token
-use Rattle.mf_text.specs.Tokens.{first_is, is_longer, mark_text, number_token, word_token, Mark, is_blank, Placed, Token}
+use Rattle.mf_text.specs.Tokens.{first_is, is_longer, mark_text, number_token, word_token, Mark, is_blank, PlacedToken, Token}
 
 -- the text is a longest row of bytes of one kind: it has at least one, and the rest does not start with another
 pub record IsRow (p : ℕ → Bool) (text rest : List ℕ) : Type 0 where
@@ -31,7 +31,7 @@ pub data IsTokenText (t : Token) (text rest : List ℕ) : Type 0 where
   OtherByte : IsOtherByte text rest → t ≡ token.Unknown → IsTokenText t text rest
 
 -- the bytes from a column on are blanks, the text of a token with these columns, and a rest
-pub record HasFirstToken (column : ℕ) (bytes : List ℕ) (p : Placed) : Type 0 where
+pub record HasFirstToken (column : ℕ) (bytes : List ℕ) (p : PlacedToken) : Type 0 where
   pub blanks : List ℕ
   pub text : List ℕ
   pub rest : List ℕ
@@ -55,6 +55,6 @@ pub record EndsLine (bytes : List ℕ) : Type 0 where
   pub end : IsEnd rest
 
 -- the bytes from a column on are cut into these tokens
-abbrev pub AreTokens : ℕ → List ℕ → List Placed → Type 0
+abbrev pub AreTokens : ℕ → List ℕ → List PlacedToken → Type 0
 AreTokens column bytes [] = EndsLine bytes
 AreTokens column bytes (p ∷ ps) = (cut : HasFirstToken column bytes p) × AreTokens p.after cut.rest ps

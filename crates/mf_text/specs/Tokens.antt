@@ -14,7 +14,7 @@ pub use Rattle.mf_text.specs.declared.token.Word.{Word}
 use Rattle.mf_text.specs.contracts.token.MarkPartialEq.TheImpl as same_mark
 use Rattle.mf_text.specs.contracts.token.WordPartialEq.TheImpl as same_word
 use Rattle.mf_text.specs.Limits.{letter_a, letter_z, most_digits, percent_sign, space, tab}
-pub use Rattle.mf_text.specs.Token.{Token, Placed, is_token, this_in}
+pub use Rattle.mf_text.specs.Token.{Token, PlacedToken, is_token, this_in}
 use Rattle.mf_text.specs.Token as token
 
 -- the byte is a blank: a space or a tab
@@ -57,7 +57,7 @@ word_among [] letters = None
 word_among (entry ∷ entries) letters = if bytes_eq letters entry.0 then Some entry.1 else word_among entries letters
 
 -- a token, and how many bytes it takes
-pub record Taken : Type 0 where
+pub record SizedToken : Type 0 where
   pub token : Token
   pub bytes : ℕ
 
@@ -76,13 +76,13 @@ unfoldable pub number_token : List ℕ → Token
 number_token digits = if nat_le (length digits) most_digits then token.Number (digits_value 10 digits) else token.Unknown
 
 -- the first of these marks that the bytes start with; where there is none, the first byte is a token of its own
-unfoldable pub mark_among : List (List ℕ × Mark) → List ℕ → Taken
+unfoldable pub mark_among : List (List ℕ × Mark) → List ℕ → SizedToken
 mark_among [] bs = record { token = token.Unknown; bytes = 1 }
 mark_among (entry ∷ entries) bs =
     if starts_with nat_eq bs entry.0 then record { token = token.Mark entry.1; bytes = length entry.0 } else mark_among entries bs
 
 -- the token that the bytes start with
-unfoldable pub first_token : List ℕ → Taken
+unfoldable pub first_token : List ℕ → SizedToken
 first_token bs =
     if nat_lt 0 (length (take_while is_ascii_alphabetic bs))
     then record { token = word_token (take_while is_ascii_alphabetic bs); bytes = length (take_while is_ascii_alphabetic bs) }
@@ -110,11 +110,11 @@ abbrev pub FindsToken : Token → List ℕ → Option ℕ → Type 0
 FindsToken t bs found = Finds (this_in t) bs (option_map {U = Unit {0} × ℕ} (λ bytes. (tt, bytes)) found)
 
 -- a token with its columns, where its first byte has this one
-abbrev pub token_at : ℕ → Taken → Placed
+abbrev pub token_at : ℕ → SizedToken → PlacedToken
 token_at column found = record { token = found.token; column = column; after = column + found.bytes }
 
 -- the tokens found in at most n steps, each past a token or a blank, where the first byte has this column
-unfoldable pub tokens_within : ℕ → ℕ → List ℕ → List Placed
+unfoldable pub tokens_within : ℕ → ℕ → List ℕ → List PlacedToken
 tokens_within zero column bs = []
 tokens_within (suc n) column [] = []
 tokens_within (suc n) column (b ∷ bs) =
@@ -123,13 +123,13 @@ tokens_within (suc n) column (b ∷ bs) =
     else (token_at column (first_token (b ∷ bs)) ∷ tokens_within n (column + (first_token (b ∷ bs)).bytes) (drop (first_token (b ∷ bs)).bytes (b ∷ bs))))
 
 -- the tokens of bytes, the first of which has this column
-unfoldable pub tokens_from : ℕ → List ℕ → List Placed
+unfoldable pub tokens_from : ℕ → List ℕ → List PlacedToken
 tokens_from column bs = tokens_within (length bs) column bs
 
 -- the tokens of a line
-abbrev pub tokens : List ℕ → List Placed
+abbrev pub tokens : List ℕ → List PlacedToken
 tokens line = tokens_from 1 line
 
 -- the tokens without their columns
-abbrev pub kinds : List Placed → List Token
-kinds ps = map (λ p. p.token) ps
+abbrev pub without_columns : List PlacedToken → List Token
+without_columns ps = map (λ p. p.token) ps

@@ -3,12 +3,12 @@
 ghost use Rattle.std.specs.Prelude.{◌≡◌, ◌≢◌, ◌⊎◌, ℕ, List};
 ghost use Rattle.mf_text.specs.declared.command.Command.{Command};
 ghost use Rattle.mf_text.specs.declared.token.TheConstants.{MARKS, WORDS};
-ghost use Rattle.mf_text.specs.Token.{Ahead, Placed, Token};
+ghost use Rattle.mf_text.specs.Token.{Ahead, PlacedToken, Token};
 ghost use Rattle.mf_text.specs.Grammar.{Line, spell_line};
 ghost use Rattle.mf_text.specs.Lines.{Gives, IsRefused};
 ghost use Rattle.mf_text.specs.Registers.{HasNames};
 ghost use Rattle.mf_text.specs.Syntax.{IsLine, StartsLine, IsSyntaxFault};
-ghost use Rattle.mf_text.specs.Tokens.{entries_of, kinds, tokens};
+ghost use Rattle.mf_text.specs.Tokens.{entries_of, without_columns, tokens};
 ghost use Rattle.mf_text.specs.TokenTexts.{AreTokens};
 ghost use Rattle.mf_text.specs.Written.{written_marks, written_words};
 
@@ -26,7 +26,7 @@ pub fn words_are_written()
 #[tactic(auto, using(crate::proofs::Cuts::are_tokens, crate::proofs::Cuts::one_cut))]
 pub fn tokens_are_as_long_as_can_be()
     ensures cut { (line : List ℕ) → AreTokens 1 line (tokens line) }
-    ensures one_cut { (line : List ℕ) (others : List Placed) → AreTokens 1 line others → others ≡ tokens line }
+    ensures one_cut { (line : List ℕ) (others : List PlacedToken) → AreTokens 1 line others → others ≡ tokens line }
 {}
 
 /// A list of tokens is at most one line of the grammar.
@@ -47,7 +47,7 @@ pub fn one_answer()
 
 /// Tokens that go wrong at a column are not a line of the grammar.
 pub fn wrong_is_no_line()
-    ensures { (ahead : Ahead) (column : ℕ) → IsSyntaxFault ahead column → IsLine (kinds ahead.tokens) → ⊥ }
+    ensures { (ahead : Ahead) (column : ℕ) → IsSyntaxFault ahead column → IsLine (without_columns ahead.tokens) → ⊥ }
 {}
 
 /// Some line of the grammar starts with given tokens, or none does.

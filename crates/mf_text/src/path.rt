@@ -16,7 +16,7 @@ pub struct Path {
     /// How many points the path has, counted up to one more than a cycle may have.
     pub(crate) corners: usize,
     /// Whether an allocation has failed for one of them.
-    is_wanting: bool,
+    is_out_of_memory: bool,
 }
 
 impl Path {
@@ -27,7 +27,7 @@ impl Path {
         Path {
             points: Vec::new(alloc),
             corners: 0,
-            is_wanting: false,
+            is_out_of_memory: false,
         }
     }
 
@@ -39,8 +39,8 @@ impl Path {
             return;
         }
         self.corners += 1;
-        if !self.is_wanting {
-            self.is_wanting = self.points.push(point).is_err();
+        if !self.is_out_of_memory {
+            self.is_out_of_memory = self.points.push(point).is_err();
         }
     }
 
@@ -48,9 +48,9 @@ impl Path {
     /// failed for one of them.
     pub fn points(self) -> Result<Vec<Point>, OutOfMemory>
         ensures points { (all : List points.Point) → HasPoints self all → self.corners ≤ most_points → IfOk result (λ points. points.items ≡ all) }
-        ensures refused { IsErr result → IsTrue self.is_wanting }
+        ensures refused { IsErr result → IsTrue self.is_out_of_memory }
     {
-        if self.is_wanting {
+        if self.is_out_of_memory {
             return Err(OutOfMemory);
         }
         Ok(self.points)

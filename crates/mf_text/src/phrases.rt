@@ -144,7 +144,7 @@ impl Tokens<'_> {
     /// Passes the int of a code. An int out of range is reported at its first token.
     #[tactic(auto, using(crate::proofs::Reading::passed, crate::proofs::Reading::missed))]
     pub fn code(&mut self) -> Result<Code, SyntaxFault>
-        ensures { PassesPhrase rests.ACode self.old self.new result }
+        ensures { PassesPhrase rests.character_code self.old self.new result }
     {
         if self.takes_mark(Mark::Minus) {
             return self.negative_code();
@@ -178,13 +178,13 @@ impl Tokens<'_> {
         ensures { PassesPhrase rests.pair self.old self.new result }
     {
         self.pass_mark(Mark::Open)?;
-        self.inner()
+        self.rest_of_pair()
     }
 
     /// Passes the rest of a pair after its `(`.
     #[inline(always)]
-    fn inner(&mut self) -> Result<Pair, SyntaxFault>
-        ensures read { PassesPhrase rests.inner self.old self.new result }
+    fn rest_of_pair(&mut self) -> Result<Pair, SyntaxFault>
+        ensures read { PassesPhrase rests.rest_of_pair self.old self.new result }
         ensures within { IfOk result (λ _. LeavesNoMore self.new self.old) }
     {
         let across = self.int()?;
@@ -196,11 +196,11 @@ impl Tokens<'_> {
 
     /// Passes the rest of a corner after its `(`: the rest of a pair, and `--`.
     #[inline(always)]
-    fn corner(&mut self) -> Result<Pair, SyntaxFault>
-        ensures read { PassesPhrase rests.corner self.old self.new result }
+    fn rest_of_corner(&mut self) -> Result<Pair, SyntaxFault>
+        ensures read { PassesPhrase rests.rest_of_corner self.old self.new result }
         ensures within { IfOk result (λ _. LeavesNoMore self.new self.old) }
     {
-        let corner = self.inner()?;
+        let corner = self.rest_of_pair()?;
         self.pass_mark(Mark::Join)?;
         Ok(corner)
     }
@@ -215,7 +215,7 @@ impl Tokens<'_> {
         rest.pass_mark(Mark::Open)?;
         let mut path = Path::new(alloc);
         'corners: loop {
-            path.push(rest.corner()?.value());
+            path.push(rest.rest_of_corner()?.value());
             if !rest.takes_mark(Mark::Open) {
                 break;
             }

@@ -20,7 +20,7 @@ impl Spelling {
             bytes: Vec::new(alloc),
             length: 0,
             room,
-            is_wanting: false,
+            is_out_of_memory: false,
         }
     }
 
@@ -38,7 +38,7 @@ impl Spelling {
         ensures room { self.new.room ≡ self.old.room }
     {
         if self.bytes.reserve_exact(most.min(self.room)).is_err() {
-            self.is_wanting = true;
+            self.is_out_of_memory = true;
         }
     }
 
@@ -50,8 +50,8 @@ impl Spelling {
         ensures beyond { self.old.room < self.old.length + more → self.new.room < self.new.length }
         ensures kept { self.new.bytes ≡ self.old.bytes }
         ensures room { self.new.room ≡ self.old.room }
-        ensures wanting { self.new.is_wanting ≡ self.old.is_wanting }
-        ensures answer { IsTrue result ↔ ((self.new.length ≤ self.new.room) × (self.new.is_wanting ≡ false)) }
+        ensures memory { self.new.is_out_of_memory ≡ self.old.is_out_of_memory }
+        ensures answer { IsTrue result ↔ ((self.new.length ≤ self.new.room) × (self.new.is_out_of_memory ≡ false)) }
     {
         let length = self.length + more;
         if length > self.room {
@@ -59,7 +59,7 @@ impl Spelling {
             return false;
         }
         self.length = length;
-        !self.is_wanting
+        !self.is_out_of_memory
     }
 
     /// Appends bytes.
@@ -69,7 +69,7 @@ impl Spelling {
         ensures room { self.new.room ≡ self.old.room }
     {
         if self.count(bytes.len()) && self.bytes.extend_from_slice(bytes).is_err() {
-            self.is_wanting = true;
+            self.is_out_of_memory = true;
         }
     }
 
@@ -80,7 +80,7 @@ impl Spelling {
         ensures room { self.new.room ≡ self.old.room }
     {
         if self.count(1) && self.bytes.push(byte).is_err() {
-            self.is_wanting = true;
+            self.is_out_of_memory = true;
         }
     }
 
@@ -91,12 +91,12 @@ impl Spelling {
         ensures room { self.new.room ≡ self.old.room }
     {
         if self.count(2) && self.bytes.extend_from_slice(&[first, second]).is_err() {
-            self.is_wanting = true;
+            self.is_out_of_memory = true;
         }
     }
 
     /// Appends a number of two bytes, the higher byte first.
-    pub(crate) fn put_half(&mut self, number: u16)
+    pub(crate) fn put_halfword(&mut self, number: u16)
         ensures held { (text : List ℕ) → Holds self.old text → Holds self.new (text ++ big_bytes 2 number) }
         ensures room { self.new.room ≡ self.old.room }
     {
@@ -135,7 +135,7 @@ impl Spelling {
         if self.length > self.room {
             return Err(GfFault::FileTooLong);
         }
-        if self.is_wanting {
+        if self.is_out_of_memory {
             return Err(GfFault::OutOfMemory);
         }
         Ok(self.bytes)

@@ -1,4 +1,4 @@
-use Rattle.std.proofs.Common.{◌≡◌, ◌≢◌, ◌-◌, ◌<◌, ◌-ℤ◌, nat_abs, to_z, of_z, w32, sym, ap, ◌∙◌, arith}
+use Rattle.std.proofs.Common.{◌≡◌, ◌≢◌, ◌-◌, ◌<◌, of_z, w32, sym, ap, ◌∙◌, arith}
 use Rattle.std.proofs.lemmas.Int.{ints}
 use Rattle.mf_gf.specs.Format.{most_new_row}
 use Rattle.mf_gf.specs.Spelling.{distance, new_row, paint, skip}
@@ -12,10 +12,8 @@ returns-then-offset-le-MOST_NEW_ROW-clause-held c =
     let r = c.args.stretch.now in
     let from = c.args.from in
     let other : r.y ≢ from.row = λ same. c.if-stretch-from.false (ap (of_z w32) same) in
-    let down : to_z w32 (of_z w32 from.row) -ℤ to_z w32 (of_z w32 r.y) ≡ from.row -ℤ r.y = omega (arith, ints) in
-    let right : to_z w32 (of_z w32 r.x) -ℤ to_z w32 (of_z w32 c.args.left) ≡ r.x -ℤ c.args.left = omega (arith, ints) in
-    let rows = c.abs_diff-rows.ensures ∙ ap nat_abs down in
-    let offset = c.abs_diff-offset.ensures ∙ ap nat_abs right in
+    let rows : c.abs_diff-rows.result ≡ distance from.row r.y = omega (arith, ints, c.abs_diff-rows.ensures) in
+    let offset : c.abs_diff-offset.result ≡ distance r.x c.args.left = omega (arith, ints, c.abs_diff-offset.ensures) in
     let next = approach_next_row c.args.left from.row from.column r other (sym rows ∙ c.if-rows-eq1.true) (omega arith) in
     write_same _ _ _ _ (ap new_row offset ∙ sym next) c.new_row.ensures.held
 
@@ -24,10 +22,8 @@ returns-clause-held c =
     let r = c.args.stretch.now in
     let from = c.args.from in
     let other : r.y ≢ from.row = λ same. c.if-stretch-from.false (ap (of_z w32) same) in
-    let down : to_z w32 (of_z w32 from.row) -ℤ to_z w32 (of_z w32 r.y) ≡ from.row -ℤ r.y = omega (arith, ints) in
-    let right : to_z w32 (of_z w32 r.x) -ℤ to_z w32 (of_z w32 c.args.left) ≡ r.x -ℤ c.args.left = omega (arith, ints) in
-    let rows = c.abs_diff-rows.ensures ∙ ap nat_abs down in
-    let offset = c.abs_diff-offset.ensures ∙ ap nat_abs right in
+    let rows : c.abs_diff-rows.result ≡ distance from.row r.y = omega (arith, ints, c.abs_diff-rows.ensures) in
+    let offset : c.abs_diff-offset.result ≡ distance r.x c.args.left = omega (arith, ints, c.abs_diff-offset.ensures) in
     let far : distance from.row r.y ≡ 1 → most_new_row < distance r.x c.args.left = elim c.else-rows-eq1.branch [
       | else-rows-eq1-via-then-rows-eq1+else-offset-le-MOST_NEW_ROW w ↦ (λ _. omega (arith, w.if-offset-le-MOST_NEW_ROW.false))
       | else-rows-eq1-via-else-rows-eq1 w ↦ (λ next. absurd (w.if-rows-eq1.false (rows ∙ next)))

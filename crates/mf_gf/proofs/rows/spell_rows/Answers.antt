@@ -17,24 +17,20 @@ pub put_stretch-requires-clause-stretch : goal.put_stretch-requires-clause-stret
 put_stretch-requires-clause-stretch c = next_is_run _ _ _ _ _ _ c.in-Some.ensures.steps c.loop-stretch.invariant
 
 pub overflow_cast-place : goal.overflow_cast-place
-overflow_cast-place c =
-    let run = next_is_run _ _ _ _ _ _ c.in-Some.ensures.steps c.loop-stretch.invariant in
-    omega (arith, ints, run.left, run.right)
+overflow_cast-place c = omega (arith, ints, next_is_run _ _ _ _ _ _ c.in-Some.ensures.steps c.loop-stretch.invariant)
 
 pub overflow_add-place : goal.overflow_add-place
-overflow_add-place c =
-    let run = next_is_run _ _ _ _ _ _ c.in-Some.ensures.steps c.loop-stretch.invariant in
-    omega (arith, ints, run.left, run.right)
+overflow_add-place c = omega (arith, ints, next_is_run _ _ _ _ _ _ c.in-Some.ensures.steps c.loop-stretch.invariant)
 
 pub loop-stretch-preserved : goal.loop-stretch-preserved
 loop-stretch-preserved c =
     let r = c.in-Some.stretch in
     let run = next_is_run _ _ _ _ _ _ c.in-Some.ensures.steps c.loop-stretch.invariant in
     let left : to_z w32 (of_z w32 c.args.bounds.now.min_m) ≡ c.args.bounds.now.min_m = omega (arith, ints) in
-    let row : to_z w32 (of_z w32 r.y) ≡ r.y = omega (arith, ints, run.bottom, run.top) in
-    let column : to_z w32 (of_z w32 (to_z w32 (of_z w32 r.x) +ℤ to_z w32 r.len)) ≡ r.x +ℤ pos r.len = omega (arith, ints, run.left, run.right) in
-    let puts = rw left at c.put_stretch.ensures.held in
-    rw (row, column) (one_more_spelled _ _ _ _ r _ _ c.in-Some.ensures.steps puts c.put_stretch.ensures.room c.loop-stretch.invariant)
+    let row : to_z w32 (of_z w32 r.y) ≡ r.y = omega (arith, ints, run) in
+    let column : to_z w32 (of_z w32 (to_z w32 (of_z w32 r.x) +ℤ to_z w32 r.len)) ≡ r.x +ℤ pos r.len = omega (arith, ints, run) in
+    rw (row, column)
+    (one_more_spelled _ _ _ _ r _ _ c.in-Some.ensures.steps (rw left at c.put_stretch.ensures.held) c.put_stretch.ensures.room c.loop-stretch.invariant)
 
 pub returns-clause-held : goal.returns-clause-held
 returns-clause-held c = all_spelled _ _ _ _ c.in-None.ensures.steps.0 c.loop-stretch.invariant

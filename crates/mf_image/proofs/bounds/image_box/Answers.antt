@@ -2,6 +2,7 @@ use Rattle.std.proofs.Common.{refl, subst, sym}
 use Rattle.std.proofs.lemmas.Bool.{false≢true}
 use Rattle.mf_show.specs.Grid.{IsLargerThan}
 use Rattle.mf_rows.proofs.BoxesOfDots.{least_box_of_field}
+use Rattle.mf_show.proofs.GridTexts.{neither}
 use Rattle.mf_image.specs.Boxes.{greatest_side}
 use Rattle.mf_image.proofs.ImageBoxes.{blank_is_small, box_of_blank, box_of_picture}
 use Rattle.mf_image.proofs.bounds.image_box.Goals as goal
@@ -9,7 +10,7 @@ use Rattle.mf_image.proofs.bounds.image_box.Goals as goal
 pub returns-in_default : goal.returns-in_default
 returns-in_default c =
     let blank = c.bounds.ensures.blank.0 (rw c.in_default.is refl) in
-    record { bounds = box_of_blank _ blank; too_large = (λ large. absurd (blank_is_small _ blank large), λ same. absurd (cc same)) }
+    record { bounds = box_of_blank _ blank; too_large = neither (blank_is_small _ blank) (λ same. cc same) }
 
 pub is_larger_than-requires : goal.is_larger_than-requires
 is_larger_than-requires c = least_box_of_field _ _ c.bounds.ensures.lawful c.in-Some.ensures.least
@@ -24,8 +25,5 @@ returns c =
     let box = box_of_picture _ _ c.bounds.ensures.lawful c.in-Some.ensures.least in
     record {
       bounds = box;
-      too_large = (
-        λ large. absurd (false≢true (c.if-is_larger_than.ensures.1 (subst (IsLargerThan greatest_side) (sym box.is) large))),
-        λ same. absurd (cc same),
-      );
+      too_large = neither (λ large. false≢true (c.if-is_larger_than.ensures.1 (subst (IsLargerThan greatest_side) (sym box.is) large))) (λ same. cc same);
     }

@@ -1,6 +1,6 @@
 use Rattle.std.proofs.Common.{◌≡◌, ◌≤ℤ◌, pos, ◌+ℤ◌, to_z, of_z, w32, ap, ◌∙◌, arith}
 use Rattle.std.proofs.lemmas.Int.{ints, to_z-of_z}
-use Rattle.mf_image.specs.Pgm.{level}
+use Rattle.mf_image.specs.Pgm.{gray_value}
 use Rattle.mf_show.proofs.ShownRows.{row_none, row_more, row_all}
 use Rattle.mf_image.proofs.pgm_image.push_row.Goals as goal
 
@@ -13,7 +13,7 @@ loop-x-preserved c =
     let column : x ≤ℤ to_z w32 (of_z w32 c.args.last) = omega (arith, ints, c.loop-x-test.true) in
     let next : to_z w32 (of_z w32 (x +ℤ pos 1)) ≡ x +ℤ pos 1 = omega (arith, ints) in
     let weight : to_z w32 (of_z w32 c.weight.result) ≡ c.weight.result = omega (arith, ints) in
-    let shown = c.level.ensures ∙ ap level (weight ∙ c.weight.ensures.weight) in
+    let shown = c.gray_value.ensures ∙ ap gray_value (weight ∙ c.weight.ensures.weight) in
     rw next (row_more _ _ _ _ _ column c.in_ok-push.ensures.items shown c.loop-x.invariant)
 
 pub returns : goal.returns

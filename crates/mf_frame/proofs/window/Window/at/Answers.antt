@@ -17,20 +17,12 @@ ends c =
 pub extent-requires : goal.extent-requires
 extent-requires c =
     let v = ends (goal.at.extent-requires c).After-line_of-last_line in
-    record {
-      least = omega (arith, ints, v.left, v.field.first_column.least, v.field.first_column.greatest);
-      greatest = omega (arith, ints, v.right, v.field.last_column.greatest, v.field.last_column.least);
-      order = omega (arith, ints, v.left, v.right, v.field.columns, v.field.first_column.least, v.field.last_column.greatest);
-    }
+    omega (arith, ints, v, v.field.first_column, v.field.last_column, v.field.columns)
 
 pub extent-requires-2 : goal.extent-requires-2
 extent-requires-2 c =
     let v = ends (goal.at.extent-requires-2 c).After-line_of-last_line in
-    record {
-      least = omega (arith, ints, v.bottom, v.field.first_line.least, v.field.first_line.greatest);
-      greatest = omega (arith, ints, v.top, v.field.last_line.greatest, v.field.last_line.least);
-      order = omega (arith, ints, v.bottom, v.top, v.field.lines, v.field.first_line.least, v.field.last_line.greatest);
-    }
+    omega (arith, ints, v, v.field.first_line, v.field.last_line, v.field.lines)
 
 pub returns : goal.returns
 returns c =

@@ -1,45 +1,38 @@
 use Rattle.std.proofs.Common.{◌≡◌, ◌+ℤ◌, to_z, of_z, w32, ap, arith}
 use Rattle.std.proofs.lemmas.Int.{ints}
-use Rattle.mf_gf.proofs.Lengthening.{black_runs-rest, IsAdjacent, begun_before, next_is_run, first_is_run, one_more_joined, ended_at_run, ended_at_none}
+use Rattle.mf_gf.proofs.Lengthening.{IsAdjacent, both_are_runs, one_more_joined, ended_at_run, ended_at_none, order_ahead}
 use Rattle.mf_gf.proofs.stretches.Stretches.lengthen.Goals as goal
 use Rattle.mf_gf.proofs.stretches.Stretches.lengthen.Goals.{then-run-stretch-via-then-run-stretch, then-run-stretch-via-else-run-stretch+then-run-stretch-2}
 
 pub overflow_add-stretch-in-loop-self : goal.overflow_add-stretch-in-loop-self
 overflow_add-stretch-in-loop-self c =
-    let next = next_is_run _ _ _ _ _ c.in-Some.is (begun_before _ _ _ _ _ c.next_black-self.ensures.next c.loop-self.invariant) in
-    let first = first_is_run _ _ _ c.loop-self.invariant in
-    omega (arith, ints, next.left, next.right, first.left, first.right)
+    let (first, next) = both_are_runs _ _ _ _ _ c.next_black-self.ensures.next c.loop-self.invariant _ c.in-Some.is in
+    omega (arith, ints, first, next)
 
 -- the columns and rows of lawful runs fit into 32 bits
 pub loop-self-preserved : goal.loop-self-preserved
 loop-self-preserved c =
-    let next = next_is_run _ _ _ _ _ c.in-Some.is (begun_before _ _ _ _ _ c.next_black-self.ensures.next c.loop-self.invariant) in
-    let first = first_is_run _ _ _ c.loop-self.invariant in
-    let row = ap (to_z w32) c.if-run-stretch.false in
-    let column = ap (to_z w32) c.if-run-stretch-2.false in
-    let follows : IsAdjacent c.loop-self.stretch c.in-Some.run' = record {
-      row = omega (arith, ints, row, next.bottom, next.top, first.bottom, first.top);
-      column = omega (arith, ints, column, next.left, next.right, first.left, first.right);
-    } in
-    one_more_joined _ _ _ _ _ c.in-Some.is follows (begun_before _ _ _ _ _ c.next_black-self.ensures.next c.loop-self.invariant)
+    let (first, next) = both_are_runs _ _ _ _ _ c.next_black-self.ensures.next c.loop-self.invariant _ c.in-Some.is in
+    let follows : IsAdjacent c.loop-self.stretch c.in-Some.run' =
+    omega (arith, ints, ap (to_z w32) c.if-run-stretch.false, ap (to_z w32) c.if-run-stretch-2.false, first, next) in
+    one_more_joined _ _ _ _ _ c.next_black-self.ensures.next c.loop-self.invariant _ c.in-Some.is follows
 
 pub returns-then-run-stretch-clause-order : goal.returns-then-run-stretch-clause-order
-returns-then-run-stretch-clause-order c = black_runs-rest _ _ (begun_before _ _ _ _ _ c.next_black-self.ensures.next c.loop-self.invariant).blacks
+returns-then-run-stretch-clause-order c = order_ahead _ _ _ _ _ c.next_black-self.ensures.next c.loop-self.invariant
 
 pub returns-then-run-stretch-clause-stretch : goal.returns-then-run-stretch-clause-stretch
 returns-then-run-stretch-clause-stretch c =
-    let first = first_is_run _ _ _ c.loop-self.invariant in
-    let apart : IsAdjacent c.loop-self.stretch c.in-Some.run' → ⊥ = λ follows.
+    let (first, next) = both_are_runs _ _ _ _ _ c.next_black-self.ensures.next c.loop-self.invariant _ c.in-Some.is in
+    ended_at_run _ _ _ _ _ c.next_black-self.ensures.next c.loop-self.invariant _ c.in-Some.is (λ follows.
     let column : c.in-Some.run'.x ≡ to_z w32 (of_z w32 c.loop-self.stretch.x) +ℤ to_z w32 c.loop-self.stretch.len =
-    omega (arith, ints, follows.column, first.left, first.right) in
+    omega (arith, ints, follows.column, first) in
     elim c.then-run-stretch.branch [
       | then-run-stretch-via-then-run-stretch w ↦ w.if-run-stretch.true (ap (of_z w32) follows.row)
       | then-run-stretch-via-else-run-stretch+then-run-stretch-2 w ↦ w.if-run-stretch-2.true (ap (of_z w32) column)
-    ] in
-    ended_at_run _ _ _ _ _ c.in-Some.is apart (begun_before _ _ _ _ _ c.next_black-self.ensures.next c.loop-self.invariant)
+    ])
 
 pub returns-in_default-clause-order : goal.returns-in_default-clause-order
-returns-in_default-clause-order c = black_runs-rest _ _ (begun_before _ _ _ _ _ c.next_black-self.ensures.next c.loop-self.invariant).blacks
+returns-in_default-clause-order c = order_ahead _ _ _ _ _ c.next_black-self.ensures.next c.loop-self.invariant
 
 pub returns-in_default-clause-stretch : goal.returns-in_default-clause-stretch
-returns-in_default-clause-stretch c = ended_at_none _ _ _ _ c.in_default.is (begun_before _ _ _ _ _ c.next_black-self.ensures.next c.loop-self.invariant)
+returns-in_default-clause-stretch c = ended_at_none _ _ _ _ _ c.next_black-self.ensures.next c.loop-self.invariant c.in_default.is

@@ -10,7 +10,7 @@ unfolding place
 returns-then-run-x c =
     let run = c.args.run.now in
     let weight : to_z w32 (of_z w32 run.weight) ≡ run.weight = omega (arith, ints) in
-    weight ∙ weight_on run c.args.x c.args.y c.requires.run (record { row = omega (arith, ints); left = omega (arith, ints); right = omega (arith, ints) })
+    weight ∙ weight_on run c.args.x c.args.y c.requires.run (omega (arith, ints))
 
 pub returns : goal.returns
 returns c = weight_off c.args.run.now c.args.x c.args.y (λ on.

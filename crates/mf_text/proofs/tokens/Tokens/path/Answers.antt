@@ -13,24 +13,24 @@ corners-init c = record {
   read = λ next. c.in_ok-pass_mark.ensures.read _;
 }
 
-pub returns-in_err-corner : goal.returns-in_err-corner
-returns-in_err-corner c =
+pub returns-in_err-rest_of_corner : goal.returns-in_err-rest_of_corner
+returns-in_err-rest_of_corner c =
     let so_far = c.corners.invariant in
-    path_wrong c.args.self.now _ c.from_residual-in_err-corner.result c.in_err-corner.field-0.0 c.from_residual-in_err-corner.ensures.1
-    (λ next. so_far.read next ∙ c.in_err-corner.ensures.read (one_more so_far.path_of next))
+    path_wrong c.args.self.now _ c.from_residual-in_err-rest_of_corner.result c.in_err-rest_of_corner.field-0.0 c.from_residual-in_err-rest_of_corner.ensures.1
+    (λ next. so_far.read next ∙ c.in_err-rest_of_corner.ensures.read (one_more so_far.path_of next))
 
 pub corners-preserved : goal.corners-preserved
 corners-preserved c =
     let so_far = c.corners.invariant in
-    let p = c.in_ok-corner.field-0 in
+    let p = c.in_ok-rest_of_corner.field-0 in
     record {
       points = so_far.points ++ c.value.result ∷ [];
       has = c.push.ensures _ so_far.has;
       path_of = λ q qs. so_far.path_of p (q ∷ qs);
       value_is = λ q qs. so_far.value_is p (q ∷ qs) ∙ one_longer so_far.points c.value.result (pair_value p) (map pair_value (q ∷ qs)) c.value.ensures;
       read = λ next.
-          so_far.read next ∙ c.in_ok-corner.ensures.read (one_more so_far.path_of next)
-          ∙ corners_go_on (λ ps. next (so_far.path_of p ps)) c.corner.new.self c.takes_mark.new.self c.takes_mark.result c.takes_mark.ensures.read
+          so_far.read next ∙ c.in_ok-rest_of_corner.ensures.read (one_more so_far.path_of next)
+          ∙ corners_go_on (λ ps. next (so_far.path_of p ps)) c.rest_of_corner.new.self c.takes_mark.new.self c.takes_mark.result c.takes_mark.ensures.read
           true (search rules);
     }
 
@@ -39,21 +39,21 @@ returns-in_err-pass_word c =
     let so_far = c.corners.invariant in
     path_wrong c.args.self.now c.pass_word.new.self c.from_residual-in_err-pass_word.result c.in_err-pass_word.field-0.0
     c.from_residual-in_err-pass_word.ensures.1
-    (λ next. so_far.read next ∙ c.in_ok-corner.ensures.read (one_more so_far.path_of next)
-    ∙ corners_go_on (λ ps. next (so_far.path_of c.in_ok-corner.field-0 ps)) c.corner.new.self c.takes_mark.new.self c.takes_mark.result
+    (λ next. so_far.read next ∙ c.in_ok-rest_of_corner.ensures.read (one_more so_far.path_of next)
+    ∙ corners_go_on (λ ps. next (so_far.path_of c.in_ok-rest_of_corner.field-0 ps)) c.rest_of_corner.new.self c.takes_mark.new.self c.takes_mark.result
     c.takes_mark.ensures.read false (search rules)
     ∙ c.in_err-pass_word.ensures _)
 
 pub returns : goal.returns
 returns c =
     let so_far = c.corners.invariant in
-    let p = c.in_ok-corner.field-0 in
+    let p = c.in_ok-rest_of_corner.field-0 in
     record {
       tree = so_far.path_of p [];
       points = subst (HasPoints c.push.new.self) (ap (λ v. so_far.points ++ v ∷ []) c.value.ensures ∙ sym (so_far.value_is p [])) (c.push.ensures _ so_far.has);
       passed = λ next.
-          so_far.read next ∙ c.in_ok-corner.ensures.read (one_more so_far.path_of next)
-          ∙ corners_go_on (λ ps. next (so_far.path_of p ps)) c.corner.new.self c.takes_mark.new.self c.takes_mark.result c.takes_mark.ensures.read
+          so_far.read next ∙ c.in_ok-rest_of_corner.ensures.read (one_more so_far.path_of next)
+          ∙ corners_go_on (λ ps. next (so_far.path_of p ps)) c.rest_of_corner.new.self c.takes_mark.new.self c.takes_mark.result c.takes_mark.ensures.read
           false (search rules)
           ∙ c.in_ok-pass_word.ensures _;
     }
