@@ -9,7 +9,7 @@ use Rattle.mf_live.specs.Books.{most_accepted}
 use Rattle.mf_live.specs.Entries.{Entry}
 use Rattle.mf_live.specs.Holders.{events, accepted_list, published_list, version}
 use Rattle.mf_live.specs.Rule.{events_of, history, version_list, with_event}
-use Rattle.mf_live.specs.World.{World, IsLawful, Happen, May, new_world, after_event, world_after, accepted_of, published_of}
+use Rattle.mf_live.specs.World.{World, IsLawful, Happen, May, new_world, after_event, world_after, accepted_list_of, published_list_of}
 use Rattle.mf_live.proofs.EntryLists.{length-revision_at}
 use Rattle.mf_live.proofs.Worlds.{world_after-push, Happen-push, lawful-after}
 
@@ -29,13 +29,13 @@ few_unwritten h = omega (arith, h.since, few_entries h)
 
 -- the writer has one more event to write, by which the entry e is accepted
 pub record HasOneMore (h : Holder) (x : Version) (w : View) (e : Entry) : Type 0 where
-  pub accepted : accepted_of (history x w) ≡ accepted_list h ++ e ∷ []
-  pub published : published_of (history x w) ≡ published_list h
-  pub shown_is : version_list x ≡ published_of (history x w)
+  pub accepted : accepted_list_of (history x w) ≡ accepted_list h ++ e ∷ []
+  pub published : published_list_of (history x w) ≡ published_list h
+  pub shown_is : version_list x ≡ published_list_of (history x w)
   pub lawful : Happen most_accepted new_world (history x w)
-  pub alive : (world_after new_world (history x w)).dropped ≡ false
+  pub alive : (world_after new_world (history x w)).gone ≡ false
   pub counted : h.unwritten + 1 ≡ length w.unwritten
-  pub since : h.unwritten + 1 + length (version_list x) ≡ length (accepted_of (history x w))
+  pub since : h.unwritten + 1 + length (version_list x) ≡ length (accepted_list_of (history x w))
 
 abbrev with_entry : World → Entry → World
 with_entry w e = record w { accepted = w.accepted ++ e ∷ [] }
@@ -49,14 +49,14 @@ one_more h x w happens e same more may accepts =
     (λ i. history (same i) (more i)) ∙ sym (append_assoc (events_of (version h)) unwritten (happens ∷ [])) in
     let world : world_after new_world (history x w) ≡ with_entry (world_after new_world (events h)) e =
     ap (world_after new_world) log ∙ world_after-push new_world (events h) happens ∙ accepts in
-    let accepted_is : accepted_of (history x w) ≡ accepted_list h ++ e ∷ [] = ap (λ (u : World). u.accepted) world in
-    let published_is : published_of (history x w) ≡ published_list h = ap (λ (u : World). u.published) world in
+    let accepted_is : accepted_list_of (history x w) ≡ accepted_list h ++ e ∷ [] = ap (λ (u : World). u.accepted) world in
+    let published_is : published_list_of (history x w) ≡ published_list h = ap (λ (u : World). u.published) world in
     record {
       accepted = accepted_is;
       published = published_is;
       shown_is = ap version_list same ∙ h.shown_is ∙ sym published_is;
       lawful = rw log (Happen-push most_accepted new_world (events h) happens h.lawful may);
-      alive = ap (λ (u : World). u.dropped) world ∙ h.alive;
+      alive = ap (λ (u : World). u.gone) world ∙ h.alive;
       counted = omega (arith, h.counted, ap (λ (v : View). length v.unwritten) more, length-append unwritten (happens ∷ []));
       since = omega (arith, h.since, ap (λ (y : Version). length (version_list y)) same, ap length accepted_is, length-append (accepted_list h) (e ∷ []));
     }

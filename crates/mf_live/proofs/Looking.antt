@@ -14,45 +14,45 @@ use Rattle.mf_live.specs.declared.version.Version.{Version}
 use Rattle.mf_live.specs.declared.view.View.{View}
 use Rattle.mf_live.specs.declared.viewer.Viewer.{Viewer}
 use Rattle.mf_live.specs.Books.{most_accepted}
-use Rattle.mf_live.specs.Entries.{Entry, is_closed, ends_last}
+use Rattle.mf_live.specs.Entries.{Entry, is_closed, is_end_last}
 use Rattle.mf_live.specs.Prefixes.{IsWholePrefix, longer}
 use Rattle.mf_live.specs.Rule.{IsKnowledgeOf, IsLook, seen_knowledge, book_of, events_of}
 use Rattle.mf_live.specs.Viewers.{Extends, IsPublished, SeesTheSame, learnt_list, look_events, looked_at_events, looked_at_list}
 use Rattle.mf_live.specs.Viewers.{notice_events, shown_list, told_list}
-use Rattle.mf_live.specs.World.{Happen, new_world, published_of}
+use Rattle.mf_live.specs.World.{Happen, new_world, published_list_of}
 use Rattle.mf_live.proofs.EntryLists.{nothing_follows}
 use Rattle.mf_live.proofs.WholePrefixes.{whole-longer}
 use Rattle.mf_live.proofs.Worlds.{lawful-after, published-grows}
 
 -- what a prefix of a notice's events has published is a whole prefix of what the notice says
-pub told_list-prefix : (n : Notice) (events : List Event) → IsPrefix events (notice_events n) → IsWholePrefix (published_of events) (told_list n)
+pub told_list-prefix : (n : Notice) (events : List Event) → IsPrefix events (notice_events n) → IsWholePrefix (published_list_of events) (told_list n)
 told_list-prefix n events prefix =
     let grows = published-grows most_accepted events prefix.0 (subst (Happen most_accepted new_world) (sym prefix.1) n.prefix.lawful) in
-    subst (λ (all : List Event). IsWholePrefix (published_of events) (published_of all)) prefix.1 grows
+    subst (λ (all : List Event). IsWholePrefix (published_list_of events) (published_list_of all)) prefix.1 grows
 
 -- what a notice says was published by the events that it knows
 pub is_published : (n : Notice) → IsPublished (notice_events n) (told_list n)
 is_published n = record { happen = n.prefix.lawful; is = refl; all = n.whole; alive = n.prefix.alive }
 
 -- nothing follows the end mark in what a notice says
-pub told_list-ends : (n : Notice) → ends_last (told_list n) ≡ true
-told_list-ends n = subst (λ (L : List Entry). ends_last L ≡ true) n.whole (lawful-after most_accepted (notice_events n) n.prefix.lawful).ended
+pub told_list-ends : (n : Notice) → is_end_last (told_list n) ≡ true
+told_list-ends n = subst (λ (L : List Entry). is_end_last L ≡ true) n.whole (lawful-after most_accepted (notice_events n) n.prefix.lawful).ended
 
-kept_by-prefix : (b : Book) (events : List Event) (missed : Bool) (v : View) → IsKnowledgeOf b events v.last
-    → IsKnowledgeOf b events v.now → IsKnowledgeOf b events (seen_knowledge missed v)
-kept_by-prefix b events true v last now = last
-kept_by-prefix b events false v last now = now
+kept_by-prefix : (b : Book) (events : List Event) (missed : Bool) (v : View) → IsKnowledgeOf b events v.earlier
+    → IsKnowledgeOf b events v.latest → IsKnowledgeOf b events (seen_knowledge missed v)
+kept_by-prefix b events true v earlier latest = earlier
+kept_by-prefix b events false v earlier latest = latest
 
 -- a look extends what its viewer has seen, where the version knows the events of what the viewer has learnt
 pub extends-look : (v : Viewer) (x : Version) (w : View) → IsLook (seen_knowledge v.missed) (view v.reader.place) x w
-    → IsPrefix (notice_events v.known) (events_of x) → Extends v (published_of w.now.seen.log)
+    → IsPrefix (notice_events v.known) (events_of x) → Extends v (published_list_of w.latest.seen.log)
 extends-look v x w is_looked known =
     let knows = is_looked.knows v.identified in
     let before = kept_by-prefix (book_of x) (events_of x) v.missed (view v.reader.place) knows.0 knows.1 in
     let looks = told_list-prefix x.notice (looked_at_events v) before.prefix in
     let learns = told_list-prefix x.notice (notice_events v.known) known in
     let extends : Extends v (told_list x.notice) = record { looked = looks; learnt = learns; seen = whole-longer _ _ (told_list x.notice) looks learns } in
-    subst (λ (u : View). Extends v (published_of u.now.seen.log)) (sym is_looked.now) extends
+    subst (λ (u : View). Extends v (published_list_of u.latest.seen.log)) (sym is_looked.is) extends
 
 -- what extends a viewer that sees what it saw before extends the viewer as it was
 pub extends-same : (before after : Viewer) (L : List Entry) → SeesTheSame before after → Extends after L → Extends before L
@@ -74,9 +74,9 @@ one_prefix a b this that = elim (cases_lt a.events b.events) [
 ]
 
 -- what a prefix of a look's events has published is a whole prefix of what the look shows
-shown_list-prefix : (look : Look) (events : List Event) → IsPrefix events (look_events look) → IsWholePrefix (published_of events) (shown_list look)
+shown_list-prefix : (look : Look) (events : List Event) → IsPrefix events (look_events look) → IsWholePrefix (published_list_of events) (shown_list look)
 shown_list-prefix look =
-    subst (λ (t : Knowledge). (events : List Event) → IsPrefix events t.seen.log → IsWholePrefix (published_of events) (published_of t.seen.log))
+    subst (λ (t : Knowledge). (events : List Event) → IsPrefix events t.seen.log → IsWholePrefix (published_list_of events) (published_list_of t.seen.log))
     (sym look.knowledge) (told_list-prefix look.reading.part.value.notice)
 
 -- where the events of a look are a prefix of those of a notice, or the other way round, their lists are whole prefixes likewise
@@ -86,7 +86,7 @@ one_lists look n (inl prefix) = inl (shown_list-prefix look (notice_events n) pr
 one_lists look n (inr prefix) = inr (told_list-prefix n (look_events look) prefix)
 
 -- a list that has a closed list as a whole prefix is that closed list
-pub shown-last : (S L : List Entry) → IsWholePrefix S L → ends_last L ≡ true → is_closed S ≡ true → L ≡ S
+pub shown-last : (S L : List Entry) → IsWholePrefix S L → is_end_last L ≡ true → is_closed S ≡ true → L ≡ S
 shown-last S L whole ends closed =
-    let none = nothing_follows S whole.rest (subst (λ (M : List Entry). ends_last M ≡ true) whole.whole ends) closed in
+    let none = nothing_follows S whole.rest (subst (λ (M : List Entry). is_end_last M ≡ true) whole.whole ends) closed in
     whole.whole ∙ (ap (λ (rest : List Entry). S ++ rest) none ∙ append-nil S)

@@ -1,7 +1,7 @@
 use Rattle.std.proofs.Common.{◌≡◌, ◌∙◌, true, List, Result, Ok, Err, IfErr, IfOk, OnOk, MatchResult, subst}
 use Rattle.mf_live.specs.declared.look.Look.{Look}
 use Rattle.mf_live.specs.declared.viewer.Viewer.{Viewer}
-use Rattle.mf_live.specs.Entries.{Entry, is_closed, ends_last}
+use Rattle.mf_live.specs.Entries.{Entry, is_closed, is_end_last}
 use Rattle.mf_live.specs.declared.look.NoLook.{NoLook}
 use Rattle.mf_live.specs.Prefixes.{IsWholePrefix, longer}
 use Rattle.mf_live.specs.Sheets.{HasLearnt}
@@ -12,7 +12,7 @@ use Rattle.mf_live.proofs.laws.last_look.Goals as goal
 -- a look that has a closed list as a whole prefix shows that list
 shows_closed : {E : Type 0} (P Q : E → Type 0) (v : Viewer) (told : List Entry) (answer : Result Look E)
     → ((L : List Entry) → Extends v L → IsWholePrefix told L) → is_closed told ≡ true
-    → MatchResult answer (λ look. Extends v (shown_list look)) P → MatchResult answer (λ look. ends_last (shown_list look) ≡ true) Q
+    → MatchResult answer (λ look. Extends v (shown_list look)) P → MatchResult answer (λ look. is_end_last (shown_list look) ≡ true) Q
     → IfOk answer (λ look. shown_list look ≡ told)
 shows_closed P Q v told (Ok look) includes closed extends ends = shown-last told (shown_list look) (includes (shown_list look) extends) ends closed
 shows_closed P Q v told (Err refused) includes closed extends ends = tt

@@ -26,12 +26,12 @@ module _ {E : Type 0} (Q : E → Type 0) (before after : Viewer) (told : List En
   extends_last first earlier look = earlier told (subst (λ L. Extends before L) (looked_last before after told includes closed look) look.extends)
 
   sheet_picture : (answer : Result Sheet E)
-    → MatchResult answer (λ sheet. IsTaken before after sheet) Q → IfOk answer (λ sheet. sheet.picture ≡ picture_at told)
+      → MatchResult answer (λ sheet. IsTaken before after sheet) Q → IfOk answer (λ sheet. sheet.picture ≡ picture_at told)
   sheet_picture (Ok sheet) taken = taken.picture ∙ ap picture_at (looked_last before after told includes closed taken.look)
   sheet_picture (Err fault) taken = tt
 
   sheet_revision : (answer : Result Sheet E)
-    → MatchResult answer (λ sheet. IsTaken before after sheet) Q → IfOk answer (λ sheet. sheet.revision ≡ revision_at told)
+      → MatchResult answer (λ sheet. IsTaken before after sheet) Q → IfOk answer (λ sheet. sheet.revision ≡ revision_at told)
   sheet_revision (Ok sheet) taken = taken.revision ∙ ap revision_at (looked_last before after told includes closed taken.look)
   sheet_revision (Err fault) taken = tt
 

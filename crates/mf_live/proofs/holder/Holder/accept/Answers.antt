@@ -7,7 +7,7 @@ use Rattle.mf_live.specs.declared.holder.Holder.{Holder}
 use Rattle.mf_live.specs.declared.version.Version.{Version}
 use Rattle.mf_live.specs.declared.view.View.{View}
 use Rattle.mf_live.specs.Books.{most_accepted}
-use Rattle.mf_live.specs.Entries.{Entry, entry, picture_at, revision_at, next, is_closed, Operation}
+use Rattle.mf_live.specs.Entries.{Entry, entry, picture_at, revision_at, next_label, is_closed, Operation}
 use Rattle.mf_live.specs.Holders.{accepted_list, published_list, version}
 use Rattle.mf_live.specs.Rule.{with_event}
 use Rattle.mf_live.proofs.EntryLists.{picture_at-push, revision_at-push}
@@ -15,7 +15,7 @@ use Rattle.mf_live.proofs.Histories.{few_unwritten, HasOneMore, one_more}
 use Rattle.mf_live.proofs.holder.Holder.accept.Goals as goal
 
 abbrev taken : Holder → Op → Entry
-taken h op = entry (next (published_list h)) (Operation op)
+taken h op = entry (next_label (published_list h)) (Operation op)
 
 accepts : (h : Holder) (x : Version) (w : View) (op : Op) → x ≡ version h → w ≡ with_event (view h.swap.desk.place) (Accept op)
     → is_closed (accepted_list h) ≡ false → revision_at (accepted_list h) < most_accepted → op_fault (picture_at (accepted_list h)) op ≡ None
@@ -39,8 +39,8 @@ invariant_of-self-2 c =
       lawful = more.lawful;
       alive = more.alive;
       counted = more.counted;
-      pictured = step ∙ sym (ap picture_at more.accepted ∙ picture_at-push (accepted_list h) (next (published_list h)) op);
-      numbered = omega (arith, h.numbered, ap revision_at more.accepted, revision_at-push (accepted_list h) (next (published_list h)) op);
+      pictured = step ∙ sym (ap picture_at more.accepted ∙ picture_at-push (accepted_list h) (next_label (published_list h)) op);
+      numbered = omega (arith, h.numbered, ap revision_at more.accepted, revision_at-push (accepted_list h) (next_label (published_list h)) op);
       since = more.since;
       short = search rules;
     }

@@ -4,7 +4,7 @@ use Rattle.mf_live.specs.declared.event.Event.TheVariants.{Close}
 use Rattle.mf_live.specs.declared.holder.Holder.{Holder}
 use Rattle.mf_live.specs.declared.version.Version.{Version}
 use Rattle.mf_live.specs.declared.view.View.{View}
-use Rattle.mf_live.specs.Entries.{Entry, entry, picture_at, revision_at, next, is_closed, End}
+use Rattle.mf_live.specs.Entries.{Entry, entry, picture_at, revision_at, next_label, is_closed, End}
 use Rattle.mf_live.specs.Holders.{accepted_list, published_list, version}
 use Rattle.mf_live.specs.Rule.{newcomer, with_event}
 use Rattle.mf_live.proofs.EntryLists.{picture_at-end, revision_at-end}
@@ -13,7 +13,7 @@ use Rattle.mf_live.proofs.Seats.{forks}
 use Rattle.mf_live.proofs.holder.Holder.end.Goals as goal
 
 abbrev mark : Holder → Entry
-mark h = entry (next (published_list h)) End
+mark h = entry (next_label (published_list h)) End
 
 closes : (h : Holder) (x : Version) (w : View) → x ≡ version h → w ≡ with_event (view h.swap.desk.place) Close
     → is_closed (accepted_list h) ≡ false → HasOneMore h x w (mark h)
@@ -38,8 +38,8 @@ invariant_of-self c =
       lawful = more.lawful;
       alive = more.alive;
       counted = more.counted;
-      pictured = h.pictured ∙ sym (ap picture_at more.accepted ∙ picture_at-end (accepted_list h) (next (published_list h)));
-      numbered = omega (arith, h.numbered, ap revision_at more.accepted, revision_at-end (accepted_list h) (next (published_list h)));
+      pictured = h.pictured ∙ sym (ap picture_at more.accepted ∙ picture_at-end (accepted_list h) (next_label (published_list h)));
+      numbered = omega (arith, h.numbered, ap revision_at more.accepted, revision_at-end (accepted_list h) (next_label (published_list h)));
       since = more.since;
       short = search rules;
     }
