@@ -1,6 +1,7 @@
 -- The history of what a picture's writer holds: how long it is, and what one more event does to it.
 use Rattle.std.proofs.Common.{◌≡◌, ◌≤◌, ◌+◌, ◌*◌, false, [], ◌∷◌, ◌++◌, length, ap, sym, ◌∙◌, append_assoc, arith, length-append}
 use Rattle.left_right.specs.Sides.{view}
+use Rattle.left_right.specs.declared.part.Part.{Part}
 use Rattle.mf_live.specs.declared.event.Event.{Event}
 use Rattle.mf_live.specs.declared.holder.Holder.{Holder}
 use Rattle.mf_live.specs.declared.version.Version.{Version}
@@ -40,10 +41,12 @@ pub record HasOneMore (h : Holder) (x : Version) (w : View) (e : Entry) : Type 0
 abbrev with_entry : World → Entry → World
 with_entry w e = record w { accepted = w.accepted ++ e ∷ [] }
 
-pub one_more : (h : Holder) (x : Version) (w : View) (happens : Event) (e : Entry) → x ≡ version h → w ≡ with_event (view h.swap.desk.place) happens
-    → May most_accepted (world_after new_world (events h)) happens
-    → after_event (world_after new_world (events h)) happens ≡ with_entry (world_after new_world (events h)) e → HasOneMore h x w e
-one_more h x w happens e same more may accepts =
+pub one_more : (h : Holder) (shown : Part Version) (w : View) (happens : Event) (e : Entry) → shown ≡ h.swap.desk.shown
+    → w ≡ with_event (view h.swap.desk.place) happens → May most_accepted (world_after new_world (events h)) happens
+    → after_event (world_after new_world (events h)) happens ≡ with_entry (world_after new_world (events h)) e → HasOneMore h shown.value w e
+one_more h shown w happens e stays more may accepts =
+    let x = shown.value in
+    let same : x ≡ version h = ap (λ (part : Part Version). part.value) stays in
     let unwritten = (view h.swap.desk.place).unwritten in
     let log : history x w ≡ events h ++ happens ∷ [] =
     (λ i. history (same i) (more i)) ∙ sym (append_assoc (events_of (version h)) unwritten (happens ∷ [])) in

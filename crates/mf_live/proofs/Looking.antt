@@ -1,5 +1,5 @@
 -- What is learnt and what is looked at, where both come from prefixes of one history.
-use Rattle.std.proofs.Common.{◌≡◌, ◌≤◌, Bool, true, false, List, ◌++◌, ◌⊎◌, inl, inr, refl, ap, sym, subst, ◌∙◌, arith}
+use Rattle.std.proofs.Common.{◌≡◌, ◌≤◌, Bool, true, false, List, ◌++◌, ◌⊎◌, Result, Ok, Err, MatchResult, inl, inr, refl, ap, sym, subst, ◌∙◌, arith}
 use Rattle.std.proofs.lemmas.Bool.{cases_lt}
 use Rattle.std.proofs.lemmas.List.{append-nil}
 use mathlib.Core.List.{IsPrefix}
@@ -17,8 +17,9 @@ use Rattle.mf_live.specs.Books.{most_accepted}
 use Rattle.mf_live.specs.Entries.{Entry, is_closed, is_end_last}
 use Rattle.mf_live.specs.Prefixes.{IsWholePrefix, longer}
 use Rattle.mf_live.specs.Rule.{IsKnowledgeOf, IsLook, seen_knowledge, book_of, events_of}
+use Rattle.mf_live.specs.Sheets.{HasLearnt}
 use Rattle.mf_live.specs.Viewers.{Extends, IsPublished, SeesTheSame, learnt_list, look_events, looked_at_events, looked_at_list}
-use Rattle.mf_live.specs.Viewers.{notice_events, shown_list, told_list}
+use Rattle.mf_live.specs.Viewers.{notice_events, seen_list, shown_list, told_list}
 use Rattle.mf_live.specs.World.{Happen, new_world, published_list_of}
 use Rattle.mf_live.proofs.EntryLists.{nothing_follows}
 use Rattle.mf_live.proofs.WholePrefixes.{whole-longer}
@@ -54,15 +55,31 @@ extends-look v x w is_looked known =
     let extends : Extends v (told_list x.notice) = record { looked = looks; learnt = learns; seen = whole-longer _ _ (told_list x.notice) looks learns } in
     subst (λ (u : View). Extends v (published_list_of u.latest.seen.log)) (sym is_looked.is) extends
 
+-- two facts of what a call answers, as one
+pub both_hold : {X Y : Type 0} (P P' : X → Type 0) (Q Q' : Y → Type 0) (r : Result X Y) → MatchResult r P Q → MatchResult r P' Q'
+    → MatchResult r (λ x. P x × P' x) (λ y. Q y × Q' y)
+both_hold P P' Q Q' (Ok x) one other = (one, other)
+both_hold P P' Q Q' (Err y) one other = (one, other)
+
+seen_list-same : (before after : Viewer) → SeesTheSame before after → seen_list after ≡ seen_list before
+seen_list-same before after same = ap (λ M. longer M (learnt_list after)) same.looked ∙ ap (longer (looked_at_list before)) same.learnt
+
 -- what extends a viewer that sees what it saw before extends the viewer as it was
-pub extends-same : (before after : Viewer) (L : List Entry) → SeesTheSame before after → Extends after L → Extends before L
-extends-same before after L same extends =
-    let seen = ap (λ M. longer M (learnt_list after)) same.looked ∙ ap (longer (looked_at_list before)) same.learnt in
-    record {
-      looked = subst (λ M. IsWholePrefix M L) same.looked extends.looked;
-      learnt = subst (λ M. IsWholePrefix M L) same.learnt extends.learnt;
-      seen = subst (λ M. IsWholePrefix M L) seen extends.seen;
-    }
+extends-same : (before after : Viewer) (L : List Entry) → SeesTheSame before after → Extends after L → Extends before L
+extends-same before after L same extends = record {
+  looked = subst (λ M. IsWholePrefix M L) same.looked extends.looked;
+  learnt = subst (λ M. IsWholePrefix M L) same.learnt extends.learnt;
+  seen = subst (λ M. IsWholePrefix M L) (seen_list-same before after same) extends.seen;
+}
+
+-- a viewer that has learnt of a list, and sees what it saw then, has only learnt of the list
+pub learnt-same : (first second after : Viewer) (told : List Entry) → HasLearnt first told second → SeesTheSame second after → HasLearnt first told after
+learnt-same first second after told learns same = record {
+  looked = same.looked ∙ learns.looked;
+  learnt = same.learnt ∙ learns.learnt;
+  seen = seen_list-same second after same ∙ learns.seen;
+  keeps = λ L extends. learns.keeps L (extends-same second after L same extends);
+}
 
 -- of two prefixes of one history, one is a prefix of the other
 pub one_prefix : (a b : Prefix) → (a.events ≤ b.events → IsPrefix a.knowledge.seen.log b.knowledge.seen.log)

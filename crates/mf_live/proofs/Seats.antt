@@ -51,8 +51,8 @@ pub admits : Admits EachSeatKnows newcomer
 admits x views kept = kept_more x views newcomer kept (knows_nothing x newcomer refl)
 
 -- a seat's view is split in two: the first has seen what it had seen, and the second the same or nothing
-pub forks : (seat : ℕ) (v left right : View) → left.identified ≡ v.identified → left.earlier ≡ v.earlier → left.latest ≡ v.latest → (right ≡ v) ⊎ (right.identified ≡ false)
-    → Forks EachSeatKnows seat v left right
+pub forks : (seat : ℕ) (v left right : View) → left.identified ≡ v.identified → left.earlier ≡ v.earlier → left.latest ≡ v.latest
+    → (right ≡ v) ⊎ (right.identified ≡ false) → Forks EachSeatKnows seat v left right
 forks seat v left right identified earlier latest given x views kept at = let knows : Knows x v = kept.each_seat seat v at in
     let given_knows : Knows x right = ⊎_elim (λ (same : right ≡ v). subst (Knows x) (sym same) knows) (knows_nothing x right) given in
     kept_more x (set views seat left) right (kept_view x views seat left kept (knows_same x v left identified earlier latest knows)) given_knows
@@ -81,7 +81,9 @@ shows_more x y book more t known = record {
 }
 
 knows_more : (x y : Version) → book_of y ≡ book_of x → IsPrefix (events_of x) (events_of y) → (v : View) → Knows x v → Knows y v
-knows_more x y book more v knows identified = let still = shows_more x y book more in (still v.earlier (knows identified).0, still v.latest (knows identified).1)
+knows_more x y book more v knows identified =
+    let still = shows_more x y book more in
+    (still v.earlier (knows identified).0, still v.latest (knows identified).1)
 
 -- a publish keeps the rule where the new version knows more of the history
 pub publishes : (seat : ℕ) (v : View) (x y : Version) → book_of y ≡ book_of x → IsPrefix (events_of x) (events_of y) → TurnsAt EachSeatKnows seat v x y IsShow

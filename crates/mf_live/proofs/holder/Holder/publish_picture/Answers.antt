@@ -68,7 +68,8 @@ invariant_of-self g c =
     ap book_of c.show.ensures.shown ∙ c.write_publish.ensures.book ∙ ap (λ (t : Knowledge). t.seen.book) known in
     let path = goal.at.invariant_of-self g c in
     let (shows, happened) = happened g path.After-show (log g path.After-write_publish) in
-    let accepts : accepted_list_of (history swap.desk.shown.value (view swap.desk.place)) ≡ accepted_list h = ap accepted_list_of happened ∙ accepted-publish h in
+    let accepts : accepted_list_of (history swap.desk.shown.value (view swap.desk.place)) ≡ accepted_list h =
+    ap accepted_list_of happened ∙ accepted-publish h in
     let tells : version_list swap.desk.shown.value ≡ accepted_list h = ap published_list_of shows ∙ published-publish h in
     record {
       head_is = h.head_is ∙ ap counter_of (sym book);
