@@ -9,15 +9,15 @@ use Rattle.std.proofs.lemmas.List.{append_assoc, append-nil, length-append}
 use Rattle.std.proofs.lemmas.List.Elements.{All-nil, All-head, All-tail, All-push, All-weaker}
 use Rattle.mf_live.specs.declared.event.Event.{Event}
 use Rattle.mf_live.specs.declared.event.Event.TheVariants.{Accept, Refuse, Close, Publish, Discard, Look, Tell, Learn}
-use Rattle.mf_live.specs.Entries.{Change, Operation, End, Entry, entry, revision_at, next, next_after, is_closed, IsUnrefused}
+use Rattle.mf_live.specs.Entries.{Change, Operation, End, Entry, entry, revision_at, next_label, next_label_after, is_closed, IsUnrefused}
 use Rattle.mf_live.specs.Prefixes.{IsWholePrefix, IsCutAmong, labels, longer}
-use Rattle.mf_live.specs.World.{World, new_world, May, after_event, notice_at, put, IsPending, IsLawful, ShowsMore}
+use Rattle.mf_live.specs.World.{World, new_world, May, after_event, notice_at, with_seen, IsPending, IsLawful, ShowsMore}
 use Rattle.mf_live.proofs.Blank.{revision_at-none}
-use Rattle.mf_live.proofs.EntryLists.{revision_at-push, revision_at-end, unrefused-push, unrefused-end, ends_last-push}
+use Rattle.mf_live.proofs.EntryLists.{revision_at-push, revision_at-end, unrefused-push, unrefused-end, is_end_last-push}
 use Rattle.mf_live.proofs.WholePrefixes.{labels-append, length-labels, whole-self, whole-nil, whole-trans, whole-longer}
 
 -- the next label is one more than the last
-last-label : (n : ℕ) (e : Entry) (es : List Entry) → get_or (labels (e ∷ es)) (length es) 0 + 1 ≡ next_after n (e ∷ es)
+last-label : (n : ℕ) (e : Entry) (es : List Entry) → get_or (labels (e ∷ es)) (length es) 0 + 1 ≡ next_label_after n (e ∷ es)
 last-label n e [] = refl
 last-label n e (f ∷ fs) = last-label (e.label + 1) f fs
 
@@ -32,13 +32,13 @@ ends_apart ns more n k q long some last same =
     absurd (omega arith)
 
 -- what is published is a whole prefix, since every entry after it has the next label
-pending-whole : (P rest : List Entry) → All (λ (e : Entry). e.label ≡ next P) rest → IsWholePrefix P (P ++ rest)
+pending-whole : (P rest : List Entry) → All (λ (e : Entry). e.label ≡ next_label P) rest → IsWholePrefix P (P ++ rest)
 pending-whole [] rest labelled = whole-nil rest
 pending-whole (p ∷ ps) [] labelled = rw (append-nil (p ∷ ps)) (whole-self (p ∷ ps))
 pending-whole (p ∷ ps) (q ∷ qs) labelled =
     let prefix = labels (p ∷ ps) in
     let long = length-labels (p ∷ ps) in
-    let label = All-head (λ (e : Entry). e.label ≡ next (p ∷ ps)) q qs labelled in
+    let label = All-head (λ (e : Entry). e.label ≡ next_label (p ∷ ps)) q qs labelled in
     let apart = ends_apart prefix (labels qs) (length (p ∷ ps)) (length ps) q.label long refl (last-label 0 p ps ∙ sym label) in
     let cut : IsCutAmong (prefix ++ q.label ∷ labels qs) (length (p ∷ ps)) =
     inr (inr (omega arith, omega (arith, length-append prefix (q.label ∷ labels qs)), apart)) in
@@ -51,15 +51,15 @@ pending-whole (p ∷ ps) (q ∷ qs) labelled =
 whole_from : (P A : List Entry) → IsPending P A → IsWholePrefix P A
 whole_from P A pending = rw pending.are (pending-whole P pending.pending pending.labelled)
 
-pending-push : (P A : List Entry) (c : Change) → IsPending P A → IsPending P (A ++ entry (next P) c ∷ [])
+pending-push : (P A : List Entry) (c : Change) → IsPending P A → IsPending P (A ++ entry (next_label P) c ∷ [])
 pending-push P A c pending = record {
-  pending = pending.pending ++ entry (next P) c ∷ [];
-  are = ap (λ list. list ++ entry (next P) c ∷ []) pending.are ∙ append_assoc P pending.pending (entry (next P) c ∷ []);
-  labelled = All-push (λ (e : Entry). e.label ≡ next P) pending.pending (entry (next P) c) pending.labelled refl;
+  pending = pending.pending ++ entry (next_label P) c ∷ [];
+  are = ap (λ list. list ++ entry (next_label P) c ∷ []) pending.are ∙ append_assoc P pending.pending (entry (next_label P) c ∷ []);
+  labelled = All-push (λ (e : Entry). e.label ≡ next_label P) pending.pending (entry (next_label P) c) pending.labelled refl;
 }
 
 none_pending : (A : List Entry) → IsPending A A
-none_pending A = record { pending = []; are = sym (append-nil A); labelled = All-nil (λ (e : Entry). e.label ≡ next A) }
+none_pending A = record { pending = []; are = sym (append-nil A); labelled = All-nil (λ (e : Entry). e.label ≡ next_label A) }
 
 notice-whole : (ns : List (List Entry)) (k : ℕ) (P : List Entry) → All (λ n. IsWholePrefix n P) ns → IsWholePrefix (notice_at ns k) P
 notice-whole [] k P each = whole-nil P
@@ -67,9 +67,9 @@ notice-whole (n ∷ ns) zero P each = All-head (λ n. IsWholePrefix n P) n ns ea
 notice-whole (n ∷ ns) (suc k) P each = notice-whole ns k P (All-tail (λ n. IsWholePrefix n P) n ns each)
 
 -- when one viewer sees more, the others keep what they had seen
-put-whole : (seen : ℕ → List Entry) (i : ℕ) (L P : List Entry) → ((j : ℕ) → IsWholePrefix (seen j) P)
-    → IsWholePrefix L P → (j : ℕ) → IsWholePrefix (put seen i L j) P
-put-whole seen i L P each more j = cond_both (j == i) L (seen j) (λ S. IsWholePrefix S P) (λ _. more) (λ _. each j)
+with_seen-whole : (seen : ℕ → List Entry) (i : ℕ) (L P : List Entry) → ((j : ℕ) → IsWholePrefix (seen j) P)
+    → IsWholePrefix L P → (j : ℕ) → IsWholePrefix (with_seen seen i L j) P
+with_seen-whole seen i L P each more j = cond_both (j == i) L (seen j) (λ S. IsWholePrefix S P) (λ _. more) (λ _. each j)
 
 pub lawful_start : (max_ops : ℕ) → IsLawful max_ops new_world
 lawful_start max_ops = record {
@@ -83,7 +83,7 @@ lawful_start max_ops = record {
 }
 
 abbrev with_change : World → Change → List Entry
-with_change w c = w.accepted ++ entry (next w.published) c ∷ []
+with_change w c = w.accepted ++ entry (next_label w.published) c ∷ []
 
 -- the writer accepts one more change
 accepts : (max_ops : ℕ) (w : World) (c : Change) → IsLawful max_ops w → IsUnrefused (with_change w c)
@@ -95,11 +95,11 @@ accepts max_ops w c lawful unrefused few not_closed = record {
   pending = pending-push w.published w.accepted c lawful.pending;
   each_seen = lawful.each_seen;
   each_notice = lawful.each_notice;
-  ended = ends_last-push w.accepted (entry (next w.published) c) not_closed lawful.ended;
+  ended = is_end_last-push w.accepted (entry (next_label w.published) c) not_closed lawful.ended;
 }
 
 -- the writer publishes everything that it has accepted
-publishes_all : (max_ops : ℕ) (w : World) (gone : Bool) → IsLawful max_ops w → IsLawful max_ops (record w { published = w.accepted; dropped = gone })
+publishes_all : (max_ops : ℕ) (w : World) (gone : Bool) → IsLawful max_ops w → IsLawful max_ops (record w { published = w.accepted; gone = gone })
 publishes_all max_ops w gone lawful = record {
   unrefused = lawful.unrefused;
   few = lawful.few;
@@ -114,7 +114,7 @@ publishes_all max_ops w gone lawful = record {
 -- the writer leaves the list as it is, whatever others have seen of it
 leaves_list : (max_ops : ℕ) (w : World) (seen : ℕ → List Entry) (notices : List (List Entry)) (gone : Bool)
     → IsLawful max_ops w → ((i : ℕ) → IsWholePrefix (seen i) w.published)
-    → All (λ n. IsWholePrefix n w.published) notices → IsLawful max_ops (record w { seen = seen; notices = notices; dropped = gone })
+    → All (λ n. IsWholePrefix n w.published) notices → IsLawful max_ops (record w { seen = seen; notices = notices; gone = gone })
 leaves_list max_ops w seen notices gone lawful each_seen each_notice = record {
   unrefused = lawful.unrefused;
   few = lawful.few;
@@ -127,24 +127,24 @@ leaves_list max_ops w seen notices gone lawful each_seen each_notice = record {
 
 -- a viewer sees a whole prefix of what is published
 sees : (max_ops : ℕ) (w : World) (i : ℕ) (L : List Entry) → IsLawful max_ops w → IsWholePrefix L w.published
-    → IsLawful max_ops (record w { seen = put w.seen i L })
+    → IsLawful max_ops (record w { seen = with_seen w.seen i L })
 sees max_ops w i L lawful more =
-    leaves_list max_ops w (put w.seen i L) w.notices w.dropped lawful (put-whole w.seen i L w.published lawful.each_seen more) lawful.each_notice
+    leaves_list max_ops w (with_seen w.seen i L) w.notices w.gone lawful (with_seen-whole w.seen i L w.published lawful.each_seen more) lawful.each_notice
 
 pub lawful_event : (max_ops : ℕ) (w : World) (e : Event) → IsLawful max_ops w → May max_ops w e → IsLawful max_ops (after_event w e)
 lawful_event max_ops w (Accept op) lawful may =
-    let unrefused = unrefused-push w.accepted (next w.published) op lawful.unrefused may.3 in
-    accepts max_ops w (Operation op) lawful unrefused (omega (arith, revision_at-push w.accepted (next w.published) op)) may.1
+    let unrefused = unrefused-push w.accepted (next_label w.published) op lawful.unrefused may.3 in
+    accepts max_ops w (Operation op) lawful unrefused (omega (arith, revision_at-push w.accepted (next_label w.published) op)) may.1
 lawful_event max_ops w Refuse lawful may = lawful
 lawful_event max_ops w Close lawful may =
-    let unrefused = unrefused-end w.accepted (next w.published) lawful.unrefused in
-    accepts max_ops w End lawful unrefused (omega (arith, lawful.few, revision_at-end w.accepted (next w.published))) may.1
-lawful_event max_ops w Publish lawful may = publishes_all max_ops w w.dropped lawful
+    let unrefused = unrefused-end w.accepted (next_label w.published) lawful.unrefused in
+    accepts max_ops w End lawful unrefused (omega (arith, lawful.few, revision_at-end w.accepted (next_label w.published))) may.1
+lawful_event max_ops w Publish lawful may = publishes_all max_ops w w.gone lawful
 lawful_event max_ops w (Discard true) lawful may = publishes_all max_ops w true lawful
 lawful_event max_ops w (Discard false) lawful may = leaves_list max_ops w w.seen w.notices true lawful lawful.each_seen lawful.each_notice
 lawful_event max_ops w (Look i) lawful may = sees max_ops w i w.published lawful (whole-self w.published)
 lawful_event max_ops w Tell lawful may =
-    leaves_list max_ops w w.seen (w.notices ++ w.published ∷ []) w.dropped lawful lawful.each_seen
+    leaves_list max_ops w w.seen (w.notices ++ w.published ∷ []) w.gone lawful lawful.each_seen
     (All-push (λ n. IsWholePrefix n w.published) w.notices w.published lawful.each_notice (whole-self w.published))
 lawful_event max_ops w (Learn i k) lawful may =
     sees max_ops w i (longer (w.seen i) (notice_at w.notices k)) lawful

@@ -1,5 +1,5 @@
 -- What is learnt and what is looked at, where both come from prefixes of one history.
-use Rattle.std.proofs.Common.{◌≡◌, ◌≤◌, Bool, true, false, List, ◌++◌, ◌⊎◌, inl, inr, refl, ap, sym, subst, ◌∙◌, arith}
+use Rattle.std.proofs.Common.{◌≡◌, ◌≤◌, Bool, true, false, List, ◌++◌, ◌⊎◌, Result, Ok, Err, MatchResult, inl, inr, refl, ap, sym, subst, ◌∙◌, arith}
 use Rattle.std.proofs.lemmas.Bool.{cases_lt}
 use Rattle.std.proofs.lemmas.List.{append-nil}
 use mathlib.Core.List.{IsPrefix}
@@ -14,55 +14,72 @@ use Rattle.mf_live.specs.declared.version.Version.{Version}
 use Rattle.mf_live.specs.declared.view.View.{View}
 use Rattle.mf_live.specs.declared.viewer.Viewer.{Viewer}
 use Rattle.mf_live.specs.Books.{most_accepted}
-use Rattle.mf_live.specs.Entries.{Entry, is_closed, ends_last}
+use Rattle.mf_live.specs.Entries.{Entry, is_closed, is_end_last}
 use Rattle.mf_live.specs.Prefixes.{IsWholePrefix, longer}
 use Rattle.mf_live.specs.Rule.{IsKnowledgeOf, IsLook, seen_knowledge, book_of, events_of}
+use Rattle.mf_live.specs.Sheets.{HasLearnt}
 use Rattle.mf_live.specs.Viewers.{Extends, IsPublished, SeesTheSame, learnt_list, look_events, looked_at_events, looked_at_list}
-use Rattle.mf_live.specs.Viewers.{notice_events, shown_list, told_list}
-use Rattle.mf_live.specs.World.{Happen, new_world, published_of}
+use Rattle.mf_live.specs.Viewers.{notice_events, seen_list, shown_list, told_list}
+use Rattle.mf_live.specs.World.{Happen, new_world, published_list_of}
 use Rattle.mf_live.proofs.EntryLists.{nothing_follows}
 use Rattle.mf_live.proofs.WholePrefixes.{whole-longer}
 use Rattle.mf_live.proofs.Worlds.{lawful-after, published-grows}
 
 -- what a prefix of a notice's events has published is a whole prefix of what the notice says
-pub told_list-prefix : (n : Notice) (events : List Event) → IsPrefix events (notice_events n) → IsWholePrefix (published_of events) (told_list n)
+pub told_list-prefix : (n : Notice) (events : List Event) → IsPrefix events (notice_events n) → IsWholePrefix (published_list_of events) (told_list n)
 told_list-prefix n events prefix =
     let grows = published-grows most_accepted events prefix.0 (subst (Happen most_accepted new_world) (sym prefix.1) n.prefix.lawful) in
-    subst (λ (all : List Event). IsWholePrefix (published_of events) (published_of all)) prefix.1 grows
+    subst (λ (all : List Event). IsWholePrefix (published_list_of events) (published_list_of all)) prefix.1 grows
 
 -- what a notice says was published by the events that it knows
 pub is_published : (n : Notice) → IsPublished (notice_events n) (told_list n)
 is_published n = record { happen = n.prefix.lawful; is = refl; all = n.whole; alive = n.prefix.alive }
 
 -- nothing follows the end mark in what a notice says
-pub told_list-ends : (n : Notice) → ends_last (told_list n) ≡ true
-told_list-ends n = subst (λ (L : List Entry). ends_last L ≡ true) n.whole (lawful-after most_accepted (notice_events n) n.prefix.lawful).ended
+pub told_list-ends : (n : Notice) → is_end_last (told_list n) ≡ true
+told_list-ends n = subst (λ (L : List Entry). is_end_last L ≡ true) n.whole (lawful-after most_accepted (notice_events n) n.prefix.lawful).ended
 
-kept_by-prefix : (b : Book) (events : List Event) (missed : Bool) (v : View) → IsKnowledgeOf b events v.last
-    → IsKnowledgeOf b events v.now → IsKnowledgeOf b events (seen_knowledge missed v)
-kept_by-prefix b events true v last now = last
-kept_by-prefix b events false v last now = now
+kept_by-prefix : (b : Book) (events : List Event) (missed : Bool) (v : View) → IsKnowledgeOf b events v.earlier
+    → IsKnowledgeOf b events v.latest → IsKnowledgeOf b events (seen_knowledge missed v)
+kept_by-prefix b events true v earlier latest = earlier
+kept_by-prefix b events false v earlier latest = latest
 
 -- a look extends what its viewer has seen, where the version knows the events of what the viewer has learnt
 pub extends-look : (v : Viewer) (x : Version) (w : View) → IsLook (seen_knowledge v.missed) (view v.reader.place) x w
-    → IsPrefix (notice_events v.known) (events_of x) → Extends v (published_of w.now.seen.log)
+    → IsPrefix (notice_events v.known) (events_of x) → Extends v (published_list_of w.latest.seen.log)
 extends-look v x w is_looked known =
     let knows = is_looked.knows v.identified in
     let before = kept_by-prefix (book_of x) (events_of x) v.missed (view v.reader.place) knows.0 knows.1 in
     let looks = told_list-prefix x.notice (looked_at_events v) before.prefix in
     let learns = told_list-prefix x.notice (notice_events v.known) known in
     let extends : Extends v (told_list x.notice) = record { looked = looks; learnt = learns; seen = whole-longer _ _ (told_list x.notice) looks learns } in
-    subst (λ (u : View). Extends v (published_of u.now.seen.log)) (sym is_looked.now) extends
+    subst (λ (u : View). Extends v (published_list_of u.latest.seen.log)) (sym is_looked.is) extends
+
+-- two facts of what a call answers, as one
+pub both_hold : {X Y : Type 0} (P P' : X → Type 0) (Q Q' : Y → Type 0) (r : Result X Y) → MatchResult r P Q → MatchResult r P' Q'
+    → MatchResult r (λ x. P x × P' x) (λ y. Q y × Q' y)
+both_hold P P' Q Q' (Ok x) one other = (one, other)
+both_hold P P' Q Q' (Err y) one other = (one, other)
+
+seen_list-same : (before after : Viewer) → SeesTheSame before after → seen_list after ≡ seen_list before
+seen_list-same before after same = ap (λ M. longer M (learnt_list after)) same.looked ∙ ap (longer (looked_at_list before)) same.learnt
 
 -- what extends a viewer that sees what it saw before extends the viewer as it was
-pub extends-same : (before after : Viewer) (L : List Entry) → SeesTheSame before after → Extends after L → Extends before L
-extends-same before after L same extends =
-    let seen = ap (λ M. longer M (learnt_list after)) same.looked ∙ ap (longer (looked_at_list before)) same.learnt in
-    record {
-      looked = subst (λ M. IsWholePrefix M L) same.looked extends.looked;
-      learnt = subst (λ M. IsWholePrefix M L) same.learnt extends.learnt;
-      seen = subst (λ M. IsWholePrefix M L) seen extends.seen;
-    }
+extends-same : (before after : Viewer) (L : List Entry) → SeesTheSame before after → Extends after L → Extends before L
+extends-same before after L same extends = record {
+  looked = subst (λ M. IsWholePrefix M L) same.looked extends.looked;
+  learnt = subst (λ M. IsWholePrefix M L) same.learnt extends.learnt;
+  seen = subst (λ M. IsWholePrefix M L) (seen_list-same before after same) extends.seen;
+}
+
+-- a viewer that has learnt of a list, and sees what it saw then, has only learnt of the list
+pub learnt-same : (first second after : Viewer) (told : List Entry) → HasLearnt first told second → SeesTheSame second after → HasLearnt first told after
+learnt-same first second after told learns same = record {
+  looked = same.looked ∙ learns.looked;
+  learnt = same.learnt ∙ learns.learnt;
+  seen = seen_list-same second after same ∙ learns.seen;
+  keeps = λ L extends. learns.keeps L (extends-same second after L same extends);
+}
 
 -- of two prefixes of one history, one is a prefix of the other
 pub one_prefix : (a b : Prefix) → (a.events ≤ b.events → IsPrefix a.knowledge.seen.log b.knowledge.seen.log)
@@ -74,9 +91,9 @@ one_prefix a b this that = elim (cases_lt a.events b.events) [
 ]
 
 -- what a prefix of a look's events has published is a whole prefix of what the look shows
-shown_list-prefix : (look : Look) (events : List Event) → IsPrefix events (look_events look) → IsWholePrefix (published_of events) (shown_list look)
+shown_list-prefix : (look : Look) (events : List Event) → IsPrefix events (look_events look) → IsWholePrefix (published_list_of events) (shown_list look)
 shown_list-prefix look =
-    subst (λ (t : Knowledge). (events : List Event) → IsPrefix events t.seen.log → IsWholePrefix (published_of events) (published_of t.seen.log))
+    subst (λ (t : Knowledge). (events : List Event) → IsPrefix events t.seen.log → IsWholePrefix (published_list_of events) (published_list_of t.seen.log))
     (sym look.knowledge) (told_list-prefix look.reading.part.value.notice)
 
 -- where the events of a look are a prefix of those of a notice, or the other way round, their lists are whole prefixes likewise
@@ -86,7 +103,7 @@ one_lists look n (inl prefix) = inl (shown_list-prefix look (notice_events n) pr
 one_lists look n (inr prefix) = inr (told_list-prefix n (look_events look) prefix)
 
 -- a list that has a closed list as a whole prefix is that closed list
-pub shown-last : (S L : List Entry) → IsWholePrefix S L → ends_last L ≡ true → is_closed S ≡ true → L ≡ S
+pub shown-last : (S L : List Entry) → IsWholePrefix S L → is_end_last L ≡ true → is_closed S ≡ true → L ≡ S
 shown-last S L whole ends closed =
-    let none = nothing_follows S whole.rest (subst (λ (M : List Entry). ends_last M ≡ true) whole.whole ends) closed in
+    let none = nothing_follows S whole.rest (subst (λ (M : List Entry). is_end_last M ≡ true) whole.whole ends) closed in
     whole.whole ∙ (ap (λ (rest : List Entry). S ++ rest) none ∙ append-nil S)

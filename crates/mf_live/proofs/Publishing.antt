@@ -8,7 +8,7 @@ use Rattle.mf_live.specs.declared.holder.Holder.{Holder}
 use Rattle.mf_live.specs.Books.{most_accepted}
 use Rattle.mf_live.specs.Holders.{events, accepted_list, version}
 use Rattle.mf_live.specs.Rule.{events_of, publish_events}
-use Rattle.mf_live.specs.World.{World, Happen, new_world, world_after, accepted_of, published_of}
+use Rattle.mf_live.specs.World.{World, Happen, new_world, world_after, accepted_list_of, published_list_of}
 use Rattle.mf_live.proofs.Worlds.{world_after-push, Happen-push, Happen-rest}
 
 module _ (h : Holder) where
@@ -26,14 +26,14 @@ module _ (h : Holder) where
   world_is : world_after new_world all_written ≡ record (world_after new_world (events h)) { published = accepted_list h }
   world_is = ap (world_after new_world) is_pushed ∙ world_after-push new_world (events h) Publish
 
-  pub accepted-publish : accepted_of all_written ≡ accepted_list h
+  pub accepted-publish : accepted_list_of all_written ≡ accepted_list h
   accepted-publish = ap (λ (w : World). w.accepted) world_is
 
-  pub published-publish : published_of all_written ≡ accepted_list h
+  pub published-publish : published_list_of all_written ≡ accepted_list h
   published-publish = ap (λ (w : World). w.published) world_is
 
-  pub alive-publish : (world_after new_world all_written).dropped ≡ false
-  alive-publish = ap (λ (w : World). w.dropped) world_is ∙ h.alive
+  pub alive-publish : (world_after new_world all_written).gone ≡ false
+  alive-publish = ap (λ (w : World). w.gone) world_is ∙ h.alive
 
   pub Happen-publish : Happen most_accepted new_world all_written
   Happen-publish = rw is_pushed (Happen-push most_accepted new_world (events h) Publish h.lawful h.alive)

@@ -24,9 +24,9 @@ knows_nothing : (x : Version) (v : View) → v.identified ≡ false → Knows x 
 knows_nothing x v unidentified identified = absurd (false≢true (sym unidentified ∙ identified))
 
 -- two views that have seen the same know the same
-knows_same : (x : Version) (v w : View) → w.identified ≡ v.identified → w.last ≡ v.last → w.now ≡ v.now → Knows x v → Knows x w
-knows_same x v w identified last now knows w_identified = let both = knows (sym identified ∙ w_identified) in
-    (subst (Shows x) (sym last) both.0, subst (Shows x) (sym now) both.1)
+knows_same : (x : Version) (v w : View) → w.identified ≡ v.identified → w.earlier ≡ v.earlier → w.latest ≡ v.latest → Knows x v → Knows x w
+knows_same x v w identified earlier latest knows w_identified = let both = knows (sym identified ∙ w_identified) in
+    (subst (Shows x) (sym earlier) both.0, subst (Shows x) (sym latest) both.1)
 
 -- one seat gets another view, and the others know of y what they knew of x
 kept_set : (x y : Version) (views : List View) (seat : ℕ) (w : View) → ((v : View) → Knows x v → Knows y v) → EachSeatKnows x views → Knows y w
@@ -51,11 +51,11 @@ pub admits : Admits EachSeatKnows newcomer
 admits x views kept = kept_more x views newcomer kept (knows_nothing x newcomer refl)
 
 -- a seat's view is split in two: the first has seen what it had seen, and the second the same or nothing
-pub forks : (seat : ℕ) (v left right : View) → left.identified ≡ v.identified → left.last ≡ v.last → left.now ≡ v.now → (right ≡ v) ⊎ (right.identified ≡ false)
-    → Forks EachSeatKnows seat v left right
-forks seat v left right identified last now given x views kept at = let knows : Knows x v = kept.each_seat seat v at in
+pub forks : (seat : ℕ) (v left right : View) → left.identified ≡ v.identified → left.earlier ≡ v.earlier → left.latest ≡ v.latest
+    → (right ≡ v) ⊎ (right.identified ≡ false) → Forks EachSeatKnows seat v left right
+forks seat v left right identified earlier latest given x views kept at = let knows : Knows x v = kept.each_seat seat v at in
     let given_knows : Knows x right = ⊎_elim (λ (same : right ≡ v). subst (Knows x) (sym same) knows) (knows_nothing x right) given in
-    kept_more x (set views seat left) right (kept_view x views seat left kept (knows_same x v left identified last now knows)) given_knows
+    kept_more x (set views seat left) right (kept_view x views seat left kept (knows_same x v left identified earlier latest knows)) given_knows
 
 -- a seat takes over what another knows
 pub merges : (seat : ℕ) (v : View) (other : ℕ) (w : View) → Merges EachSeatKnows seat v other w w newcomer
@@ -65,13 +65,13 @@ merges seat v other w x views kept at apart there = let
     kept_view x (set views seat w) other newcomer (kept_view x views seat w kept knows) (knows_nothing x newcomer refl)
 
 -- a look keeps the rule
-pub looks : (keep : View → Knowledge) (seat : ℕ) (v : View) → (keep v ≡ v.last) ⊎ (keep v ≡ v.now)
+pub looks : (keep : View → Knowledge) (seat : ℕ) (v : View) → (keep v ≡ v.earlier) ⊎ (keep v ≡ v.latest)
     → Turns EachSeatKnows seat v (λ x. x) (λ v x y w. IsLook keep v y w)
 looks keep seat v is_kept x views kept at = let knows : Knows x v = kept.each_seat seat v at in
-    let keeps : v.identified ≡ true → Shows x (keep v) = λ identified. ⊎_elim (λ (is : keep v ≡ v.last). subst (Shows x) (sym is) (knows identified).0)
-    (λ (is : keep v ≡ v.now). subst (Shows x) (sym is) (knows identified).1) is_kept in
-    let w : View = record { identified = v.identified; last = keep v; now = knowledge_of x; unwritten = v.unwritten } in
-    (w, kept_view x views seat w kept (λ identified. (keeps identified, shows_itself x)), record { knows = knows; now = refl })
+    let keeps : v.identified ≡ true → Shows x (keep v) = λ identified. ⊎_elim (λ (is : keep v ≡ v.earlier). subst (Shows x) (sym is) (knows identified).0)
+    (λ (is : keep v ≡ v.latest). subst (Shows x) (sym is) (knows identified).1) is_kept in
+    let w : View = record { identified = v.identified; earlier = keep v; latest = knowledge_of x; unwritten = v.unwritten } in
+    (w, kept_view x views seat w kept (λ identified. (keeps identified, shows_itself x)), record { knows = knows; is = refl })
 
 -- what is known of x is known of y, where y knows more of the same history
 shows_more : (x y : Version) → book_of y ≡ book_of x → IsPrefix (events_of x) (events_of y) → (t : Knowledge) → Shows x t → Shows y t
@@ -81,7 +81,9 @@ shows_more x y book more t known = record {
 }
 
 knows_more : (x y : Version) → book_of y ≡ book_of x → IsPrefix (events_of x) (events_of y) → (v : View) → Knows x v → Knows y v
-knows_more x y book more v knows identified = let still = shows_more x y book more in (still v.last (knows identified).0, still v.now (knows identified).1)
+knows_more x y book more v knows identified =
+    let still = shows_more x y book more in
+    (still v.earlier (knows identified).0, still v.latest (knows identified).1)
 
 -- a publish keeps the rule where the new version knows more of the history
 pub publishes : (seat : ℕ) (v : View) (x y : Version) → book_of y ≡ book_of x → IsPrefix (events_of x) (events_of y) → TurnsAt EachSeatKnows seat v x y IsShow

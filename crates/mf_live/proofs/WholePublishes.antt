@@ -6,9 +6,9 @@ use Rattle.std.proofs.lemmas.List.{append-nil, get_or_append_left, get_or_at, ni
 use Rattle.std.proofs.lemmas.List.Elements.{filter-append}
 use Rattle.mf_live.specs.declared.event.Event.{Event}
 use Rattle.mf_live.specs.declared.event.Event.TheVariants.{Accept, Close, Publish, Discard}
-use Rattle.mf_live.specs.Entries.{Change, Operation, End, Entry, entry, next_after, next}
+use Rattle.mf_live.specs.Entries.{Change, Operation, End, Entry, entry, next_label_after, next_label}
 use Rattle.mf_live.specs.Prefixes.{labels, IsCut, IsWholePrefix, entries_labelled, HasWholePublishes}
-use Rattle.mf_live.specs.World.{World, new_world, after_event, world_after, published_of}
+use Rattle.mf_live.specs.World.{World, new_world, after_event, world_after, published_list_of}
 use Rattle.mf_live.proofs.WholePrefixes.{labels-append, length-labels}
 
 -- the labels of a list never fall, from at least m to at most n
@@ -24,9 +24,9 @@ Rises-push : (m : ℕ) (L : List Entry) (n : ℕ) (c : Change) → Rises m L n �
 Rises-push m [] n c rises = (rises, omega arith)
 Rises-push m (e ∷ L) n c rises = (rises.0, Rises-push e.label L n c rises.1)
 
-Rises-next : (m k : ℕ) (L : List Entry) (n : ℕ) → m ≤ k → Rises m L n → Rises m L (next_after k L)
-Rises-next m k [] n below rises = below
-Rises-next m k (e ∷ L) n below rises = (rises.0, Rises-next e.label (e.label + 1) L n (omega arith) rises.1)
+Rises-next_label : (m k : ℕ) (L : List Entry) (n : ℕ) → m ≤ k → Rises m L n → Rises m L (next_label_after k L)
+Rises-next_label m k [] n below rises = below
+Rises-next_label m k (e ∷ L) n below rises = (rises.0, Rises-next_label e.label (e.label + 1) L n (omega arith) rises.1)
 
 Rises-parts : (m : ℕ) (S : List Entry) (e : Entry) (rest : List Entry) (n : ℕ) → Rises m (S ++ e ∷ rest) n → Rises m S e.label × Rises e.label rest n
 Rises-parts m [] e rest n rises = rises
@@ -90,14 +90,14 @@ at_cut S (e ∷ rest) n k (inr (inr change)) rises = whole_at_change S e rest n 
 
 -- the labels of a world never fall, and none exceeds the next label
 record AreRising (w : World) : Type 0 where
-  accepted : Rises 0 w.accepted (next w.published)
-  published : Rises 0 w.published (next w.published)
+  accepted : Rises 0 w.accepted (next_label w.published)
+  published : Rises 0 w.published (next_label w.published)
 
-rising-all : (w : World) → AreRising w → Rises 0 w.accepted (next w.accepted)
-rising-all w rising = Rises-next 0 0 w.accepted (next w.published) (omega arith) rising.accepted
+rising-all : (w : World) → AreRising w → Rises 0 w.accepted (next_label w.accepted)
+rising-all w rising = Rises-next_label 0 0 w.accepted (next_label w.published) (omega arith) rising.accepted
 
-rising-push : (w : World) (c : Change) → AreRising w → Rises 0 (w.accepted ++ entry (next w.published) c ∷ []) (next w.published)
-rising-push w c rising = Rises-push 0 w.accepted (next w.published) c rising.accepted
+rising-push : (w : World) (c : Change) → AreRising w → Rises 0 (w.accepted ++ entry (next_label w.published) c ∷ []) (next_label w.published)
+rising-push w c rising = Rises-push 0 w.accepted (next_label w.published) c rising.accepted
 
 rising-event : (w : World) (e : Event) → AreRising w → AreRising (after_event w e)
 rising-event w (Accept op) rising = record { accepted = rising-push w (Operation op) rising; published = rising.published }
@@ -111,11 +111,11 @@ rising-after w [] rising = rising
 rising-after w (e ∷ events) rising = rising-after (after_event w e) events (rising-event w e rising)
 
 -- a whole prefix of what is published has, of each publish, nothing or all of it
-pub whole_publishes : (S : List Entry) (events : List Event) → IsWholePrefix S (published_of events) → HasWholePublishes S (published_of events)
+pub whole_publishes : (S : List Entry) (events : List Event) → IsWholePrefix S (published_list_of events) → HasWholePublishes S (published_list_of events)
 whole_publishes S events whole =
-    let L : List Entry = published_of events in
+    let L : List Entry = published_list_of events in
     let rising : AreRising (world_after new_world events) =
     rising-after new_world events (record { accepted = omega arith; published = omega arith }) in
     let cut : IsCut (S ++ whole.rest) (length S) = rw (← whole.whole) whole.cut in
-    let rises : Rises 0 (S ++ whole.rest) (next L) = rw (← whole.whole) rising.published in
-    record { nothing_or_all = λ k. rw whole.whole (at_cut S whole.rest (next L) k cut rises) }
+    let rises : Rises 0 (S ++ whole.rest) (next_label L) = rw (← whole.whole) rising.published in
+    record { nothing_or_all = λ k. rw whole.whole (at_cut S whole.rest (next_label L) k cut rises) }

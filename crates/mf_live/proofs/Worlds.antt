@@ -2,7 +2,7 @@
 use Rattle.std.proofs.Common.{◌≡◌, ℕ, List, [], ◌∷◌, ◌++◌, refl}
 use Rattle.mf_live.specs.declared.event.Event.{Event}
 use Rattle.mf_live.specs.Prefixes.{IsWholePrefix}
-use Rattle.mf_live.specs.World.{World, new_world, Happen, May, after_event, world_after, IsLawful, EverySchedule, StaysLawful, published_of}
+use Rattle.mf_live.specs.World.{World, new_world, Happen, May, after_event, world_after, IsLawful, EverySchedule, StaysLawful, published_list_of}
 use Rattle.mf_live.proofs.Lawfulness.{lawful_start, lawful_event, published-event, shows_more}
 use Rattle.mf_live.proofs.WholePrefixes.{whole-self, whole-trans}
 
@@ -53,8 +53,9 @@ published-on max_ops w (x ∷ xs) lawful happen =
     whole-trans w.published w_next.published (world_after w_next xs).published (published-event max_ops w x lawful) later
 
 -- what is published is a whole prefix of what is published later
-pub published-grows : (max_ops : ℕ) (xs ys : List Event) → Happen max_ops new_world (xs ++ ys) → IsWholePrefix (published_of xs) (published_of (xs ++ ys))
+pub published-grows : (max_ops : ℕ) (xs ys : List Event) → Happen max_ops new_world (xs ++ ys)
+    → IsWholePrefix (published_list_of xs) (published_list_of (xs ++ ys))
 published-grows max_ops xs ys happen =
     let lawful = lawful-after max_ops xs (Happen-prefix max_ops new_world xs ys happen) in
     let rest = Happen-rest max_ops new_world xs ys happen in
-    rw (world_after-append new_world xs ys, published_of) (published-on max_ops (world_after new_world xs) ys lawful rest)
+    rw (world_after-append new_world xs ys, published_list_of) (published-on max_ops (world_after new_world xs) ys lawful rest)

@@ -56,19 +56,19 @@ is_empty [] = true
 is_empty (e ∷ es) = false
 
 -- whether nothing follows the end mark
-abbrev pub ends_last : List Entry → Bool
-ends_last [] = true
-ends_last (e ∷ es) = (not (is_end e.change) || is_empty es) && ends_last es
+abbrev pub is_end_last : List Entry → Bool
+is_end_last [] = true
+is_end_last (e ∷ es) = (not (is_end e.change) || is_empty es) && is_end_last es
 
 -- one more than the label of the last entry, or n if there is none
-abbrev pub next_after : ℕ → List Entry → ℕ
-next_after n [] = n
-next_after n (e ∷ es) = next_after (e.label + 1) es
+abbrev pub next_label_after : ℕ → List Entry → ℕ
+next_label_after n [] = n
+next_label_after n (e ∷ es) = next_label_after (e.label + 1) es
 
 -- the label of what is accepted next, once this list is published
-abbrev pub next : List Entry → ℕ
-next L = next_after 0 L
+abbrev pub next_label : List Entry → ℕ
+next_label L = next_label_after 0 L
 
 -- what is accepted once the end mark is set
 abbrev pub complete_list : List Entry → List Entry → List Entry
-complete_list accepted published = accepted ++ entry (next published) End ∷ []
+complete_list accepted published = accepted ++ entry (next_label published) End ∷ []

@@ -8,7 +8,7 @@ use Rattle.mf_live.specs.declared.holder.Holder.{Holder}
 use Rattle.mf_live.specs.declared.version.Version.{Version}
 use Rattle.mf_live.specs.Entries.{Entry}
 use Rattle.mf_live.specs.Rule.{book_of, history, version_list, knowledge_of}
-use Rattle.mf_live.specs.World.{accepted_of, published_of}
+use Rattle.mf_live.specs.World.{accepted_list_of, published_list_of}
 
 -- the version that its copies show
 abbrev pub version : Holder → Version
@@ -28,10 +28,10 @@ events h = history (version h) (view h.swap.desk.place)
 
 -- what these events have accepted, and what they have published
 abbrev pub accepted_list : Holder → List Entry
-accepted_list h = accepted_of (events h)
+accepted_list h = accepted_list_of (events h)
 
 abbrev pub published_list : Holder → List Entry
-published_list h = published_of (events h)
+published_list h = published_list_of (events h)
 
 -- the list that its copies show
 abbrev pub visible_list : Holder → List Entry

@@ -11,7 +11,7 @@ use Rattle.mf_live.specs.Books.{most_accepted}
 use Rattle.mf_live.specs.Entries.{Entry}
 use Rattle.mf_live.specs.Prefixes.{IsWholePrefix, longer}
 use Rattle.mf_live.specs.Rule.{seen_knowledge}
-use Rattle.mf_live.specs.World.{Happen, new_world, world_after, accepted_of, published_of}
+use Rattle.mf_live.specs.World.{Happen, new_world, world_after, accepted_list_of, published_list_of}
 
 -- which picture a notice is of
 abbrev pub notice_identity : Notice → Book
@@ -23,7 +23,7 @@ notice_events n = n.prefix.knowledge.seen.log
 
 -- the list that a notice says is published
 abbrev pub told_list : Notice → List Entry
-told_list n = published_of (notice_events n)
+told_list n = published_list_of (notice_events n)
 
 -- which picture a viewer looks at
 abbrev pub identity : Viewer → Book
@@ -35,7 +35,7 @@ looked_at_events v = (seen_knowledge v.missed (view v.reader.place)).seen.log
 
 -- the list of the last look that was answered
 abbrev pub looked_at_list : Viewer → List Entry
-looked_at_list v = published_of (looked_at_events v)
+looked_at_list v = published_list_of (looked_at_events v)
 
 -- the longest list that a viewer has learnt of
 abbrev pub learnt_list : Viewer → List Entry
@@ -49,9 +49,9 @@ seen_list v = longer (looked_at_list v) (learnt_list v)
 -- everything that they have accepted
 pub record IsPublished (events : List Event) (L : List Entry) : Type 0 where
   pub happen : Happen most_accepted new_world events
-  pub is : published_of events ≡ L
-  pub all : accepted_of events ≡ L
-  pub alive : (world_after new_world events).dropped ≡ false
+  pub is : published_list_of events ≡ L
+  pub all : accepted_list_of events ≡ L
+  pub alive : (world_after new_world events).gone ≡ false
 
 -- everything that the viewer has looked at or learnt of is a whole prefix of L
 pub record Extends (v : Viewer) (L : List Entry) : Type 0 where
@@ -74,11 +74,11 @@ look_learnt_list l = told_list l.known
 
 -- the events of its picture that a look knows: all up to the publish that it shows
 abbrev pub look_events : Look → List Event
-look_events l = (view l.reading.place).now.seen.log
+look_events l = (view l.reading.place).latest.seen.log
 
 -- the list that a look shows
 abbrev pub shown_list : Look → List Entry
-shown_list l = published_of (look_events l)
+shown_list l = published_list_of (look_events l)
 
 -- a viewer of the picture with this knowledge that has seen nothing
 pub record IsFresh (k : Knowledge) (v : Viewer) : Type 0 where

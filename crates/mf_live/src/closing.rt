@@ -17,7 +17,7 @@ pub struct Closing {
     ghost closed: { is_closed (accepted_list holder) ≡ true },
 }
 
-/// A picture whose end mark is published: nothing changes it any more. Viewers can look at it until `discard` ends it. It is not
+/// A picture whose end mark is published: no call changes it any more. Viewers may look at it until `discard` ends it. It is not
 /// `Drop`, since ending it may mean waiting for looks.
 pub struct Ended {
     pub(crate) swap: Swap,

@@ -25,5 +25,5 @@ pub struct Prefix {
     pub(crate) knowledge: Knowledge,
     ghost counted: { events ≡ length knowledge.seen.log },
     ghost lawful: { Happen most_accepted new_world knowledge.seen.log } by { Happen-prop most_accepted new_world knowledge.seen.log },
-    ghost alive: { (world_after new_world knowledge.seen.log).dropped ≡ false },
+    ghost alive: { (world_after new_world knowledge.seen.log).gone ≡ false },
 }

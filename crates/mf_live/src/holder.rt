@@ -5,7 +5,7 @@ ghost use Rattle.mf_live.specs.Books.{most_accepted, counter_of};
 ghost use Rattle.mf_live.specs.Entries.{picture_at, revision_at};
 ghost use Rattle.mf_live.specs.Happening.{Happen-prop};
 ghost use Rattle.mf_live.specs.Rule.{book_of, events_of, version_list, history};
-ghost use Rattle.mf_live.specs.World.{Happen, new_world, world_after, accepted_of, published_of};
+ghost use Rattle.mf_live.specs.World.{Happen, new_world, world_after, accepted_list_of, published_list_of};
 
 use crate::book::Head;
 use crate::rule::Swap;
@@ -28,13 +28,13 @@ pub struct Holder {
     /// How many entries wait to be published. Each has one event that is not in the book yet.
     pub(crate) unwritten: u64,
     ghost head_is: { head ≡ counter_of (book_of swap.desk.shown.value) },
-    ghost shown_is: { version_list swap.desk.shown.value ≡ published_of (history swap.desk.shown.value (view swap.desk.place)) },
+    ghost shown_is: { version_list swap.desk.shown.value ≡ published_list_of (history swap.desk.shown.value (view swap.desk.place)) },
     ghost lawful: { Happen most_accepted new_world (history swap.desk.shown.value (view swap.desk.place)) } by { Happen-prop most_accepted new_world _ },
-    ghost alive: { (world_after new_world (history swap.desk.shown.value (view swap.desk.place))).dropped ≡ false },
+    ghost alive: { (world_after new_world (history swap.desk.shown.value (view swap.desk.place))).gone ≡ false },
     ghost counted: { unwritten ≡ length (view swap.desk.place).unwritten },
-    ghost pictured: { working ≡ picture_at (accepted_of (history swap.desk.shown.value (view swap.desk.place))) },
-    ghost numbered: { revision ≡ revision_at (accepted_of (history swap.desk.shown.value (view swap.desk.place))) },
+    ghost pictured: { working ≡ picture_at (accepted_list_of (history swap.desk.shown.value (view swap.desk.place))) },
+    ghost numbered: { revision ≡ revision_at (accepted_list_of (history swap.desk.shown.value (view swap.desk.place))) },
     // There are at most two events for each published entry, so their number stays far below 2^64.
-    ghost since: { unwritten + length (version_list swap.desk.shown.value) ≡ length (accepted_of (history swap.desk.shown.value (view swap.desk.place))) },
+    ghost since: { unwritten + length (version_list swap.desk.shown.value) ≡ length (accepted_list_of (history swap.desk.shown.value (view swap.desk.place))) },
     ghost short: { length (events_of swap.desk.shown.value) ≤ 2 * length (version_list swap.desk.shown.value) },
 }

@@ -9,7 +9,7 @@ ghost use Rattle.mf_live.specs.Prefixes.{IsWholePrefix, HasWholePublishes};
 ghost use Rattle.mf_live.specs.Sheets.{HasLearnt, HasLookedAt, IsLastNotTaken, sheet_picture, sheet_revision};
 ghost use Rattle.mf_live.specs.Viewers as viewers;
 ghost use Rattle.mf_live.specs.Writers as writers;
-ghost use Rattle.mf_live.specs.World.{new_world, Happen, EverySchedule, IsPending, published_of};
+ghost use Rattle.mf_live.specs.World.{new_world, Happen, EverySchedule, IsPending, published_list_of};
 
 use crate::closing::Closing;
 use crate::look::{Look, NoLook};
@@ -32,17 +32,18 @@ pub fn every_schedule(max_ops: u32)
 /// look shows what is published at its moment (`every_schedule`), so no look goes back.
 pub fn looks_never_go_back(max_ops: u32)
     ensures prefix { (before between : List Event) → Happen max_ops new_world (before ++ between)
-        → IsWholePrefix (published_of before) (published_of (before ++ between)) }
+        → IsWholePrefix (published_list_of before) (published_list_of (before ++ between)) }
     ensures revision { (before between : List Event) → Happen max_ops new_world (before ++ between)
-        → revision_at (published_of before) ≤ revision_at (published_of (before ++ between)) }
+        → revision_at (published_list_of before) ≤ revision_at (published_list_of (before ++ between)) }
 {}
 
 /// A whole prefix of what is published has, of each publish, nothing or all of it. So has what was published earlier, and in a list
 /// of events a look shows what is published at its moment (`every_schedule`).
 pub fn looks_show_whole_publishes(max_ops: u32)
-    ensures whole { (shown : List Entry) (events : List Event) → IsWholePrefix shown (published_of events) → HasWholePublishes shown (published_of events) }
+    ensures whole { (shown : List Entry) (events : List Event) → IsWholePrefix shown (published_list_of events)
+        → HasWholePublishes shown (published_list_of events) }
     ensures earlier { (before after : List Event) → Happen max_ops new_world (before ++ after)
-        → HasWholePublishes (published_of before) (published_of (before ++ after)) }
+        → HasWholePublishes (published_list_of before) (published_list_of (before ++ after)) }
 {}
 
 /// Whatever a writer has done, what is accepted and published is as `every_schedule` says: no accepted operation is refused, and
@@ -71,7 +72,7 @@ pub fn published_is_visible_halfway(closing: &Closing)
 /// it knows have published.
 pub fn look_has_whole_publishes(look: &Look)
     ensures { (since : List Event) → Happen most_accepted new_world (viewers.look_events look.now ++ since)
-        → HasWholePublishes (viewers.shown_list look.now) (published_of (viewers.look_events look.now ++ since)) }
+        → HasWholePublishes (viewers.shown_list look.now) (published_list_of (viewers.look_events look.now ++ since)) }
 {}
 
 /// A notice tells a list that the events which it knows have published: all of these can happen in their order, they have accepted

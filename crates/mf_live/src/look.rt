@@ -2,7 +2,7 @@
 ghost use Rattle.std.specs.Prelude.{◌≡◌, ◌≤◌, true, length};
 ghost use Rattle.left_right.specs.Sides.{view};
 ghost use Rattle.mf_live.specs.Rule.{knowledge_of};
-ghost use Rattle.mf_live.specs.World.{published_of};
+ghost use Rattle.mf_live.specs.World.{published_list_of};
 
 use crate::notice::Notice;
 use crate::rule::Lists;
@@ -13,8 +13,9 @@ use left_right::reader::Reading;
 mod showing;
 
 /// A look is not answered: everything was discarded at the writer's side, or the copy that the look entered is older than a
-/// notice that the viewer has learnt. The second does not happen, since a notice is made only once its publish has returned, but
-/// no contract of the toolchain says so. A later look enters a copy anew.
+/// notice that the viewer has learnt. The second does not happen, since a notice is made only once its publish has returned.
+/// No contract of the toolchain says this, nor that a look is answered before a discard; tests show it. A later look enters a
+/// copy anew.
 #[derive(Clone, Copy, Debug, PartialEq, Eq)]
 pub struct NoLook;
 
@@ -24,9 +25,9 @@ pub struct Look {
     pub(crate) reading: Reading<Version, View, Lists>,
     pub(crate) known: Notice,
     ghost identified: { (view reading.place).identified ≡ true },
-    ghost book: { (view reading.place).now.seen.book ≡ known.prefix.knowledge.seen.book },
-    ghost knowledge: { (view reading.place).now ≡ knowledge_of reading.part.value },
-    ghost enough: { length (published_of known.prefix.knowledge.seen.log) ≤ length (published_of (view reading.place).now.seen.log) },
+    ghost book: { (view reading.place).latest.seen.book ≡ known.prefix.knowledge.seen.book },
+    ghost knowledge: { (view reading.place).latest ≡ knowledge_of reading.part.value },
+    ghost enough: { length (published_list_of known.prefix.knowledge.seen.log) ≤ length (published_list_of (view reading.place).latest.seen.log) },
 }
 
 impl Drop for Look {

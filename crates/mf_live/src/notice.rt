@@ -1,7 +1,7 @@
 //! Notices, from which viewers learn of a publish.
 ghost use Rattle.std.specs.Prelude.{◌≡◌};
 ghost use Rattle.mf_live.specs.Entries.{revision_at};
-ghost use Rattle.mf_live.specs.World.{accepted_of, published_of};
+ghost use Rattle.mf_live.specs.World.{accepted_list_of, published_list_of};
 
 use crate::history::Prefix;
 
@@ -13,6 +13,6 @@ pub struct Notice {
     pub(crate) prefix: Prefix,
     pub(crate) number: u32,
     // The type keeps this, since `tell` and `learn` of `left_right` cannot carry it.
-    ghost whole: { accepted_of prefix.knowledge.seen.log ≡ published_of prefix.knowledge.seen.log },
-    ghost numbered: { number ≡ revision_at (published_of prefix.knowledge.seen.log) },
+    ghost whole: { accepted_list_of prefix.knowledge.seen.log ≡ published_list_of prefix.knowledge.seen.log },
+    ghost numbered: { number ≡ revision_at (published_list_of prefix.knowledge.seen.log) },
 }

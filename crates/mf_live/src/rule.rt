@@ -21,18 +21,18 @@ impl Protocol<Version, View> for Lists {
 pub struct Looks;
 
 impl Outcome<Version, View> for Looks {
-    ghost use Rattle.mf_live.specs.Rule.{IsLook, now_of};
+    ghost use Rattle.mf_live.specs.Rule.{IsLook, latest_knowledge};
 
-    ghost then = { λ v x y w. IsLook now_of v y w };
+    ghost then = { λ v x y w. IsLook latest_knowledge v y w };
 }
 
 /// A look where the copy that was entered last was not shown, because it was older than a notice.
 pub struct LooksAgain;
 
 impl Outcome<Version, View> for LooksAgain {
-    ghost use Rattle.mf_live.specs.Rule.{IsLook, last_of};
+    ghost use Rattle.mf_live.specs.Rule.{IsLook, earlier_knowledge};
 
-    ghost then = { λ v x y w. IsLook last_of v y w };
+    ghost then = { λ v x y w. IsLook earlier_knowledge v y w };
 }
 
 /// The writer shows a version. Opening a picture takes this step too: it is how the writer learns which picture it has.

@@ -6,7 +6,7 @@ use std::fmt;
 
 mod taking;
 
-/// What a look has shown. It stays as it is, whatever is published later, and shares its rows with the live picture.
+/// What a look has shown. It stays as it is, whatever is published later. It may share rows with the live picture.
 #[derive(Drop)]
 pub struct Sheet {
     pub(crate) picture: Picture,

@@ -8,9 +8,9 @@ pub struct View {
     /// Whether it knows which picture it is.
     pub identified: bool,
     /// What it had seen before its last look.
-    pub last: Knowledge,
+    pub earlier: Knowledge,
     /// What it saw at its last look.
-    pub now: Knowledge,
+    pub latest: Knowledge,
     /// The writer's events that are not in the book yet. They go there at the next publish, since writing there needs the right
     /// to wait.
     pub unwritten: LinkedList<Event>,

@@ -20,5 +20,5 @@ pub struct Viewer {
     pub(crate) missed: bool,
     ghost identified: { (view reader.place).identified ≡ true },
     // Only the book ties a viewer to its picture: `left_right` says of which table a new reader is, but not once it has looked.
-    ghost book: { (view reader.place).now.seen.book ≡ known.prefix.knowledge.seen.book },
+    ghost book: { (view reader.place).latest.seen.book ≡ known.prefix.knowledge.seen.book },
 }

@@ -7,8 +7,8 @@ use crate::holder::Holder;
 
 mod changing;
 
-/// The writer of a picture: the only one who changes it. It is not `Drop`, since ending it may mean waiting for looks: end it
-/// with `close` or `discard`.
+/// The writer of a picture: the only one with calls that change it. It is not `Drop`, since ending it may mean waiting for looks:
+/// end it with `close` or `discard`.
 pub struct Writer {
     pub(crate) holder: Holder,
     pub(crate) max_ops: u32,

@@ -68,9 +68,9 @@ next_picture-from_weights ds op new picture has = picture_of-from_weights new (s
 -- ---- how the cycle turns
 
 -- a fault in how a cycle turns comes before all others
-pub op_fault-turn : (ds : List Dot) (op : Op) (fault : OpFault) → cycle_fault op ≡ Some fault → op_fault ds op ≡ Some fault
+pub op_fault-cycle : (ds : List Dot) (op : Op) (fault : OpFault) → cycle_fault op ≡ Some fault → op_fault ds op ≡ Some fault
 unfolding op_fault
-op_fault-turn ds op fault found = ap (λ (turn : Option OpFault). option_or turn (pixel_fault ds op)) found
+op_fault-cycle ds op fault found = ap (λ (turn : Option OpFault). option_or turn (pixel_fault ds op)) found
 
 -- where the turning check finds none, the pixels decide
 op_fault-pixels : (ds : List Dot) (op : Op) → TurnsLawfully op → op_fault ds op ≡ pixel_fault ds op
@@ -98,7 +98,7 @@ unfolding TurnsOrFails
 from_pixels ds op found other is =
     elim (turns_or_fails op) [
       | inl turns ↦ (turns, sym (op_fault-pixels ds op turns) ∙ is)
-      | inr fails ↦ absurd (other fails.0 (sym (op_fault-turn ds op (Cycle fails.0) fails.1) ∙ is))
+      | inr fails ↦ absurd (other fails.0 (sym (op_fault-cycle ds op (Cycle fails.0) fails.1) ∙ is))
     ]
 
 pixels_not_turning : (out large : Bool) (f : CycleFault) → cond out (Some OutOfField) (cond large (Some WeightTooLarge) None) ≢ Some (Cycle f)
@@ -114,7 +114,7 @@ refused_from : (ds : List Dot) (ps : List Point) (w : ℤ) (fault : CycleFault) 
     → op_fault ds (Contour ps w On) ≡ Some (Cycle fault) → turning_fault ps ≡ Some fault
 refused_from ds ps w fault None is refused = absurd (not_turning ds (Contour ps w On) fault (record { none = ap (option_map Cycle) is }) refused)
 refused_from ds ps w fault (Some f) is refused =
-    let first = op_fault-turn ds (Contour ps w On) (Cycle f) (ap (option_map Cycle) is) in
+    let first = op_fault-cycle ds (Contour ps w On) (Cycle f) (ap (option_map Cycle) is) in
     let same : f ≡ fault = cc in
     is ∙ ap Some same
 

@@ -53,7 +53,7 @@ performed_once limits s (line ∷ more) a b (first, rest, answer, performed, is)
     let same = one_answer limits s line first first_too answer answer_too in
     let after = subst (λ x. Perform limits x.next more rest) same performed in
     is ∙ ap (λ x. joint_answer x rest) same
-      ∙ ap (joint_answer first_too) (performed_once limits first_too.next more rest rest_too after performed_too) ∙ sym is_too
+    ∙ ap (joint_answer first_too) (performed_once limits first_too.next more rest rest_too after performed_too) ∙ sym is_too
 
 pub one_transcript : (limits : Limits) (input text other : List ℕ) → IsTranscript limits input text → IsTranscript limits input other → text ≡ other
 one_transcript limits input text other p q =

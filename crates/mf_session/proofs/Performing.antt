@@ -4,9 +4,9 @@ use Rattle.mf_session.specs.Answers.{Answers}
 use Rattle.mf_session.specs.States.{Answer, Limits, State, answer_with, joint_answer}
 use Rattle.mf_session.specs.Transcript.{Perform}
 
--- of three answers, the last two may be joint_answer first
-joined_assoc : (a b c : Answer) → joint_answer (joint_answer a b) c ≡ joint_answer a (joint_answer b c)
-joined_assoc a b c = ap (λ text. answer_with text c.next) (append_assoc a.text b.text c.text)
+-- of three answers, the last two may be joined first
+joint_answer-assoc : (a b c : Answer) → joint_answer (joint_answer a b) c ≡ joint_answer a (joint_answer b c)
+joint_answer-assoc a b c = ap (λ text. answer_with text c.next) (append_assoc a.text b.text c.text)
 
 -- the first lines are performed, and then the others
 pub Perform-append : (limits : Limits) (s : State) (lines more : List (List ℕ)) (a b : Answer)
@@ -17,7 +17,7 @@ Perform-append limits s (line ∷ lines) more a b (first, rest, answer, performe
   joint_answer rest b,
   answer,
   Perform-append limits first.next lines more rest b performed (rw is at after),
-  rw is (joined_assoc first rest b),
+  rw is (joint_answer-assoc first rest b),
 )
 
 -- one line is performed
@@ -30,4 +30,4 @@ pub Perform-split : (limits : Limits) (s : State) (lines more : List (List ℕ))
 Perform-split limits s [] more whole performed = (answer_with [] s, whole, refl, performed, refl)
 Perform-split limits s (line ∷ lines) more whole (first, rest, answer, performed, is) =
     let (a, b, before, after, cut) = Perform-split limits first.next lines more rest performed in
-    (joint_answer first a, b, (first, a, answer, before, refl), after, is ∙ ap (joint_answer first) cut ∙ sym (joined_assoc first a b))
+    (joint_answer first a, b, (first, a, answer, before, refl), after, is ∙ ap (joint_answer first) cut ∙ sym (joint_answer-assoc first a b))

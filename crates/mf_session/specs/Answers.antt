@@ -12,7 +12,7 @@ use Rattle.mf_text.specs.declared.command.Command.TheVariants.{Nothing, Turning,
 use Rattle.mf_text.specs.declared.command.Command.TheVariants.{Total, Show, Proof, Ship, Publish}
 use Rattle.mf_text.specs.declared.fault.TextFault.{TextFault}
 use Rattle.mf_text.specs.declared.fault.TextFault.TheVariants.{OutOfMemory}
-use Rattle.mf_session.specs.Changes.{OpOn, all_published, on, next_pictures, printed_by, published_line}
+use Rattle.mf_session.specs.Changes.{OpOn, pictures_after_publish, on, next_pictures, operation_text, published_line}
 use Rattle.mf_session.specs.Pictures.{source_picture}
 use Rattle.mf_session.specs.Refusals.{refusal_line}
 use Rattle.mf_session.specs.Shipments.{Ships}
@@ -26,7 +26,7 @@ Prints s line a = a ≡ answer_with line s
 -- what an operation on a picture answers
 abbrev pub Operates : Limits → State → OpOn → Answer → Type 0
 Operates limits s o a =
-    a ≡ answer_with (printed_by limits.max_ops s.pictures o) (record s { pictures = next_pictures limits.max_ops s.pictures o })
+    a ≡ answer_with (operation_text limits.max_ops s.pictures o) (record s { pictures = next_pictures limits.max_ops s.pictures o })
 
 -- the line that shows a total weight
 abbrev pub total_line : List Dot → List ℕ
@@ -61,7 +61,7 @@ AnswersTo limits s (Total source) a = Prints s (total_line (source_picture s.pic
 AnswersTo limits s (Show source) a = Prints s (run_text (source_picture s.pictures source)) a
 AnswersTo limits s (Proof source) a = ProofAnswers (source_picture s.pictures source) a.text × (a.next ≡ s)
 AnswersTo limits s (Ship source code dx width) a = Ships limits s (character code dx width (source_picture s.pictures source)) a
-AnswersTo limits s Publish a = a ≡ answer_with (published_line s.pictures) (record s { pictures = all_published s.pictures })
+AnswersTo limits s Publish a = a ≡ answer_with (published_line s.pictures) (record s { pictures = pictures_after_publish s.pictures })
 
 -- a line gives a command, and answers what the command answers
 pub record IsPerformed (limits : Limits) (s : State) (line : List ℕ) (a : Answer) : Type 0 where

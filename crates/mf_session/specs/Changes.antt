@@ -7,7 +7,7 @@ use Rattle.mf_ops.specs.Step.{next_picture, op_fault}
 use Rattle.mf_ops.specs.declared.op.Op.{Op}
 use Rattle.mf_text.specs.declared.command.Name.{Name}
 use Rattle.mf_text.specs.declared.command.Name.TheVariants.{Current, Register}
-use Rattle.mf_session.specs.Pictures.{Pictures, accepted_with}
+use Rattle.mf_session.specs.Pictures.{Pictures, accepted_list_with}
 use Rattle.mf_session.specs.Refusals.{refusal_line}
 use Rattle.mf_session.specs.declared.refusal.Refusal.TheVariants.{Operation as RefusedOperation}
 
@@ -24,13 +24,13 @@ IsClearable max_ops s (Register number) = Unit {0}
 
 -- the pictures after an operation on one of them
 abbrev pub pictures_after : Pictures → Name → Op → Pictures
-pictures_after s Current op = record s { accepted = accepted_with s (Operation op) }
+pictures_after s Current op = record s { accepted = accepted_list_with s (Operation op) }
 pictures_after s (Register number) op = record s { registers = slice_set s.registers number (next_picture (slice_index_or s.registers number []) op) }
 
 -- an operation that is refused prints why, and any other prints nothing
-abbrev pub operation_line : Option Fault → List ℕ
-operation_line None = []
-operation_line (Some why) = refusal_line (RefusedOperation why)
+abbrev pub line_of_refusal : Option Fault → List ℕ
+line_of_refusal None = []
+line_of_refusal (Some why) = refusal_line (RefusedOperation why)
 
 -- an operation that is refused changes nothing, and any other makes the new pictures
 abbrev pub unless_refused : Option Fault → Pictures → Pictures → Pictures
@@ -47,8 +47,8 @@ abbrev pub on : Name → Op → OpOn
 on name op = record { name = name; op = op }
 
 -- what an operation on a picture prints
-abbrev pub printed_by : ℕ → Pictures → OpOn → List ℕ
-printed_by max_ops s o = operation_line (refusal_of max_ops s o.name o.op)
+abbrev pub operation_text : ℕ → Pictures → OpOn → List ℕ
+operation_text max_ops s o = line_of_refusal (refusal_of max_ops s o.name o.op)
 
 -- the pictures after it
 abbrev pub next_pictures : ℕ → Pictures → OpOn → Pictures
@@ -59,5 +59,5 @@ abbrev pub published_line : Pictures → List ℕ
 published_line s = codes "published " ++ decimal (revision_at s.accepted) ++ codes "\n"
 
 -- the pictures once everything that was accepted is published
-abbrev pub all_published : Pictures → Pictures
-all_published s = record s { published = s.accepted }
+abbrev pub pictures_after_publish : Pictures → Pictures
+pictures_after_publish s = record s { published = s.accepted }

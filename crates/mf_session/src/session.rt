@@ -48,7 +48,7 @@ impl Session {
     /// them. The session accepts at most `max_ops` operations on `currentpicture`. Its font file has no comment and at most
     /// `max_bytes` bytes; more than 2,147,483,647 count as that. Requires at most 64 places. Refused with `FileTooLong` exactly
     /// where `max_bytes` is below 3, since the preamble alone has three bytes, and with `OutOfMemory` where an allocation fails.
-    /// It takes `rt` because opening a live picture publishes once, but it waits for nobody, since nobody looks yet.
+    /// It takes `rt` because opening a live picture publishes once, but nobody looks yet for whom it could wait.
     pub fn new<R: Wait>(
         rt: &R,
         alloc: Global,
@@ -83,8 +83,8 @@ impl Session {
         self.variables.picture(name)
     }
 
-    /// The revision of `currentpicture`: how many operations it has accepted, published or not. After a line that publishes, it
-    /// is the revision that viewers see.
+    /// The revision of `currentpicture`: how many operations it has accepted, published or not. After a line that publishes, all
+    /// of them are published.
     pub fn revision(&self) -> u32
         ensures { (s : State) → StandsFor self.now s → result ≡ revision_at s.pictures.accepted }
     {
@@ -94,8 +94,7 @@ impl Session {
     /// Performs a line of a script, given without the line feed that ends it or a carriage return before that, and answers with
     /// what it prints. A refused line prints its refusal and changes nothing. `publish` may wait for looks that are held. Refused
     /// with `OutOfMemory` where an allocation fails: then nothing has changed, and the line can be performed again. That never
-    /// happens to a line with no command, to one that sets the turning check, or to a clear that is accepted: these allocate
-    /// nothing.
+    /// happens to a line with no command, to one that sets the turning check, or to a clear that is accepted.
     // As a function of its own, it costs each line some thirty instructions more.
     #[inline(always)]
     pub fn command<R: Wait>(
@@ -156,7 +155,8 @@ impl Session {
         }
     }
 
-    /// Ends the session without an end mark. It may wait for looks that are held, and looks may be refused from then on.
+    /// Ends the session without an end mark. It may wait for looks that are held, and looks may be refused from then on. Nothing
+    /// is left that a clause could be about.
     pub fn discard<R: Wait>(self, rt: &R) {
         self.into_writer().discard(rt);
     }
@@ -175,7 +175,8 @@ impl Session {
 }
 
 impl EndFault {
-    /// Ends what was handed back. It may wait for looks that are held, and looks may be refused from then on.
+    /// Ends what was handed back. It may wait for looks that are held, and looks may be refused from then on. Nothing is left that
+    /// a clause could be about.
     pub fn discard<R: Wait>(self, rt: &R) {
         match self {
             EndFault::Kept(session) => session.discard(rt),

@@ -2,7 +2,7 @@
 
 /// Learns of each look of the viewers that run in threads, while the look is held. It may wait. That stops no other viewer, and
 /// it delays the writer only in calls that may wait for held looks, as a publish does. Whoever joins the threads waits for all
-/// their gates.
+/// their gates. A call of a gate leaves nothing that a clause could be about; tests count them.
 pub trait Gate: Send + Sync + Drop {
     /// The viewer `viewer` holds its look `look`. Both are counted from 0.
     fn hold(&self, viewer: u32, look: u32);

@@ -13,12 +13,12 @@ use mf_live::laws::last_sheet;
 use mf_live::{NoLook, Notice, SheetFault, Viewer};
 use std::alloc::Global;
 
-/// A viewer, and the record of what it has seen in each of its looks.
+/// A viewer, and the record of its looks.
 #[derive(Drop)]
 pub struct Watcher {
     /// The viewer that looks.
     pub(crate) viewer: Viewer,
-    /// What it saw in each look, in order.
+    /// Its record: a glance for each look, in order.
     pub(crate) seen: Vec<Glance>,
 }
 
@@ -33,7 +33,8 @@ impl Watcher {
         })
     }
 
-    /// Looks `looks` times, and lets the gate know of each look while it is held. Refused with `NoLook` where a look is refused.
+    /// The viewer with the record of `looks` looks, of which the gate learns while they are held. Refused with `NoLook` where a look
+    /// is refused. No clause says that it looks anew for each glance, or that it calls the gate; tests show both.
     pub(crate) fn watch<G: Gate>(self, number: u32, looks: u32, gate: &G) -> Result<Watcher, NoLook>
         requires { IsWatcher (identity self) 0 (looks + 1) self }
         ensures watcher { IfOk result (IsWatcher (identity self) looks 1) }
@@ -46,7 +47,7 @@ impl Watcher {
         Ok(watcher)
     }
 
-    /// Looks once, as look `look` of viewer `number`.
+    /// Looks once, as look `look` of viewer `number`. Refused with `NoLook` where the look is refused.
     fn look<G: Gate>(self, number: u32, look: u32, gate: &G) -> Result<Watcher, NoLook>
         requires { HasRoomFor 1 self }
         ensures watcher { IfOk result (λ after. (picture : Book) (looks more : ℕ)

@@ -13,12 +13,12 @@ use std::snapshot::Snapshot;
 use std::sync::Arc;
 use std::thread::{Promise, PromisedHandle, Threads, spawn_with};
 
-/// What the thread of a viewer promises: this many looks.
+/// What the thread of a viewer promises: the record of this many looks.
 #[derive(Drop)]
 pub(crate) struct OwedLooks {
     /// The viewer as it was when the thread started.
     pub(crate) watcher: Snapshot<Watcher>,
-    /// How often it looks.
+    /// How many looks the record has.
     pub(crate) looks: u32,
 }
 
@@ -60,10 +60,11 @@ fn watchers(alloc: Global, desk: Desk, viewers: u32, looks: u32) -> Result<Vec<W
 impl Watching {
     ghost use Rattle.mf_watch.specs.Watching.{AreStarted, viewer_count};
 
-    /// Starts a thread for each of `viewers` viewers of a desk, in which the viewer looks `looks` times. Requires at most 64
-    /// viewers. All memory for their records is allocated before the first thread starts, so only the start of a thread can fail
-    /// after that. Refused with `NoPlace` where there is no place or no thread for a viewer, or the gate cannot be shared with
-    /// it, and with `OutOfMemory` where an allocation fails. The threads that were started by then are joined.
+    /// Starts a thread for each of `viewers` viewers of a desk. Each thread promises the record of `looks` looks. Requires at most
+    /// 64 viewers. Refused with `NoPlace` where there is no place or no thread for a viewer, or the gate cannot be shared with it,
+    /// and with `OutOfMemory` where an allocation fails. No clause says that threads that were started by then are joined; tests
+    /// show it.
+    // All memory for the records is allocated before the first thread starts, so only the start of a thread can fail after that.
     pub fn start<S: Threads, G: Gate + 'static>(
         rt: &S,
         alloc: Global,
@@ -137,8 +138,8 @@ impl Watching {
         }
     }
 
-    /// Joins all threads, and so waits for their gates. Refused with `NoLook` where a look was refused in one of them; all of
-    /// them are joined even then.
+    /// Joins the threads, and so waits for their gates. Refused with `NoLook` where a look was refused in one of them. No clause
+    /// says that all of them are joined even then; tests show it.
     pub fn join<S: Threads>(self, rt: &S) -> Result<Vec<Watcher>, NoLook>
         ensures watchers { IfOk result (λ watchers. (picture : Book) (looks : ℕ) → AreStarted picture looks self
             → All (IsWatcher picture looks 1) watchers.items) }

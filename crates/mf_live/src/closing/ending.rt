@@ -58,7 +58,7 @@ impl Closing {
     }
 
     /// Ends the picture without publishing its end mark. It may wait for looks that are held, and looks may be refused from then
-    /// on.
+    /// on. Nothing is left that a clause could be about.
     pub fn discard<R: Wait>(self, rt: &R) {
         self.into_swap().take(rt);
     }
@@ -83,7 +83,8 @@ impl Ended {
         self.swap.published().notice.copy()
     }
 
-    /// Ends the picture. It may wait for looks that are held, and looks may be refused from then on.
+    /// Ends the picture. It may wait for looks that are held, and looks may be refused from then on. Nothing is left that a clause
+    /// could be about.
     pub fn discard<R: Wait>(self, rt: &R) {
         self.into_swap().take(rt);
     }

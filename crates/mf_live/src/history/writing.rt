@@ -61,7 +61,7 @@ fn try_write<N: Happening>(head: &Head, prefix: &mut Prefix, count: u64) -> bool
     requires count { count ≡ length N.more }
     requires room { prefix.old.events + count < 2 ^ 64 }
     requires lawful { Happen most_accepted (world_after new_world prefix.old.knowledge.seen.log) N.more }
-    requires alive { (world_after new_world (prefix.old.knowledge.seen.log ++ N.more)).dropped ≡ false }
+    requires alive { (world_after new_world (prefix.old.knowledge.seen.log ++ N.more)).gone ≡ false }
     ensures book { prefix.new.knowledge.seen.book ≡ prefix.old.knowledge.seen.book }
     ensures log { MatchBool result (prefix.new.knowledge.seen.log ≡ prefix.old.knowledge.seen.log ++ N.more)
         (prefix.new.knowledge.seen.log ≡ prefix.old.knowledge.seen.log) }
@@ -93,7 +93,7 @@ pub(crate) fn write<N: Happening, R: Wait>(rt: &R, head: &Head, prefix: &mut Pre
     requires count { count ≡ length N.more }
     requires room { prefix.old.events + count < 2 ^ 64 }
     requires lawful { Happen most_accepted (world_after new_world prefix.old.knowledge.seen.log) N.more }
-    requires alive { (world_after new_world (prefix.old.knowledge.seen.log ++ N.more)).dropped ≡ false }
+    requires alive { (world_after new_world (prefix.old.knowledge.seen.log ++ N.more)).gone ≡ false }
     ensures book { prefix.new.knowledge.seen.book ≡ prefix.old.knowledge.seen.book }
     ensures log { prefix.new.knowledge.seen.log ≡ prefix.old.knowledge.seen.log ++ N.more }
 {

@@ -5,7 +5,7 @@ ghost use Rattle.mf_geom.specs.declared.cycle.CycleFault.{CycleFault};
 ghost use Rattle.mf_ops.specs.Step.{op_fault};
 ghost use Rattle.mf_ops.specs.declared.op.Op.TheVariants.{Clear};
 ghost use Rattle.mf_live.specs.Books.{most_accepted};
-ghost use Rattle.mf_live.specs.Entries.{entry, picture_at, revision_at, next, is_closed, Operation, End};
+ghost use Rattle.mf_live.specs.Entries.{entry, picture_at, revision_at, next_label, is_closed, Operation, End};
 ghost use Rattle.mf_live.specs.Holders.{identity, accepted_list, knowledge, published_list};
 ghost use Rattle.mf_live.specs.Rule.{view_knowing, knowledge_of, with_event};
 ghost use Rattle.mf_live.specs.declared.event.Event.TheVariants.{Accept};
@@ -81,7 +81,7 @@ impl Holder {
         requires few { revision_at (accepted_list self.old) < most_accepted }
         ensures identity { identity self.new ≡ identity self.old }
         ensures accepted { MatchResult result
-            (λ _. accepted_list self.new ≡ accepted_list self.old ++ entry (next (published_list self.old)) (Operation op.now) ∷ [])
+            (λ _. accepted_list self.new ≡ accepted_list self.old ++ entry (next_label (published_list self.old)) (Operation op.now) ∷ [])
             (λ _. accepted_list self.new ≡ accepted_list self.old) }
         ensures published { published_list self.new ≡ published_list self.old }
         ensures allowed { OnOk result (op_fault (picture_at (accepted_list self.old)) op.now ≡ None) }
@@ -102,7 +102,7 @@ impl Holder {
     pub(crate) fn end(&mut self)
         requires open { is_closed (accepted_list self.old) ≡ false }
         ensures identity { identity self.new ≡ identity self.old }
-        ensures accepted { accepted_list self.new ≡ accepted_list self.old ++ entry (next (published_list self.old)) End ∷ [] }
+        ensures accepted { accepted_list self.new ≡ accepted_list self.old ++ entry (next_label (published_list self.old)) End ∷ [] }
         ensures published { published_list self.new ≡ published_list self.old }
         ensures working { self.new.working ≡ self.old.working }
         ensures waits { 0 < self.new.unwritten }

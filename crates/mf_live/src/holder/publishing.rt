@@ -34,7 +34,7 @@ fn write_publish<N: Happening, R: Wait>(
     requires count { count ≡ length (publish_events (view swap.now.desk.place)) }
     requires room { prefix.old.events + count < 2 ^ 64 }
     requires lawful { Happen most_accepted (world_after new_world prefix.old.knowledge.seen.log) (publish_events (view swap.now.desk.place)) }
-    requires alive { (world_after new_world (prefix.old.knowledge.seen.log ++ publish_events (view swap.now.desk.place))).dropped ≡ false }
+    requires alive { (world_after new_world (prefix.old.knowledge.seen.log ++ publish_events (view swap.now.desk.place))).gone ≡ false }
     ensures book { prefix.new.knowledge.seen.book ≡ prefix.old.knowledge.seen.book }
     ensures log { prefix.new.knowledge.seen.log ≡ prefix.old.knowledge.seen.log ++ publish_events (view swap.now.desk.place) }
 {

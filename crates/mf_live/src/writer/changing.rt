@@ -3,7 +3,7 @@ ghost use Rattle.std.specs.Prelude.{◌≡◌, ◌≢◌, ◌-◌, ◌<◌, [], 
 ghost use Rattle.mf_geom.specs.declared.cycle.CycleFault.{CycleFault};
 ghost use Rattle.mf_ops.specs.Step.{op_fault};
 ghost use Rattle.mf_ops.specs.declared.op.Op.TheVariants.{Clear};
-ghost use Rattle.mf_live.specs.Entries.{entry, picture_at, revision_at, next, Operation};
+ghost use Rattle.mf_live.specs.Entries.{entry, picture_at, revision_at, next_label, Operation};
 ghost use Rattle.mf_live.specs.Viewers.{notice_identity, told_list};
 ghost use Rattle.mf_live.specs.Writers.{identity, accepted_list, published_list, max_ops, IsSameWriter};
 
@@ -28,7 +28,7 @@ impl Writer {
         ensures published { published_list self.new ≡ published_list self.old }
         ensures max_ops { max_ops self.new ≡ max_ops self.old }
         ensures accepted { MatchResult result
-            (λ _. accepted_list self.new ≡ accepted_list self.old ++ entry (next (published_list self.old)) (Operation op) ∷ [])
+            (λ _. accepted_list self.new ≡ accepted_list self.old ++ entry (next_label (published_list self.old)) (Operation op) ∷ [])
             (λ _. accepted_list self.new ≡ accepted_list self.old) }
         ensures allowed { OnOk result ((revision_at (accepted_list self.old) < max_ops self.old) × (op_fault (picture_at (accepted_list self.old)) op ≡ None)) }
         ensures handed_back { IfErr result (λ refused. refused.0 ≡ op) }
@@ -50,7 +50,7 @@ impl Writer {
         }
     }
 
-    /// The working picture: that of all accepted operations, which viewers see from the next publish on.
+    /// The working picture: that of all accepted operations, published or not.
     pub fn working(&self) -> &Picture
         ensures { result.now ≡ picture_at (accepted_list self.now) }
     {
@@ -71,7 +71,7 @@ impl Writer {
         self.holder.revision - self.holder.swap.published().notice.number
     }
 
-    /// Publishes all accepted operations at once; where all are published already, it does nothing, and is never refused. It may
+    /// Publishes all accepted operations at once; where all are published already, nothing changes, and it is never refused. It may
     /// wait for looks that are held. Refused with `OutOfMemory` where an allocation fails: nothing is published then, and the
     /// call can be made again.
     pub fn publish<R: Wait>(&mut self, rt: &R) -> Result<(), OutOfMemory>
@@ -94,7 +94,8 @@ impl Writer {
         self.holder.swap.published().notice.copy()
     }
 
-    /// Ends the picture without an end mark. It may wait for looks that are held, and looks may be refused from then on.
+    /// Ends the picture without an end mark. It may wait for looks that are held, and looks may be refused from then on. Nothing is
+    /// left that a clause could be about.
     pub fn discard<R: Wait>(self, rt: &R) {
         self.into_swap().take(rt);
     }

@@ -6,7 +6,7 @@ use Rattle.mf_geom.specs.declared.check.Check.TheVariants.{Off, On}
 use Rattle.mf_geom.specs.Turning.{turning}
 use Rattle.mf_ops.specs.declared.op.Op.TheVariants.{Contour}
 use Rattle.mf_ops.specs.declared.op.OpFault.TheVariants.{Cycle}
-use Rattle.mf_ops.proofs.Faults.{FillsWith-checked, op_fault-turn}
+use Rattle.mf_ops.proofs.Faults.{FillsWith-checked, op_fault-cycle}
 use Rattle.mf_ops.proofs.fill.filling_weight.Goals as goal
 
 pub returns-in-Ok-clause-fills : goal.returns-in-Ok-clause-fills
@@ -22,4 +22,4 @@ returns-in-Off-clause-fills c =
 
 pub returns-in-Err-clause-refused : goal.returns-in-Err-clause-refused
 returns-in-Err-clause-refused c ds =
-    rw c.in-On.is (op_fault-turn ds (Contour c.args.cycle.now c.args.weight On) (Cycle c.in-Err.fault) (ap (option_map Cycle) c.in-Err.ensures.refused))
+    rw c.in-On.is (op_fault-cycle ds (Contour c.args.cycle.now c.args.weight On) (Cycle c.in-Err.fault) (ap (option_map Cycle) c.in-Err.ensures.refused))

@@ -5,7 +5,7 @@ use Rattle.mf_ops.specs.declared.op.Op.TheVariants.{Contour, Also, Cull, Shift, 
 use Rattle.mf_ops.specs.declared.op.OpFault.TheVariants.{Cycle}
 use Rattle.mf_geom.specs.declared.check.Check.TheVariants.{On, Off}
 use Rattle.mf_ops.specs.Step.{IsChecked, TurnsLawfully}
-use Rattle.mf_ops.proofs.Faults.{op_fault-turn, turning_fault-refused, not_turning}
+use Rattle.mf_ops.proofs.Faults.{op_fault-cycle, turning_fault-refused, not_turning}
 use Rattle.mf_ops.proofs.laws.refused_where_it_turns_back.Goals as goal
 
 not_checked : (op : Op) → (IsChecked op → ⊥) → TurnsLawfully op
@@ -22,7 +22,7 @@ pub returns : goal.returns
 returns c = record {
   checked = λ ds ps w fault. (
     turning_fault-refused ds ps w fault,
-    λ is. op_fault-turn ds (Contour ps w On) (Cycle fault) (ap (option_map Cycle) is),
+    λ is. op_fault-cycle ds (Contour ps w On) (Cycle fault) (ap (option_map Cycle) is),
   );
   unchecked = not_checked;
   lawful = not_turning;

@@ -5,7 +5,7 @@ use Rattle.mf_live.specs.declared.history.Knowledge.{Knowledge}
 use Rattle.mf_live.specs.declared.view.View.{View}
 use Rattle.mf_live.specs.Books.{most_accepted, counter_of}
 use Rattle.mf_live.specs.Rule.{events_of, history, knowledge_of}
-use Rattle.mf_live.specs.World.{Happen, new_world, world_after, accepted_of, published_of}
+use Rattle.mf_live.specs.World.{Happen, new_world, world_after, accepted_list_of, published_list_of}
 use Rattle.mf_live.proofs.Blank.{picture_at-blank, revision_at-blank}
 use Rattle.mf_live.proofs.holder.Holder.open.Goals as goal
 
@@ -19,12 +19,12 @@ invariant_of-result g c =
     let happened : history swap.desk.shown.value (view swap.desk.place) ≡ [] = λ i. shows i ++ written i in
     record {
       head_is = c.open_history-head.ensures.head ∙ sym (ap (λ (t : Knowledge). counter_of t.seen.book) same);
-      shown_is = ap published_of (shows ∙ sym happened);
+      shown_is = ap published_list_of (shows ∙ sym happened);
       lawful = subst (Happen most_accepted new_world) (sym happened) tt;
-      alive = ap (λ (es : List Event). (world_after new_world es).dropped) happened;
+      alive = ap (λ (es : List Event). (world_after new_world es).gone) happened;
       counted = sym (ap length written);
-      pictured = c.blank-2.ensures ∙ sym (picture_at-blank _ (ap accepted_of happened));
-      numbered = sym (revision_at-blank _ (ap accepted_of happened));
-      since = omega (arith, ap length (ap published_of shows), ap length (ap accepted_of happened));
-      short = subst (λ (es : List Event). length es ≤ 2 * length (published_of es)) (sym shows) (le_refl 0);
+      pictured = c.blank-2.ensures ∙ sym (picture_at-blank _ (ap accepted_list_of happened));
+      numbered = sym (revision_at-blank _ (ap accepted_list_of happened));
+      since = omega (arith, ap length (ap published_list_of shows), ap length (ap accepted_list_of happened));
+      short = subst (λ (es : List Event). length es ≤ 2 * length (published_list_of es)) (sym shows) (le_refl 0);
     }

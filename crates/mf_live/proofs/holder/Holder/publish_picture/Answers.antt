@@ -8,7 +8,7 @@ use Rattle.mf_live.specs.Books.{most_accepted, counter_of}
 use Rattle.mf_live.specs.Entries.{picture_at, revision_at}
 use Rattle.mf_live.specs.Holders.{accepted_list, version}
 use Rattle.mf_live.specs.Rule.{book_of, events_of, history, version_list, knowledge_of}
-use Rattle.mf_live.specs.World.{Happen, new_world, world_after, accepted_of, published_of}
+use Rattle.mf_live.specs.World.{Happen, new_world, world_after, accepted_list_of, published_list_of}
 use Rattle.mf_live.proofs.Histories.{few_events, few_unwritten}
 use Rattle.mf_live.proofs.Publishing.{written, all_written, accepted-publish, published-publish, alive-publish, Happen-publish, Happen-written, length-publish}
 use Rattle.mf_live.proofs.holder.Holder.publish_picture.Goals.{After-show, After-write_publish}
@@ -32,7 +32,7 @@ pub write_publish-requires-clause-alive : goal.write_publish-requires-clause-ali
 write_publish-requires-clause-alive g c =
     let h = c.args.self.now in
     let known = c.copy-prefix.ensures ∙ ap knowledge_of c.published.ensures in
-    ap (λ (t : Knowledge). (world_after new_world (t.seen.log ++ written h)).dropped) known ∙ alive-publish h
+    ap (λ (t : Knowledge). (world_after new_world (t.seen.log ++ written h)).gone) known ∙ alive-publish h
 
 log : (g : _) (c : After-write_publish g) → c.write_publish.new.prefix.knowledge.seen.log ≡ all_written c.args.self.now
 log g c =
@@ -43,13 +43,13 @@ pub invariant_of-notice : goal.invariant_of-notice
 invariant_of-notice g c =
     let h = c.args.self.now in
     let log = log g (goal.at.invariant_of-notice g c).After-write_publish in
-    let all = ap published_of log ∙ published-publish h in
-    record { whole = ap accepted_of log ∙ accepted-publish h ∙ sym all; numbered = h.numbered ∙ ap revision_at (sym all) }
+    let all = ap published_list_of log ∙ published-publish h in
+    record { whole = ap accepted_list_of log ∙ accepted-publish h ∙ sym all; numbered = h.numbered ∙ ap revision_at (sym all) }
 
 pub invariant_of-show : goal.invariant_of-show
 invariant_of-show g c =
     let log = log g (goal.at.invariant_of-show g c).After-write_publish in
-    record { pictured = c.requires.picture ∙ ap picture_at (sym (ap published_of log ∙ published-publish c.args.self.now)) }
+    record { pictured = c.requires.picture ∙ ap picture_at (sym (ap published_list_of log ∙ published-publish c.args.self.now)) }
 
 happened : (g : _) (c : After-show g) → c.write_publish.new.prefix.knowledge.seen.log ≡ all_written c.args.self.now
     → (events_of c.show.new.swap.desk.shown.value ≡ all_written c.args.self.now)
@@ -68,13 +68,14 @@ invariant_of-self g c =
     ap book_of c.show.ensures.shown ∙ c.write_publish.ensures.book ∙ ap (λ (t : Knowledge). t.seen.book) known in
     let path = goal.at.invariant_of-self g c in
     let (shows, happened) = happened g path.After-show (log g path.After-write_publish) in
-    let accepts : accepted_of (history swap.desk.shown.value (view swap.desk.place)) ≡ accepted_list h = ap accepted_of happened ∙ accepted-publish h in
-    let tells : version_list swap.desk.shown.value ≡ accepted_list h = ap published_of shows ∙ published-publish h in
+    let accepts : accepted_list_of (history swap.desk.shown.value (view swap.desk.place)) ≡ accepted_list h =
+    ap accepted_list_of happened ∙ accepted-publish h in
+    let tells : version_list swap.desk.shown.value ≡ accepted_list h = ap published_list_of shows ∙ published-publish h in
     record {
       head_is = h.head_is ∙ ap counter_of (sym book);
-      shown_is = ap published_of (shows ∙ sym happened);
+      shown_is = ap published_list_of (shows ∙ sym happened);
       lawful = subst (Happen most_accepted new_world) (sym happened) (Happen-publish h);
-      alive = ap (λ (es : List Event). (world_after new_world es).dropped) happened ∙ alive-publish h;
+      alive = ap (λ (es : List Event). (world_after new_world es).gone) happened ∙ alive-publish h;
       counted = sym (ap (λ (v : View). length v.unwritten) c.show.ensures.view);
       pictured = h.pictured ∙ ap picture_at (sym accepts);
       numbered = h.numbered ∙ ap revision_at (sym accepts);
@@ -85,9 +86,9 @@ invariant_of-self g c =
 pub returns-clause-accepted : goal.returns-clause-accepted
 returns-clause-accepted g c =
     let path = goal.at.returns-clause-accepted g c in
-    ap accepted_of (happened g path.After-show (log g path.After-write_publish)).1 ∙ accepted-publish c.args.self.now
+    ap accepted_list_of (happened g path.After-show (log g path.After-write_publish)).1 ∙ accepted-publish c.args.self.now
 
 pub returns-clause-published : goal.returns-clause-published
 returns-clause-published g c =
     let path = goal.at.returns-clause-published g c in
-    ap published_of (happened g path.After-show (log g path.After-write_publish)).1 ∙ published-publish c.args.self.now
+    ap published_list_of (happened g path.After-show (log g path.After-write_publish)).1 ∙ published-publish c.args.self.now

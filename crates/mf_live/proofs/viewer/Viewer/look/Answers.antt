@@ -2,10 +2,10 @@ use Rattle.std.proofs.Common.{◌≡◌, true, ap, sym, subst, ◌∙◌, arith}
 use mathlib.Core.List.{IsPrefix}
 use Rattle.mf_live.specs.declared.view.View.{View}
 use Rattle.mf_live.specs.declared.version.Version.{Version}
-use Rattle.mf_live.specs.Entries.{ends_last}
+use Rattle.mf_live.specs.Entries.{is_end_last}
 use Rattle.mf_live.specs.Rule.{events_of}
 use Rattle.mf_live.specs.Viewers.{IsPublished, notice_events}
-use Rattle.mf_live.specs.World.{published_of}
+use Rattle.mf_live.specs.World.{published_list_of}
 use Rattle.mf_live.proofs.Looking.{extends-look, is_published, shown-last, told_list-ends}
 use Rattle.mf_live.proofs.WholePrefixes.{whole-length}
 use Rattle.mf_live.proofs.viewer.Viewer.look.Goals as goal
@@ -20,19 +20,20 @@ invariant_of-result c =
     let looks = c.in-Ok.ensures in
     let known = subst (λ (x : Version). IsPrefix (notice_events c.args.self.known) (events_of x)) c.get.ensures (c.meets.ensures.that (omega arith)) in
     record {
-      identified = ap (λ (v : View). v.identified) looks.now ∙ c.args.self.identified;
-      book = ap (λ (v : View). v.now.seen.book) looks.now ∙ (sym (looks.knows c.args.self.identified).1.book ∙ c.args.self.book);
-      knowledge = ap (λ (v : View). v.now) looks.now;
+      identified = ap (λ (v : View). v.identified) looks.is ∙ c.args.self.identified;
+      book = ap (λ (v : View). v.latest.seen.book) looks.is ∙ (sym (looks.knows c.args.self.identified).1.book ∙ c.args.self.book);
+      knowledge = ap (λ (v : View). v.latest) looks.is;
       enough = whole-length _ _ (extends-look c.args.self _ _ looks known).learnt;
     }
 
 pub returns-clause-ends : goal.returns-clause-ends
 returns-clause-ends c =
-    subst (λ (v : View). ends_last (published_of v.now.seen.log) ≡ true) (sym c.in-Ok.ensures.now) (told_list-ends c.in-Ok.reading.part.value.notice)
+    subst (λ (v : View). is_end_last (published_list_of v.latest.seen.log) ≡ true) (sym c.in-Ok.ensures.is) (told_list-ends c.in-Ok.reading.part.value.notice)
 
 pub returns-clause-published : goal.returns-clause-published
 returns-clause-published c =
-    subst (λ (v : View). IsPublished v.now.seen.log (published_of v.now.seen.log)) (sym c.in-Ok.ensures.now) (is_published c.in-Ok.reading.part.value.notice)
+    subst (λ (v : View). IsPublished v.latest.seen.log (published_list_of v.latest.seen.log)) (sym c.in-Ok.ensures.is)
+    (is_published c.in-Ok.reading.part.value.notice)
 
 pub returns-clause-last : goal.returns-clause-last
 returns-clause-last c = λ closed. let extends = returns-clause-extends c in shown-last _ _ extends.seen (returns-clause-ends c) closed

@@ -3,7 +3,7 @@ use Rattle.std.specs.Result.{MatchResult}
 use Rattle.mf_ops.specs.declared.op.Op.{Op}
 use Rattle.mf_ops.specs.declared.op.OpFault.{OpFault}
 use Rattle.mf_live.specs.declared.holder.Holder.{Holder}
-use Rattle.mf_live.specs.Entries.{entry, revision_at, next, is_closed, Operation}
+use Rattle.mf_live.specs.Entries.{entry, revision_at, next_label, is_closed, Operation}
 use Rattle.mf_live.specs.Holders.{accepted_list}
 use Rattle.mf_live.specs.Writers.{published_list}
 use Rattle.mf_live.proofs.Ending.{open-push, revision-push}
@@ -22,5 +22,5 @@ invariant_of-self c =
     let room : old.revision < c.args.self.now.max_ops = omega (arith, c.args.self.now.few, c.if-self.false) in
     let both =
     stays old c.accept.new.self
-    (next (published_list c.args.self.now)) c.args.op c.args.self.now.max_ops c.accept.result c.accept.ensures.accepted c.args.self.now.open room in
+    (next_label (published_list c.args.self.now)) c.args.op c.args.self.now.max_ops c.accept.result c.accept.ensures.accepted c.args.self.now.open room in
     record { «open» = both.0; few = both.1 }

@@ -1,5 +1,5 @@
 use Rattle.std.proofs.Common.{◌∙◌, ap}
-use Rattle.mf_live.specs.Entries.{is_closed, next}
+use Rattle.mf_live.specs.Entries.{is_closed, next_label}
 use Rattle.mf_live.specs.Rule.{version_list}
 use Rattle.mf_live.specs.Writers.{published_list}
 use Rattle.mf_live.proofs.Ending.{closed-end}
@@ -9,4 +9,4 @@ pub invariant_of-result-2 : goal.invariant_of-result-2
 invariant_of-result-2 g c =
     let shown =
     ap (λ swap. version_list swap.desk.shown.value) c.into_swap.ensures ∙ c.publish_picture.new.self.shown_is ∙ c.publish_picture.ensures.published in
-    record { closed = ap is_closed shown ∙ closed-end c.args.self.holder c.end.new.self (next (published_list c.args.self)) c.end.ensures.accepted }
+    record { closed = ap is_closed shown ∙ closed-end c.args.self.holder c.end.new.self (next_label (published_list c.args.self)) c.end.ensures.accepted }
