@@ -10,8 +10,8 @@ use Rattle.mf_cli.specs.Messages.{message_of}
 use Rattle.mf_cli.specs.Output.{GetsOutput, Request, request_in, settings}
 use Rattle.mf_cli.specs.Statuses.{status_of}
 
--- a font file that was asked for could not be written, or not to its end, and the fault counts its bytes that went out; the
--- script was read to its end, and everything that it prints is written
+-- a font file that was asked for is not written to its end: the number of the fault is 0 or less than that of its bytes; the script
+-- was read to its end, and everything that it prints is written
 pub record LosesFile (r : Request) (fault : RunFault) (s : Streams) : Type 0 where
   pub asked : IsSome r.file
   pub count : ℕ

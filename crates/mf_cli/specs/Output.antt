@@ -14,11 +14,11 @@ use Rattle.mf_session.specs.States.{most_bytes, most_operations}
 abbrev pub settings : Settings
 settings = record { max_ops = most_operations; max_bytes = most_bytes; font = record { ds = pos 0; cs = 0; hppp = pos 0; vppp = pos 0 } }
 
--- how often each viewer looks
+-- how often each viewer looks before its last look
 abbrev pub looks : ℕ
 looks = 16
 
--- what the words of a command line ask for: so many viewers, and a FILE or none
+-- what the words of a command line ask for: a number of viewers, and a FILE or none
 pub record Request : Type 0 where
   pub viewers : ℕ
   pub file : Option (List ℕ)

@@ -47,16 +47,17 @@ pub const DONE: u8 = 0;
 /// Exit status where the words are not those of a command line.
 pub const BAD_WORDS: u8 = 2;
 
-/// Exit status where a stream failed, or the font file did: it would be too long, has no character, or could not be written.
+/// Exit status where a stream failed or the script took too many reads, or where the font file would be too long, has no character,
+/// or could not be written.
 pub const STREAM_FAULT: u8 = 3;
 
 /// Exit status where memory, a viewer's place or a look was missing.
 pub const WANTING: u8 = 4;
 
 /// Runs the script that `reader` gives, beside as many viewers as the words ask for. It writes the transcript and then the line
-/// of each viewer to `writer`, then the font file where the words ask for one, and a message to `errors` where something went
-/// wrong. Answers with the exit status. `words` are those of the command line, and the first is the program's name. A fault of
-/// `errors` changes no status.
+/// of each viewer to `writer`, then the font file where the words ask for one, and one message to `errors` where something went
+/// wrong: all of it, or a front of it where `errors` fails, which changes no status. Answers with the exit status. `words` are those
+/// of the command line, and the first is the program's name.
 pub fn program<S: Wait + Threads + Files, R: Read, W: Write, E: Write>(
     rt: &S,
     alloc: Global,
@@ -139,8 +140,8 @@ fn run_script<S: Wait + Threads, R: Read, W: Write>(
     mf_desk::perform(rt, alloc, reader, writer, &SETTINGS, viewers, LOOKS, &gate)
 }
 
-/// Writes a font file, and replaces what was there. Refused with `WriteFault`, whose number counts the bytes that went out: never
-/// all of them, and 0 where the file cannot be created.
+/// Writes a font file, and replaces what was there. Refused with `WriteFault`, whose number is less than that of its bytes, and 0
+/// where the file cannot be created.
 fn write_file<S: Files>(rt: &S, path: &str, file: &GfBytes) -> Result<(), RunFault>
     ensures { IfErr result (λ fault. (count : ℕ) × (fault ≡ RunFault.WriteFault count) × ((count ≡ 0) ⊎ (count < length file.now))) }
 {
@@ -150,7 +151,7 @@ fn write_file<S: Files>(rt: &S, path: &str, file: &GfBytes) -> Result<(), RunFau
     write_bytes(&mut out, file)
 }
 
-/// Writes the bytes of a font file. Refused with `WriteFault`, whose number counts the bytes that went out: never all of them.
+/// Writes the bytes of a font file. Refused with `WriteFault`, whose number counts the bytes that were written: never all of them.
 fn write_bytes<W: Write>(out: &mut W, file: &GfBytes) -> Result<(), RunFault>
     ensures all { OnOk result (Appends (W.contents out.old) (W.contents out.new) file.now) }
     ensures front { IfErr result (λ fault. (count : ℕ) × (fault ≡ RunFault.WriteFault count) × (count < length file.now)
@@ -162,8 +163,8 @@ fn write_bytes<W: Write>(out: &mut W, file: &GfBytes) -> Result<(), RunFault>
     }
 }
 
-/// Refuses the words of the command line: writes how to use the program, as far as `errors` takes it, and answers with the
-/// status.
+/// Refuses the words of the command line: writes how to use the program, or a front of that where `errors` fails, and answers with
+/// the status.
 pub fn refuse_words<E: Write>(errors: &mut E) -> u8
     ensures status { result ≡ BAD_WORDS }
     ensures message { GetsMessage (E.contents errors.old) (E.contents errors.new) usage }
@@ -172,7 +173,7 @@ pub fn refuse_words<E: Write>(errors: &mut E) -> u8
     BAD_WORDS
 }
 
-/// Reports a fault by its name, as far as `errors` takes it, and answers with the status.
+/// Reports a fault: writes its message, or a front of it where `errors` fails, and answers with the status.
 pub fn report<E: Write>(errors: &mut E, fault: ProgramFault) -> u8
     ensures status { result ≡ status_of fault }
     ensures message { GetsMessage (E.contents errors.old) (E.contents errors.new) (message_of fault) }
@@ -186,8 +187,8 @@ pub fn report<E: Write>(errors: &mut E, fault: ProgramFault) -> u8
     }
 }
 
-/// The message of a fault: the program's name, and the name of the fault. It is a constant, so that a message is one write, and is
-/// there even where an allocation fails.
+/// The message of a fault: the program's name, and the name of the fault. It is a constant, and so is there even where an allocation
+/// fails.
 fn message_of(fault: ProgramFault) -> &'static str
     ensures { result.now ≡ message_of fault }
 {

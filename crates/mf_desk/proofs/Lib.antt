@@ -1,5 +1,5 @@
 mod Ended
-pub mod Faults
+mod Intakes
 mod LongLines
 pub mod Performances
 mod ScriptEnds

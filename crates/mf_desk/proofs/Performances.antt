@@ -2,10 +2,8 @@
 use Rattle.std.proofs.Common.{◌≡◌, ◌⊎◌, ◌<◌, ℕ, List, [], ◌++◌, All, Option, length, ⊎_elim, inl, inr, refl, sym, ap, subst, ◌∙◌, arith}
 use Rattle.std.specs.Io.KnownBytes.{Appends, Consumes, IsAtEnd}
 use Rattle.std.proofs.KnownBytes.{Appends-nil, Appends-trans, Consumes-nil}
-use Rattle.std.proofs.Math.Nat.{min-le_left}
 use Rattle.mf_gf.specs.Files.{Character, IsLongFile, file_if_any}
 use Rattle.mf_gf.specs.Keeping.{Keeps, max_bytes_of}
-use Rattle.mf_gf.specs.Numbers.{greatest_word}
 use Rattle.mf_gf.specs.declared.file.GfFile.{GfFile}
 use Rattle.mf_live.specs.Writers.{ended_published_list}
 use Rattle.mf_desk.specs.declared.ended_run.EndedRun.{EndedRun}
@@ -16,7 +14,7 @@ use Rattle.mf_desk.specs.declared.settings.Settings.{Settings}
 use Rattle.mf_desk.specs.EndedRuns.{IsOver, glance}
 use Rattle.mf_desk.specs.Fault.{Breaks}
 use Rattle.mf_desk.specs.Performances.{ComesFirst, IsCompleteText, IsPerformance, TellsOfBegun, TellsOfEnd, TellsOfRun, task, run_limits, viewer_lines}
-use Rattle.mf_desk.specs.Streams.{Gets, Passes, Passing, Streams, streams}
+use Rattle.mf_desk.specs.Streams.{Gets, Passes, MakesPassage, Streams, streams}
 use Rattle.mf_session.specs.States.{Limits, least_bytes}
 use Rattle.mf_watch.specs.Watchers.{HasSeen, glance_at}
 use Rattle.mf_desk.proofs.Stages.{Breaks-nothing}
@@ -26,11 +24,11 @@ module _ (settings : Settings) (viewers : ℕ) where
   pub TellsOfBegun-script : (l : Limits) (fault : RunFault) (s : Streams) → l ≡ run_limits settings → Passes s (Breaks l fault)
       → Passes s (TellsOfBegun settings viewers fault)
   TellsOfBegun-script l fault s same (read, consumed, (written, out, breaks)) =
-      (read, consumed, (written, out, inl (subst (λ m. Passing (Breaks m fault) s.left read written) same breaks)))
+      (read, consumed, (written, out, inl (subst (λ m. MakesPassage (Breaks m fault) s.left read written) same breaks)))
 
   -- a fault comes after the end of the script
   pub TellsOfBegun-end : (fault : RunFault) (s : Streams) (read : List ℕ) → Consumes s.unread s.left read → IsAtEnd s.left
-      → Gets s.held s.holds (Passing (TellsOfEnd settings viewers fault) s.left read) → Passes s (TellsOfBegun settings viewers fault)
+      → Gets s.held s.holds (MakesPassage (TellsOfEnd settings viewers fault) s.left read) → Passes s (TellsOfBegun settings viewers fault)
   TellsOfBegun-end fault s read consumed all_read (written, out, told) = (read, consumed, (written, out, inr (all_read, told)))
 
   pub TellsOfRun-begun : (fault : RunFault) (s : Streams) → Passes s (TellsOfBegun settings viewers fault) → Passes s (TellsOfRun settings viewers fault)
@@ -52,7 +50,7 @@ module _ (settings : Settings) (viewers : ℕ) where
       → (fault ≡ FileTooLong) ⊎ (fault ≡ OutOfMemory) → Passes (streams unread unread held held) (TellsOfRun settings viewers fault)
   TellsOfRun-unstarted unread held fault small =
       ⊎_elim
-      (λ long. rw long (TellsOfRun-first unread held FileTooLong (omega (arith, small long, min-le_left settings.max_bytes greatest_word))))
+      (λ long. rw long (TellsOfRun-first unread held FileTooLong (small long)))
       (λ wanting. rw wanting (TellsOfRun-nothing unread held))
 
   module _ (held holds later : Option (List ℕ)) (read : List ℕ) (run : EndedRun) (over : Gets held holds (IsOver (run_limits settings) read run)) where
@@ -76,7 +74,7 @@ module _ (settings : Settings) (viewers : ℕ) where
     pub TellsOfEnd-unfinished : (left : Option (List ℕ)) (file : GfFile) (fault : RunFault) → Appends holds later (viewer_lines viewers (glance run))
         → file ≡ run.file → (fault ≡ FileTooLong → (characters : List Character)
         → Keeps file [] characters → IsLongFile (max_bytes_of file) settings.font [] characters)
-        → (fault ≡ FileTooLong) ⊎ (fault ≡ OutOfMemory) → Gets held later (Passing (TellsOfEnd settings viewers fault) left read)
+        → (fault ≡ FileTooLong) ⊎ (fault ≡ OutOfMemory) → Gets held later (MakesPassage (TellsOfEnd settings viewers fault) left read)
     TellsOfEnd-unfinished left file fault out same too_long =
         let text = over.0 ++ viewer_lines viewers (glance run) in
         let all = complete viewers (viewer_lines viewers (glance run)) refl in

@@ -13,15 +13,15 @@ use Rattle.mf_desk.specs.declared.line_buffer.TheConstants.{MAX_KEPT}
 use Rattle.mf_desk.specs.declared.performer.Performer.{Performer}
 use Rattle.mf_desk.specs.declared.progress.Progress.{Progress}
 use Rattle.mf_session.specs.Answers.{Answers}
-use Rattle.mf_desk.specs.Ended.{ended_of_parts, last_part, ended_lines, unended}
+use Rattle.mf_desk.specs.Ended.{ended_of_parts, last_part, ended_lines, unended_line}
 use Rattle.mf_desk.specs.Fault.{AreWholeLines, Breaks, BreaksOff, IsTextSoFar}
 use Rattle.mf_desk.specs.Performer.{IsLineText, IsWritten}
 use Rattle.mf_desk.specs.Progress.{HasCounted, IsAfter}
-use Rattle.mf_desk.specs.Streams.{Gets, Passing}
+use Rattle.mf_desk.specs.Streams.{Gets, MakesPassage}
 use Rattle.mf_session.specs.Sessions.{HasPerformed, StandsFor, limits}
-use Rattle.mf_session.specs.States.{Answer, Limits, State, answer_with, joined, start}
+use Rattle.mf_session.specs.States.{Answer, Limits, State, answer_with, joint_answer, start}
 use Rattle.mf_session.specs.Transcript.{Perform, due}
-use Rattle.mf_desk.proofs.Ended.{ended_lines-line_feed, unended-line_feed, ended_lines-unbroken, unended-unbroken, ended_lines-front, lines-last}
+use Rattle.mf_desk.proofs.Ended.{ended_lines-line_feed, unended_line-line_feed, ended_lines-unbroken, unended_line-unbroken, ended_lines-front, lines-last}
 use Rattle.mf_desk.proofs.LongLines.{take-taken, Answers-kept, Answers-stripped}
 use Rattle.mf_session.proofs.Performing.{Perform-append, Perform-one}
 
@@ -34,7 +34,7 @@ first-text l left read done more text last are performed =
 -- nothing has been read
 pub IsAfter-start : (held : Option (List ℕ)) (progress : Progress) → StandsFor progress.performer.session start
     → progress.performer.written ≡ 0 → progress.line ≡ [] → IsAfter held [] progress held
-unfolding ended_of_parts last_part ended_lines unended
+unfolding ended_of_parts last_part ended_lines unended_line
 IsAfter-start held progress stands written line = record {
   lines = record {
     done = record { text = []; last = start; performed = refl; stands = stands; out = Appends-nil held };
@@ -70,13 +70,13 @@ module _ (held holds : Option (List ℕ)) (read : List ℕ) (run : Progress) (af
       };
       counted = rw same after.lines.counted;
     };
-    line = line ∙ ap (λ kept. take MAX_KEPT (kept ++ bytes)) after.line ∙ take-taken MAX_KEPT (unended read) bytes
-        ∙ ap (take MAX_KEPT) (sym (unended-unbroken read bytes unbroken));
+    line = line ∙ ap (λ kept. take MAX_KEPT (kept ++ bytes)) after.line ∙ take-taken MAX_KEPT (unended_line read) bytes
+        ∙ ap (take MAX_KEPT) (sym (unended_line-unbroken read bytes unbroken));
   }
 
   -- a line whose answer comes after the texts so far makes these the lines that have been performed
   abbrev Prolongs : List ℕ → List (List ℕ) → Type 0
-  Prolongs line all = (a : Answer) → Answers bounds so_far.last line a → Perform bounds start all (joined answer_so_far a)
+  Prolongs line all = (a : Answer) → Answers bounds so_far.last line a → Perform bounds start all (joint_answer answer_so_far a)
 
   -- one more line has been performed, and its text written
   HasCounted-more : (later : Option (List ℕ)) (all : List (List ℕ)) (line : List ℕ) (new : Performer) → Prolongs line all
@@ -101,13 +101,13 @@ module _ (held holds : Option (List ℕ)) (read : List ℕ) (run : Progress) (af
 
   -- an answer to this line is one to the complete line that a line feed ends
   abbrev StandsForEnded : List ℕ → Type 0
-  StandsForEnded line = (a : Answer) → Answers bounds so_far.last line a → Answers bounds so_far.last (strip_carriage_return (unended read)) a
+  StandsForEnded line = (a : Answer) → Answers bounds so_far.last line a → Answers bounds so_far.last (strip_carriage_return (unended_line read)) a
 
   -- the line that a line feed ends has been performed
   performed-ended : (line : List ℕ) → StandsForEnded line → Prolongs line (ended_lines (read ++ 10 ∷ []))
   performed-ended line whole a answer =
-      subst (λ ls. Perform bounds start ls (joined answer_so_far a)) (sym (ended_lines-line_feed read))
-      (performed-more (strip_carriage_return (unended read)) a (whole a answer))
+      subst (λ ls. Perform bounds start ls (joint_answer answer_so_far a)) (sym (ended_lines-line_feed read))
+      (performed-more (strip_carriage_return (unended_line read)) a (whole a answer))
 
   -- a line feed is read, and its line has been performed
   pub IsAfter-ended : (later : Option (List ℕ)) (line : List ℕ) (new : Progress) → StandsForEnded line
@@ -115,18 +115,18 @@ module _ (held holds : Option (List ℕ)) (read : List ℕ) (run : Progress) (af
       → limits new.performer.session ≡ bounds → new.line ≡ [] → IsAfter held (read ++ 10 ∷ []) new later
   IsAfter-ended later line new whole written same empty = record {
     lines = HasCounted-more later (ended_lines (read ++ 10 ∷ [])) line new.performer (performed-ended line whole) written same;
-    line = empty ∙ ap (take MAX_KEPT) (sym (unended-line_feed read));
+    line = empty ∙ ap (take MAX_KEPT) (sym (unended_line-line_feed read));
   }
 
   -- the line that was kept may be cut
   pub kept-ended : StandsForEnded (strip_carriage_return run.line)
   kept-ended a answer =
-      Answers-stripped bounds so_far.last (unended read) a
+      Answers-stripped bounds so_far.last (unended_line read) a
       (subst (λ line. Answers bounds so_far.last (strip_carriage_return line) a) after.line answer)
 
   -- an allocation fails between two lines
   pub Breaks-between : (left : Option (List ℕ)) (bytes more : List ℕ)
-      → Gets held holds (Passing (Breaks bounds OutOfMemory) left (read ++ bytes ++ more))
+      → Gets held holds (MakesPassage (Breaks bounds OutOfMemory) left (read ++ bytes ++ more))
   Breaks-between left bytes more =
       let (others, before) = ended_lines-front read (bytes ++ more) in
       let first = ap ended_lines (append_assoc read bytes more) ∙ before in
@@ -139,7 +139,7 @@ module _ (held holds : Option (List ℕ)) (read : List ℕ) (run : Progress) (af
   -- the first completely read lines are the performed ones, and then the one whose text breaks off
   Breaks-text : (fault : RunFault) (left later : Option (List ℕ)) (bytes line : List ℕ) (others first behind : List (List ℕ))
       → AreWholeLines left bytes (ended_lines read ++ others) → AreWholeLines left bytes (first ++ behind) → Prolongs line first
-      → BreaksLine line fault later → Gets held later (Passing (Breaks bounds fault) left bytes)
+      → BreaksLine line fault later → Gets held later (MakesPassage (Breaks bounds fault) left bytes)
   Breaks-text OutOfMemory left later bytes line others first behind before with_line performs broken =
       let (written, out, nothing) = broken in (
         so_far.text,
@@ -164,7 +164,7 @@ module _ (held holds : Option (List ℕ)) (read : List ℕ) (run : Progress) (af
 
   -- the text of a line that a line feed ends breaks off
   pub Breaks-ended : (fault : RunFault) (left later : Option (List ℕ)) (more line : List ℕ) → StandsForEnded line
-      → BreaksLine line fault later → Gets held later (Passing (Breaks bounds fault) left (read ++ 10 ∷ [] ++ more))
+      → BreaksLine line fault later → Gets held later (MakesPassage (Breaks bounds fault) left (read ++ 10 ∷ [] ++ more))
   Breaks-ended fault left later more line whole broken =
       let (others, before) = ended_lines-front read (10 ∷ more) in
       let (behind, with_line) = ended_lines-front (read ++ 10 ∷ []) more in
@@ -172,29 +172,29 @@ module _ (held holds : Option (List ℕ)) (read : List ℕ) (run : Progress) (af
       (inl (ap ended_lines (append_assoc read (10 ∷ []) more) ∙ before)) (inl with_line) (performed-ended line whole) broken
 
   -- there are bytes after the last line feed
-  some-unended : eqb (length run.line) 0 ≡ false → eqb (length (unended read)) 0 ≡ false
+  some-unended : eqb (length run.line) 0 ≡ false → eqb (length (unended_line read)) 0 ≡ false
   some-unended some =
-      ne_eqb (length (unended read)) 0 (λ empty.
-      eqb-false (length run.line) 0 some (ap length after.line ∙ omega (arith, length-take MAX_KEPT (unended read))))
+      ne_eqb (length (unended_line read)) 0 (λ empty.
+      eqb-false (length run.line) 0 some (ap length after.line ∙ omega (arith, length-take MAX_KEPT (unended_line read))))
 
   -- the last line, which no line feed ends, has been performed
   performed-last : eqb (length run.line) 0 ≡ false → Prolongs run.line (lines read)
   performed-last some a answer =
-      subst (λ ls. Perform bounds start ls (joined answer_so_far a)) (sym (lines-last read (some-unended some)))
-      (performed-more (unended read) a
-      (Answers-kept bounds so_far.last (unended read) a (subst (λ line. Answers bounds so_far.last line a) after.line answer)))
+      subst (λ ls. Perform bounds start ls (joint_answer answer_so_far a)) (sym (lines-last read (some-unended some)))
+      (performed-more (unended_line read) a
+      (Answers-kept bounds so_far.last (unended_line read) a (subst (λ line. Answers bounds so_far.last line a) after.line answer)))
 
   pub Breaks-last : (fault : RunFault) (left later : Option (List ℕ)) → IsAtEnd left → eqb (length run.line) 0 ≡ false
-      → BreaksLine run.line fault later → Gets held later (Passing (Breaks bounds fault) left read)
+      → BreaksLine run.line fault later → Gets held later (MakesPassage (Breaks bounds fault) left read)
   Breaks-last fault left later all_read some =
-      Breaks-text fault left later read run.line (unended read ∷ []) (lines read) []
+      Breaks-text fault left later read run.line (unended_line read ∷ []) (lines read) []
       (inr (all_read, lines-last read (some-unended some))) (inr (all_read, sym (append-nil _))) (performed-last some)
 
   -- there is no byte after the last line feed
-  pub empty-unended : eqb (length run.line) 0 ≡ true → unended read ≡ []
+  pub empty-unended : eqb (length run.line) 0 ≡ true → unended_line read ≡ []
   empty-unended none =
-      let kept : length (take MAX_KEPT (unended read)) ≡ 0 = ap length (sym after.line) ∙ eqb-true (length run.line) 0 none in
-      nil_from_length (unended read) (omega (arith, length-take MAX_KEPT (unended read)))
+      let kept : length (take MAX_KEPT (unended_line read)) ≡ 0 = ap length (sym after.line) ∙ eqb-true (length run.line) 0 none in
+      nil_from_length (unended_line read) (omega (arith, length-take MAX_KEPT (unended_line read)))
 
   -- the last line ends with the script
   pub HasCounted-last : (later : Option (List ℕ)) (new : Performer) → eqb (length run.line) 0 ≡ false → limits new.session ≡ bounds
@@ -202,11 +202,11 @@ module _ (held holds : Option (List ℕ)) (read : List ℕ) (run : Progress) (af
   HasCounted-last later new some same written = HasCounted-more later (lines read) run.line new (performed-last some) written same
 
   -- a read fails: the texts of the lines that a line feed ended are written
-  pub Breaks-reads : (left : Option (List ℕ)) → Gets held holds (Passing (Breaks bounds ReadFault) left read)
+  pub Breaks-reads : (left : Option (List ℕ)) → Gets held holds (MakesPassage (Breaks bounds ReadFault) left read)
   Breaks-reads left = (so_far.text, so_far.out, record { last = so_far.last; performed = so_far.performed })
 
 -- an allocation fails before anything is read
-pub Breaks-nothing : (l : Limits) (left held : Option (List ℕ)) → Gets held held (Passing (Breaks l OutOfMemory) left [])
+pub Breaks-nothing : (l : Limits) (left held : Option (List ℕ)) → Gets held held (MakesPassage (Breaks l OutOfMemory) left [])
 Breaks-nothing l left held = ([], Appends-nil held, first-text l left [] [] (ended_lines []) [] start (inl refl) refl)
 
 -- a line of which nothing was kept, so that all of it is in these bytes
@@ -220,8 +220,8 @@ module _ (held holds : Option (List ℕ)) (read bytes : List ℕ) (old : Progres
 
   whole_line : StandsForEnded held holds (read ++ bytes) with_bytes after_bytes (strip_carriage_return bytes)
   whole_line a answer =
-      let whole : unended (read ++ bytes) ≡ bytes =
-      unended-unbroken read bytes unbroken ∙ ap (λ line. line ++ bytes) (empty-unended held holds read old after none) in
+      let whole : unended_line (read ++ bytes) ≡ bytes =
+      unended_line-unbroken read bytes unbroken ∙ ap (λ line. line ++ bytes) (empty-unended held holds read old after none) in
       subst (λ line. Answers (limits old.performer.session) after.lines.done.last (strip_carriage_return line) a) (sym whole) answer
 
   pub IsAfter-whole : (later : Option (List ℕ)) (new : Progress)
@@ -233,9 +233,9 @@ module _ (held holds : Option (List ℕ)) (read bytes : List ℕ) (old : Progres
 
   pub Breaks-whole : (fault : RunFault) (left later : Option (List ℕ)) (more : List ℕ)
       → Gets holds later (BreaksOff (IsLineText old.performer (strip_carriage_return bytes)) old.performer.written fault)
-      → Gets held later (Passing (Breaks (limits old.performer.session) fault) left (read ++ (bytes ++ 10 ∷ []) ++ more))
+      → Gets held later (MakesPassage (Breaks (limits old.performer.session) fault) left (read ++ (bytes ++ 10 ∷ []) ++ more))
   Breaks-whole fault left later more broken =
-      subst (λ front. Gets held later (Passing (Breaks (limits old.performer.session) fault) left (front ++ more))) (append_assoc read bytes (10 ∷ []))
+      subst (λ front. Gets held later (MakesPassage (Breaks (limits old.performer.session) fault) left (front ++ more))) (append_assoc read bytes (10 ∷ []))
       (Breaks-ended held holds (read ++ bytes) with_bytes after_bytes fault left later more (strip_carriage_return bytes) whole_line broken)
 
 -- the writer is flushed
@@ -260,12 +260,12 @@ IsAfter-flushed held holds later read progress same after =
 -- flushing the texts of these lines, which are all that were completely read, fails
 pub Breaks-flush : (l : Limits) (held left holds later : Option (List ℕ)) (read : List ℕ) (ls : List (List ℕ)) (performer : Performer)
     → AreWholeLines left read (ls ++ []) → limits performer.session ≡ l → Keeps holds later → HasCounted held ls performer holds
-    → (fault : RunFault) → fault ≡ WriteFault performer.written → Gets held later (Passing (Breaks l fault) left read)
+    → (fault : RunFault) → fault ≡ WriteFault performer.written → Gets held later (MakesPassage (Breaks l fault) left read)
 Breaks-flush l held left holds later read ls performer whole limits_are same was fault is =
     let done = was.done in
     let performed : Perform l start ls (answer_with (done.text ++ []) done.last) =
     rw (append-nil done.text) (subst (λ m. Perform m start ls (answer_with done.text done.last)) limits_are done.performed) in
-    subst (λ f. Gets held later (Passing (Breaks l f) left read)) (sym is) (
+    subst (λ f. Gets held later (MakesPassage (Breaks l f) left read)) (sym is) (
       done.text,
       Appends-kept held holds later done.text done.out same,
       (sym was.counted, ([], first-text l left read ls [] (done.text ++ []) done.last whole performed)),

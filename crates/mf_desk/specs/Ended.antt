@@ -20,5 +20,5 @@ unfoldable pub ended_lines : List ℕ → List (List ℕ)
 ended_lines bytes = ended_of_parts (slice_split (λ b. b == 10) bytes)
 
 -- the bytes after the last line feed
-unfoldable pub unended : List ℕ → List ℕ
-unended bytes = last_part (slice_split (λ b. b == 10) bytes)
+unfoldable pub unended_line : List ℕ → List ℕ
+unended_line bytes = last_part (slice_split (λ b. b == 10) bytes)

@@ -14,7 +14,7 @@ use Rattle.mf_desk.specs.Performances.{TellsOfEnd, run_limits, viewer_lines}
 use Rattle.mf_desk.specs.Performer.{longest_text}
 use Rattle.mf_session.specs.States.{State, Limits}
 use Rattle.mf_session.specs.Transcript.{IsTranscript}
-use Rattle.mf_desk.specs.Streams.{Gets, HasRead, Passing, Streams}
+use Rattle.mf_desk.specs.Streams.{Gets, HasRead, MakesPassage, Streams}
 use Rattle.mf_watch.specs.Watchers.{HasSeen, glance_at}
 
 -- the script of this performer, whose lines have led to this state, has ended with this run
@@ -71,4 +71,4 @@ pub record HasShown (l : LastLooks) (now : EndedRun) : Type 0 where
 abbrev pub BreaksLooks : LastLooks → RunFault → Type 0
 BreaksLooks l fault =
     (settings : Settings) (first left : Option (List ℕ)) (read : List ℕ) → Gets first l.held (IsOver (run_limits settings) read l.run)
-    → Gets first l.holds (Passing (TellsOfEnd settings l.viewers fault) left read)
+    → Gets first l.holds (MakesPassage (TellsOfEnd settings l.viewers fault) left read)

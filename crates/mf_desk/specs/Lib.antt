@@ -1,6 +1,7 @@
 pub mod Ended
 pub mod EndedRuns
 pub mod Fault
+pub mod Names
 pub mod ViewerFaults
 pub mod Performances
 pub mod Performer

@@ -2,7 +2,7 @@
 use Rattle.std.specs.Prelude.{◌≡◌, ◌≤◌, ◌<◌, ◌⊎◌, ℕ, zero, suc, All, List, [], ◌++◌, codes, decimal, length}
 use Rattle.std.specs.Fmt.{signed_decimal}
 use Rattle.std.specs.Io.KnownBytes.{Appends, IsAtEnd}
-use Rattle.mf_gf.specs.Files.{IsLongFile, file_if_any, preamble}
+use Rattle.mf_gf.specs.Files.{IsLongFile, file_if_any}
 use Rattle.mf_desk.specs.declared.fault.RunFault.{RunFault}
 use Rattle.mf_desk.specs.declared.fault.RunFault.TheVariants.{OutOfMemory, NoPlace, FileTooLong, WriteFault, NoLook}
 use Rattle.mf_watch.specs.declared.glance.Glance.{Glance}
@@ -11,7 +11,7 @@ use Rattle.mf_desk.specs.declared.settings.Settings.{Settings}
 use Rattle.mf_session.specs.Endings.{complete_list}
 use Rattle.mf_desk.specs.Fault.{Breaks}
 use Rattle.mf_desk.specs.Streams.{HasRead, IsPrefixOf, Passage, Streams}
-use Rattle.mf_session.specs.States.{Limits, limits_of}
+use Rattle.mf_session.specs.States.{Limits, least_bytes, limits_of}
 use Rattle.mf_session.specs.Transcript.{IsTranscript}
 use Rattle.mf_watch.specs.Watchers.{HasSeen, glance_at}
 
@@ -46,8 +46,8 @@ abbrev pub task : Settings → ℕ → ℕ → Task
 task settings viewers looks = record { settings = settings; viewers = viewers; looks = looks }
 
 -- a run of these bytes that did what it was asked for: its writer has got the transcript and the line of each viewer, and the
--- outcome is the font file of exactly the characters that were shipped, and the record of each viewer; a run without viewers has
--- no line of one, and no record
+-- outcome is the font file of exactly the characters that were shipped, which is not too long, and the record of each viewer; a run
+-- without viewers has no line of one, and no record
 pub record IsPerformance (t : Task) (outcome : Outcome) (s : Streams) (input : List ℕ) : Type 0 where
   pub text : List ℕ
   pub complete : IsCompleteText (run_limits t.settings) t.viewers input text
@@ -74,14 +74,15 @@ pub record IsBeforeLongFile (settings : Settings) (viewers : ℕ) (read text : L
   pub too_long : IsLongFile (run_limits settings).max_bytes settings.font [] complete.script.last.characters
 
 -- with this fault a run can end before it has read or written anything: `NoPlace` only where viewers are to look on, and `FileTooLong`
--- only where no font file is as short as the limit
+-- only where the limit is below the length of the shortest preamble
 abbrev pub ComesFirst : Settings → ℕ → RunFault → Type 0
 ComesFirst settings viewers NoPlace = 0 < viewers
-ComesFirst settings viewers FileTooLong = (run_limits settings).max_bytes < length (preamble [])
+ComesFirst settings viewers FileTooLong = settings.max_bytes < least_bytes
 ComesFirst settings viewers _ = ⊥
 
 -- what a fault says that comes after the end of the script, beside this many viewers: the transcript is complete, and the lines of the
--- first viewers follow it, of which none is cut but after `WriteFault`; `NoLook` comes only where the line of a viewer is not written
+-- first viewers follow it; after `WriteFault` this text may be cut, after `NoLook` the line of a viewer is not written, and after
+-- `FileTooLong` all lines are written, and the font file would be too long
 abbrev pub TellsOfEnd : Settings → ℕ → RunFault → Passage → Type 0
 TellsOfEnd settings viewers OutOfMemory p = IsShownText (run_limits settings) viewers p.read p.written
 TellsOfEnd settings viewers FileTooLong p = IsBeforeLongFile settings viewers p.read p.written

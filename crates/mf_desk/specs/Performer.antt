@@ -15,12 +15,12 @@ longest_text = 2 ^ 64
 
 -- the most bytes that the lines of a script print: each of at most 2 ^ 20 reads gives bytes, each of which may end a line, and one
 -- more line may follow the last line feed
-abbrev pub most_written : ℕ
-most_written = 2 ^ 101
+abbrev pub most_written_bytes : ℕ
+most_written_bytes = 2 ^ 101
 
 -- the most bytes that a run counts
-abbrev pub most_counted : ℕ
-most_counted = 2 ^ 127
+abbrev pub most_counted_bytes : ℕ
+most_counted_bytes = 2 ^ 127
 
 -- a line was performed, whatever state the session represented, and this text of it was written
 pub record IsWritten (before : Performer) (line : List ℕ) (after : Performer) (text : List ℕ) : Type 0 where

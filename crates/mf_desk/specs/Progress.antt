@@ -1,9 +1,9 @@
 -- The state of a run whose bytes so far are known.
 use Rattle.std.specs.Prelude.{ℕ, List, Option, ◌≡◌, ◌++◌, length, take}
 use Rattle.std.specs.Str.Lines.{lines}
-use Rattle.mf_desk.specs.Ended.{ended_lines, unended}
+use Rattle.mf_desk.specs.Ended.{ended_lines, unended_line}
 use Rattle.mf_desk.specs.Fault.{Breaks}
-use Rattle.mf_desk.specs.Streams.{Gets, HasRead, Passing, Streams}
+use Rattle.mf_desk.specs.Streams.{Gets, HasRead, MakesPassage, Streams}
 use Rattle.mf_session.specs.Sessions.{HasPerformed, limits}
 use Rattle.mf_session.specs.States.{start}
 use Rattle.mf_session.specs.Transcript.{due}
@@ -21,28 +21,28 @@ pub record HasCounted (held : Option (List ℕ)) (ls : List (List ℕ)) (perform
 -- kept
 pub record IsAfter (held : Option (List ℕ)) (read : List ℕ) (progress : Progress) (holds : Option (List ℕ)) : Type 0 where
   pub lines : HasCounted held (ended_lines read) progress.performer holds
-  pub line : progress.line ≡ take MAX_KEPT (unended read)
+  pub line : progress.line ≡ take MAX_KEPT (unended_line read)
 
 -- what was read was performed as a complete script
 abbrev pub ReadsThrough : Streams → Performer → Type 0
 ReadsThrough s performer = HasRead s (λ read. HasCounted s.held (lines read) performer s.holds)
 
--- what happens while a run takes bytes: the run before it, these bytes, and what the writer held then and holds after it
-pub record Taking : Type 0 where
+-- what happens while a run takes bytes: the run before this, the bytes, and what the writer held then and holds after it
+pub record Intake : Type 0 where
   pub before : Progress
   pub bytes : List ℕ
   pub held : Option (List ℕ)
   pub holds : Option (List ℕ)
 
--- the taking with these four, in this order
-abbrev pub taking : Progress → List ℕ → Option (List ℕ) → Option (List ℕ) → Taking
-taking before bytes held holds = record { before = before; bytes = bytes; held = held; holds = holds }
+-- the intake with these four, in this order
+abbrev pub intake : Progress → List ℕ → Option (List ℕ) → Option (List ℕ) → Intake
+intake before bytes held holds = record { before = before; bytes = bytes; held = held; holds = holds }
 
 -- whatever was read before these bytes, the run has taken them and goes on
-abbrev pub GoesOn : Taking → Progress → Type 0
+abbrev pub GoesOn : Intake → Progress → Type 0
 GoesOn t after = (first : Option (List ℕ)) (read : List ℕ) → IsAfter first read t.before t.held → IsAfter first (read ++ t.bytes) after t.holds
 
 -- whatever was read before these bytes, and whatever comes after them, the fault breaks the script off
-abbrev pub BreaksAfter : Taking → RunFault → Type 0
+abbrev pub BreaksAfter : Intake → RunFault → Type 0
 BreaksAfter t fault = (first left : Option (List ℕ)) (read more : List ℕ) → IsAfter first read t.before t.held
-    → Gets first t.holds (Passing (Breaks (limits t.before.performer.session) fault) left (read ++ t.bytes ++ more))
+    → Gets first t.holds (MakesPassage (Breaks (limits t.before.performer.session) fault) left (read ++ t.bytes ++ more))

@@ -24,8 +24,8 @@ abbrev pub Gets : Option (List ℕ) → Option (List ℕ) → (List ℕ → Type
 Gets held holds IsSuch = (written : List ℕ) × Appends held holds written × IsSuch written
 
 -- with these bytes left, where they are known, and these read, these written bytes make such a passage
-abbrev pub Passing : (Passage → Type 0) → Option (List ℕ) → List ℕ → List ℕ → Type 0
-Passing IsSuch left read written = IsSuch (record { left = left; read = read; written = written })
+abbrev pub MakesPassage : (Passage → Type 0) → Option (List ℕ) → List ℕ → List ℕ → Type 0
+MakesPassage IsSuch left read written = IsSuch (record { left = left; read = read; written = written })
 
 -- the reader has given some bytes of which this is true; where it is at its end, they are all that it had
 abbrev pub HasRead : Streams → (List ℕ → Type 0) → Type 0
@@ -33,7 +33,7 @@ HasRead s IsSuch = (read : List ℕ) × Consumes s.unread s.left read × IsSuch 
 
 -- what has passed through these streams is such a passage
 abbrev pub Passes : Streams → (Passage → Type 0) → Type 0
-Passes s IsSuch = HasRead s (λ read. Gets s.held s.holds (Passing IsSuch s.left read))
+Passes s IsSuch = HasRead s (λ read. Gets s.held s.holds (MakesPassage IsSuch s.left read))
 
 -- with some more bytes, or with none, these are such a text
 abbrev pub IsPrefixOf : (List ℕ → Type 0) → List ℕ → Type 0

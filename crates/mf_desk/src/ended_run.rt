@@ -5,7 +5,7 @@ ghost use Rattle.mf_live.specs.Desks.{most_places};
 ghost use Rattle.mf_live.specs.Writers.{ended_identity};
 ghost use Rattle.mf_desk.specs.EndedRuns.{BreaksLooks, HasSeenLast, HasShown, IsSameEnd, glance, last_looks};
 ghost use Rattle.mf_desk.specs.Performances.{viewer_lines};
-ghost use Rattle.mf_desk.specs.Performer.{longest_text, most_counted, most_written};
+ghost use Rattle.mf_desk.specs.Performer.{longest_text, most_counted_bytes, most_written_bytes};
 ghost use Rattle.mf_watch.specs.Watchers.{HasRoomFor, IsRecord, identity};
 
 use crate::fault::RunFault;
@@ -39,7 +39,7 @@ impl EndedRun {
         requires identities { IfOk joined (λ watchers. All (λ w. identity w ≡ ended_identity self.old.ended) watchers.items) }
         requires rooms { IfOk joined (λ watchers. All (HasRoomFor 1) watchers.items) }
         requires few { IfOk joined (λ watchers. length watchers.items ≤ most_places) }
-        requires short { self.old.written ≤ most_written }
+        requires short { self.old.written ≤ most_written_bytes }
         ensures no_look { IfErr joined (λ _. result ≡ Err RunFault.NoLook) }
         ensures same { IsSameEnd self.old self.new }
         ensures shown { IfOk result (λ seen.
@@ -66,7 +66,7 @@ impl EndedRun {
         requires identities { All (λ w. identity w ≡ ended_identity self.old.ended) watchers.items }
         requires rooms { All (HasRoomFor 1) watchers.items }
         requires few { length watchers.items ≤ most_places }
-        requires short { self.old.written ≤ most_written }
+        requires short { self.old.written ≤ most_written_bytes }
         ensures same { IsSameEnd self.old self.new }
         ensures shown { OnOk result (Appends (W.contents writer.old) (W.contents writer.new) (viewer_lines (length watchers.items) (glance self.old))) }
         ensures count { IfOk result (λ seen. length seen.items ≡ length watchers.items) }
@@ -92,7 +92,7 @@ impl EndedRun {
         requires identity { identity watcher ≡ ended_identity self.old.ended }
         requires room { HasRoomFor 1 watcher }
         requires few { length seen.old.items < most_places }
-        requires short { self.old.written + longest_text ≤ most_counted }
+        requires short { self.old.written + longest_text ≤ most_counted_bytes }
         ensures same { IsSameEnd self.old self.new }
         ensures count { OnOk result (length seen.new.items ≡ length seen.old.items + 1) }
         ensures seen { OnOk result ((run : EndedRun) (looks : ℕ) → IsSameEnd run self.old → IsRecord looks watcher

@@ -6,35 +6,51 @@ use mf_base::OutOfMemory;
 use mf_live::SheetFault;
 use mf_watch::StartFault;
 use std::alloc::{AllocError, AllocFailed};
-use thiserror::Error;
+use std::error::Error;
+use std::fmt;
 
 /// Why a run did not end well. Its message is its name.
-#[derive(Clone, Copy, Debug, PartialEq, Eq, Error)]
+#[derive(Clone, Copy, Debug, PartialEq, Eq)]
 pub enum RunFault {
     /// An allocation failed. The writer has got the texts of the first lines and, if it has got the complete transcript, the
     /// lines of the first viewers. No text and no line is cut.
-    #[error("OutOfMemory")]
     OutOfMemory,
     /// There was no place or no thread for a viewer, or the gate could not be shared with it. Nothing was read or written.
-    #[error("NoPlace")]
     NoPlace,
     /// The font file of the shipped characters would have more bytes than it may have: the writer has got the complete transcript
     /// and the line of each viewer. Or the limit is below the 3 bytes of the shortest preamble: nothing was read or written.
-    #[error("FileTooLong")]
     FileTooLong,
     /// The reader answered with an error, or 1,048,576 reads did not reach the end of the script. An interrupted read is an
-    /// error, too, and is not tried again. Exactly the lines that a line feed ended have been performed, and their texts written.
-    #[error("ReadFault")]
+    /// error, too, and is not tried again. The writer has got exactly the texts of the lines that a line feed ended.
     ReadFault,
     /// The writer answered with an error, also where it was flushed, or took no byte. An interrupted write is an error, too, and
     /// is not tried again. The number counts the bytes that the writer took in this run. These bytes are a prefix of the
-    /// transcript and the lines of the viewers.
-    #[error("WriteFault")]
+    /// transcript and the lines of the viewers, maybe all of it.
     WriteFault(u128),
-    /// A look was refused. The writer has got the complete transcript and the lines of the first viewers. No line is cut.
-    #[error("NoLook")]
+    /// A look was refused. The writer has got the complete transcript and the lines of the first viewers, but not of all. No line
+    /// is cut.
     NoLook,
 }
+
+impl fmt::Display for RunFault {
+    ghost use Rattle.std.specs.Prelude.{Some};
+    ghost use Rattle.mf_desk.specs.Names.{run_fault_text};
+
+    ghost output = { λ fault. Some (run_fault_text fault) };
+
+    fn fmt<W: fmt::Write>(&self, f: &mut fmt::Formatter<W>) -> fmt::Result {
+        match self {
+            RunFault::OutOfMemory => write!(f, "{OutOfMemory}"),
+            RunFault::NoPlace => f.write_str("NoPlace"),
+            RunFault::FileTooLong => f.write_str("FileTooLong"),
+            RunFault::ReadFault => f.write_str("ReadFault"),
+            RunFault::WriteFault(_) => f.write_str("WriteFault"),
+            RunFault::NoLook => f.write_str("NoLook"),
+        }
+    }
+}
+
+impl Error for RunFault {}
 
 impl From<OutOfMemory> for RunFault {
     ghost from_gives = { λ _ fault. fault ≡ NoMemory };

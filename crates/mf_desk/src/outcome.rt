@@ -7,7 +7,7 @@ use mf_watch::Glance;
 pub struct Outcome {
     /// The bytes of the font file of the shipped characters, or `None` where no character was shipped.
     pub gf: Option<GfBytes>,
-    /// The record of each viewer: its looks in order, the last of which it took after the end of the script. Empty for a run
-    /// without viewers.
+    /// The record of each viewer: a glance of each of its looks, in order. The last shows everything that `currentpicture`
+    /// accepted. Empty for a run without viewers.
     pub seen: Vec<Vec<Glance>>,
 }

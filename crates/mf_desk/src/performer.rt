@@ -4,7 +4,7 @@ ghost use Rattle.mf_live.specs.Desks.{desk_identity, most_places, remaining_view
 ghost use Rattle.mf_desk.specs.EndedRuns.{IsEndOf};
 ghost use Rattle.mf_desk.specs.Fault.{BreaksOff};
 ghost use Rattle.mf_desk.specs.Performances.{run_limits};
-ghost use Rattle.mf_desk.specs.Performer.{IsLineText, IsWritten, longest_text, most_counted};
+ghost use Rattle.mf_desk.specs.Performer.{IsLineText, IsWritten, longest_text, most_counted_bytes};
 ghost use Rattle.mf_desk.specs.Streams.{Gets};
 ghost use Rattle.mf_session.specs.Sessions.{StandsFor, identity, limits};
 ghost use Rattle.mf_session.specs.States.{State, least_bytes, start};
@@ -67,7 +67,7 @@ impl Performer {
         writer: &mut W,
         line: &[u8],
     ) -> Result<(), RunFault>
-        requires { self.old.written + longest_text ≤ most_counted }
+        requires { self.old.written + longest_text ≤ most_counted_bytes }
         ensures written { OnOk result (Gets (W.contents writer.old) (W.contents writer.new) (IsWritten self.old line.now self.new)) }
         ensures at_most { OnOk result (self.new.written ≤ self.old.written + longest_text) }
         ensures limits { limits self.new.session ≡ limits self.old.session }
@@ -89,7 +89,7 @@ impl Performer {
         writer: &mut W,
         line: &[u8],
     ) -> Result<(), RunFault>
-        requires { self.old.written + longest_text ≤ most_counted }
+        requires { self.old.written + longest_text ≤ most_counted_bytes }
         ensures written { OnOk result (Gets (W.contents writer.old) (W.contents writer.new) (IsWritten self.old line.now self.new)) }
         ensures at_most { OnOk result (self.new.written ≤ self.old.written + longest_text) }
         ensures limits { limits self.new.session ≡ limits self.old.session }

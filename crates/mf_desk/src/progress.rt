@@ -7,9 +7,9 @@ ghost use Rattle.mf_live.specs.Writers.{ended_identity};
 ghost use Rattle.mf_desk.specs.EndedRuns.{EndsWith};
 ghost use Rattle.mf_desk.specs.Fault.{Breaks};
 ghost use Rattle.mf_desk.specs.Performances.{run_limits};
-ghost use Rattle.mf_desk.specs.Performer.{longest_read, longest_text, most_counted, most_written};
-ghost use Rattle.mf_desk.specs.Progress.{BreaksAfter, GoesOn, HasCounted, IsAfter, ReadsThrough, taking};
-ghost use Rattle.mf_desk.specs.Streams.{Gets, Passes, Passing, streams};
+ghost use Rattle.mf_desk.specs.Performer.{longest_read, longest_text, most_counted_bytes, most_written_bytes};
+ghost use Rattle.mf_desk.specs.Progress.{BreaksAfter, GoesOn, HasCounted, IsAfter, ReadsThrough, intake};
+ghost use Rattle.mf_desk.specs.Streams.{Gets, Passes, MakesPassage, streams};
 ghost use Rattle.mf_session.specs.Sessions.{identity, limits};
 ghost use Rattle.mf_session.specs.States.{least_bytes};
 
@@ -76,7 +76,7 @@ impl Progress {
         ensures over { IfOk result (λ run. EndsWith (limits self.performer.session)
             (streams (R.remaining reader.old) (R.remaining reader.new) (W.contents writer.old) (W.contents writer.new)) run) }
         ensures identity { IfOk result (λ run. ended_identity run.ended ≡ identity self.performer.session) }
-        ensures short { IfOk result (λ run. run.written ≤ most_written) }
+        ensures short { IfOk result (λ run. run.written ≤ most_written_bytes) }
         ensures end { OnOk result (IsAtEnd (R.remaining reader.new)) }
         ensures fault { IfErr result (λ fault.
             Passes (streams (R.remaining reader.old) (R.remaining reader.new) (W.contents writer.old) (W.contents writer.new))
@@ -112,7 +112,7 @@ impl Progress {
         ensures through { OnOk result
             (ReadsThrough (streams (R.remaining reader.old) (R.remaining reader.new) (W.contents writer.old) (W.contents writer.new))
             self.new.performer) }
-        ensures short { OnOk result (self.new.performer.written ≤ most_written) }
+        ensures short { OnOk result (self.new.performer.written ≤ most_written_bytes) }
         ensures limits { limits self.new.performer.session ≡ limits self.old.performer.session }
         ensures identity { identity self.new.performer.session ≡ identity self.old.performer.session }
         ensures end { OnOk result (IsAtEnd (R.remaining reader.new)) }
@@ -140,12 +140,12 @@ impl Progress {
         writer: &mut W,
         bytes: &[u8],
     ) -> Result<(), RunFault>
-        requires { self.old.performer.written + length bytes.now * longest_text ≤ most_counted }
-        ensures after { OnOk result (GoesOn (taking self.old bytes.now (W.contents writer.old) (W.contents writer.new)) self.new) }
+        requires { self.old.performer.written + length bytes.now * longest_text ≤ most_counted_bytes }
+        ensures after { OnOk result (GoesOn (intake self.old bytes.now (W.contents writer.old) (W.contents writer.new)) self.new) }
         ensures at_most { OnOk result (self.new.performer.written ≤ self.old.performer.written + length bytes.now * longest_text) }
         ensures limits { limits self.new.performer.session ≡ limits self.old.performer.session }
         ensures identity { identity self.new.performer.session ≡ identity self.old.performer.session }
-        ensures fault { IfErr result (BreaksAfter (taking self.old bytes.now (W.contents writer.old) (W.contents writer.new))) }
+        ensures fault { IfErr result (BreaksAfter (intake self.old bytes.now (W.contents writer.old) (W.contents writer.new))) }
     {
         let mut rest = bytes;
         'lines: while let Some(place) = memchr(b'\n', rest) {
@@ -164,13 +164,13 @@ impl Progress {
         writer: &mut W,
         bytes: &[u8],
     ) -> Result<(), RunFault>
-        requires room { self.old.performer.written + longest_text ≤ most_counted }
+        requires room { self.old.performer.written + longest_text ≤ most_counted_bytes }
         requires unbroken { All (λ byte. byte ≢ 10) bytes.now }
-        ensures after { OnOk result (GoesOn (taking self.old (bytes.now ++ 10 ∷ []) (W.contents writer.old) (W.contents writer.new)) self.new) }
+        ensures after { OnOk result (GoesOn (intake self.old (bytes.now ++ 10 ∷ []) (W.contents writer.old) (W.contents writer.new)) self.new) }
         ensures at_most { OnOk result (self.new.performer.written ≤ self.old.performer.written + longest_text) }
         ensures limits { limits self.new.performer.session ≡ limits self.old.performer.session }
         ensures identity { identity self.new.performer.session ≡ identity self.old.performer.session }
-        ensures fault { IfErr result (BreaksAfter (taking self.old (bytes.now ++ 10 ∷ []) (W.contents writer.old) (W.contents writer.new))) }
+        ensures fault { IfErr result (BreaksAfter (intake self.old (bytes.now ++ 10 ∷ []) (W.contents writer.old) (W.contents writer.new))) }
     {
         if self.line.is_empty() {
             let line = before_line_feed(bytes);
@@ -187,7 +187,7 @@ impl Progress {
         alloc: Global,
         writer: &mut W,
     ) -> Result<(), RunFault>
-        requires { self.old.performer.written + longest_text ≤ most_counted }
+        requires { self.old.performer.written + longest_text ≤ most_counted_bytes }
         ensures done { OnOk result ((held : Option (List ℕ)) (read : List ℕ) → IsAfter held read self.old (W.contents writer.old)
             → HasCounted held (lines read) self.new.performer (W.contents writer.new)) }
         ensures at_most { OnOk result (self.new.performer.written ≤ self.old.performer.written + longest_text) }
@@ -195,7 +195,7 @@ impl Progress {
         ensures identity { identity self.new.performer.session ≡ identity self.old.performer.session }
         ensures fault { IfErr result (λ fault. (held left : Option (List ℕ)) (read : List ℕ) → IsAtEnd left
             → IsAfter held read self.old (W.contents writer.old)
-            → Gets held (W.contents writer.new) (Passing (Breaks (limits self.old.performer.session) fault) left read)) }
+            → Gets held (W.contents writer.new) (MakesPassage (Breaks (limits self.old.performer.session) fault) left read)) }
     {
         if self.line.is_empty() {
             return Ok(());
@@ -212,12 +212,12 @@ impl Progress {
         alloc: Global,
         writer: &mut W,
     ) -> Result<(), RunFault>
-        requires { self.old.performer.written + longest_text ≤ most_counted }
-        ensures after { OnOk result (GoesOn (taking self.old (10 ∷ []) (W.contents writer.old) (W.contents writer.new)) self.new) }
+        requires { self.old.performer.written + longest_text ≤ most_counted_bytes }
+        ensures after { OnOk result (GoesOn (intake self.old (10 ∷ []) (W.contents writer.old) (W.contents writer.new)) self.new) }
         ensures at_most { OnOk result (self.new.performer.written ≤ self.old.performer.written + longest_text) }
         ensures limits { limits self.new.performer.session ≡ limits self.old.performer.session }
         ensures identity { identity self.new.performer.session ≡ identity self.old.performer.session }
-        ensures fault { IfErr result (BreaksAfter (taking self.old (10 ∷ []) (W.contents writer.old) (W.contents writer.new))) }
+        ensures fault { IfErr result (BreaksAfter (intake self.old (10 ∷ []) (W.contents writer.old) (W.contents writer.new))) }
     {
         self.performer
             .perform(rt, alloc, writer, self.line.at_line_feed())?;
@@ -228,9 +228,9 @@ impl Progress {
     /// Keeps bytes that have no line feed.
     fn keep(&mut self, bytes: &[u8]) -> Result<(), RunFault>
         requires { All (λ byte. byte ≢ 10) bytes.now }
-        ensures after { OnOk result ((holds : Option (List ℕ)) → GoesOn (taking self.old bytes.now holds holds) self.new) }
+        ensures after { OnOk result ((holds : Option (List ℕ)) → GoesOn (intake self.old bytes.now holds holds) self.new) }
         ensures same { self.new.performer ≡ self.old.performer }
-        ensures fault { IfErr result (λ fault. (holds : Option (List ℕ)) → BreaksAfter (taking self.old bytes.now holds holds) fault) }
+        ensures fault { IfErr result (λ fault. (holds : Option (List ℕ)) → BreaksAfter (intake self.old bytes.now holds holds) fault) }
     {
         self.line.extend(bytes)?;
         Ok(())

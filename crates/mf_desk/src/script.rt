@@ -21,9 +21,9 @@ pub const CHUNK_SIZE: usize = 65_536;
 
 /// Reads a script to its end, line by line, and writes the transcript: the text of each line goes to the writer before the next
 /// line is performed, and the writer is flushed before each read and after the last text. The outcome is the font file of the
-/// characters that the script has shipped. Refused with `OutOfMemory`, `FileTooLong`, `ReadFault` or `WriteFault`; [`RunFault`]
-/// says what each means, and what was written by then. It keeps at most one line, and of a line that is too long only enough
-/// bytes to know that. It has no viewers, so it waits for nobody.
+/// characters that the script has shipped, and no record. Refused with `OutOfMemory`, `FileTooLong`, `ReadFault` or `WriteFault`;
+/// [`RunFault`] says what each means, and what was written by then. Of the script it keeps the bytes of one read, and at most
+/// 65,538 bytes of the line that no line feed has ended yet: enough to know that a line is too long. There is no look to wait for.
 pub fn run<S: Wait, R: Read, W: Write>(
     rt: &S,
     alloc: Global,

@@ -23,13 +23,13 @@ use Rattle.clap.specs.declared.builder.value_parser.ValueParser.TheVariants as p
 use Rattle.clap.specs.declared.parser.matches.ArgMatches.{ArgMatches}
 use Rattle.clap.specs.declared.parser.matches.MatchedArg.{MatchedArg}
 use Rattle.mf_options.proofs.ValuesTyped.{flag_text, in_range}
-use Rattle.mf_options.specs.Options.{within}
+use Rattle.mf_options.specs.Options.{number_parser}
 use Rattle.mf_options.specs.Values.{AreValuesOf, IsFlagText, IsNumberIn, IsValueOf, have_parser, is_option, is_parser}
 
 is_parser-same : (q : ValueParser) (o : Option ValueParser) → is_parser q o ≡ true → o ≡ Some q
 is_parser-same (parser.Signed (pos low) (pos high)) (Some (parser.Signed (pos a) (pos b))) e =
     let parts = both (a == low) (b == high) e in
-    ap₂ (λ x y. Some (within x y)) (eqb-true a low parts.0) (eqb-true b high parts.1)
+    ap₂ (λ x y. Some (number_parser x y)) (eqb-true a low parts.0) (eqb-true b high parts.1)
 is_parser-same parser.Bool (Some parser.Bool) e = refl
 is_parser-same _ _ e = cc
 

@@ -1,3 +1,4 @@
 pub mod Faults
+pub mod Names
 pub mod Options
 pub mod Values

@@ -6,13 +6,13 @@ use Rattle.clap.specs.declared.builder.action.ArgAction.TheVariants.{SetTrue}
 use Rattle.clap.specs.declared.builder.value_parser.ValueParser.{ValueParser}
 use Rattle.clap.specs.declared.builder.value_parser.ValueParser.TheVariants as parser
 
--- the numbers low..high
-abbrev pub within : ℕ → ℕ → ValueParser
-within low high = parser.Signed (pos low) (pos high)
+-- the parser of the numbers low..high
+abbrev pub number_parser : ℕ → ℕ → ValueParser
+number_parser low high = parser.Signed (pos low) (pos high)
 
 -- the option `--NAME N` with a number low..high
 abbrev pub number_rule : Text → ℕ → ℕ → Rule
-number_rule name low high = record (new_rule name) { long = Some name; parser = Some (within low high) }
+number_rule name low high = record (new_rule name) { long = Some name; parser = Some (number_parser low high) }
 
 -- the option `--NAME FILE`
 abbrev pub file_rule : Text → Rule

@@ -58,11 +58,11 @@ is_parser _ _ = false
 abbrev pub have_parser : Text → ValueParser → List Rule → Bool
 have_parser id q rules = list_all (λ r. not (bytes_eq r.id id) || is_parser q r.parser) rules
 
--- the id is that of options with this parser alone, and clap makes no option with it
+-- the id is that of options with this parser alone, and is neither empty nor one that clap keeps for options of its own
 abbrev pub is_option : List Rule → Text → ValueParser → Bool
 is_option rules id q = have_parser id q rules
     && (not (bytes_eq id (codes "help")) && (not (bytes_eq id (codes "version")) && not (bytes_eq id [])))
 
--- each value that the words give is one that the parser of its option takes
+-- each value that the words give to such an option is one that its parser takes
 abbrev pub AreValuesOf : List Rule → List Row → Type 0
 AreValuesOf rules found = (id : Text) (q : ValueParser) → is_option rules id q ≡ true → IfSome (one_of id found) (IsValueOf q)

@@ -2,7 +2,7 @@
 use Rattle.std.proofs.Common.{◌≡◌, List, codes, refl, subst, true}
 use Rattle.clap.specs.Words.{App, Row, is_simple_and_free}
 use Rattle.clap.specs.declared.builder.value_parser.ValueParser.TheVariants.{Bool as flag}
-use Rattle.mf_options.specs.Options.{within}
+use Rattle.mf_options.specs.Options.{number_parser}
 use Rattle.mf_options.specs.Values.{AreValuesOf}
 use Rattle.mf_view_words.specs.CommandLine.{mfview, rules}
 use Rattle.mf_view_words.specs.Ranges.{greatest_columns, greatest_design_size, greatest_pause, greatest_resolution, greatest_rows}
@@ -18,11 +18,11 @@ readable app found same values = go (subst (λ (a : App). AreValuesOf a.top.rule
   where
     go : AreValuesOf rules found → IsReadable found
     go of = record {
-      columns = of (codes "columns") (within 1 greatest_columns) refl;
-      rows = of (codes "rows") (within 1 greatest_rows) refl;
-      pause = of (codes "pause") (within 0 greatest_pause) refl;
-      design_size = of (codes "design-size") (within 0 greatest_design_size) refl;
-      resolution = of (codes "resolution") (within 0 greatest_resolution) refl;
+      columns = of (codes "columns") (number_parser 1 greatest_columns) refl;
+      rows = of (codes "rows") (number_parser 1 greatest_rows) refl;
+      pause = of (codes "pause") (number_parser 0 greatest_pause) refl;
+      design_size = of (codes "design-size") (number_parser 0 greatest_design_size) refl;
+      resolution = of (codes "resolution") (number_parser 0 greatest_resolution) refl;
       frames = of (codes "frames") flag refl;
       pgm = of (codes "pgm") flag refl;
       help = of (codes "asks-help") flag refl;

@@ -1,7 +1,7 @@
 -- The command line has plain options only, and the words give numbers to `--viewers`.
 use Rattle.std.proofs.Common.{◌≡◌, IfSome, List, codes, refl, subst, true}
 use Rattle.clap.specs.Words.{App, Row, is_simple_and_free, one_of}
-use Rattle.mf_options.specs.Options.{within}
+use Rattle.mf_options.specs.Options.{number_parser}
 use Rattle.mf_options.specs.Values.{AreValuesOf, IsNumberIn}
 use Rattle.mf_words.specs.CommandLine.{greatest_viewers, mfpic}
 
@@ -12,4 +12,4 @@ mfpic-plain = refl
 pub viewers_given : (app : App) (found : List Row) → app ≡ mfpic → AreValuesOf app.top.rules found
     → IfSome (one_of (codes "viewers") found) (IsNumberIn 0 greatest_viewers)
 unfolding mfpic
-viewers_given app found same values = subst (λ (a : App). AreValuesOf a.top.rules found) same values (codes "viewers") (within 0 greatest_viewers) refl
+viewers_given app found same values = subst (λ (a : App). AreValuesOf a.top.rules found) same values (codes "viewers") (number_parser 0 greatest_viewers) refl

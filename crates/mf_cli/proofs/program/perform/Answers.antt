@@ -1,5 +1,5 @@
 use Rattle.std.proofs.Common.{rules, inr, refl}
-use Rattle.mf_desk.proofs.Faults.{IfErr-raised}
+use Rattle.mf_base.proofs.Faults.{IfErr-raised}
 use Rattle.mf_cli.proofs.program.perform.Goals as goal
 
 pub returns-in_default-clause-done : goal.returns-in_default-clause-done

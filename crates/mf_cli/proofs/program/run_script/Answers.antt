@@ -1,5 +1,5 @@
 use Rattle.std.proofs.lemmas.Result.{IfOk-weaker}
-use Rattle.mf_desk.proofs.Faults.{IfErr-raised}
+use Rattle.mf_base.proofs.Faults.{IfErr-raised}
 use Rattle.mf_desk.proofs.Performances.{TellsOfRun-nothing}
 use Rattle.mf_cli.specs.Output.{looks, settings}
 use Rattle.mf_cli.proofs.program.run_script.Goals as goal

@@ -3,7 +3,7 @@ use Rattle.std.proofs.lemmas.Result.{IfErr-at_err, IfErr-weaker, IfOk-weaker, er
 use Rattle.mf_desk.specs.declared.fault.RunFault.TheVariants as faults
 use Rattle.mf_desk.specs.ViewerFaults.{run_fault_of_start}
 use Rattle.mf_watch.specs.Watching.{AreStarted, viewer_count}
-use Rattle.mf_desk.proofs.Faults.{IfErr-raised}
+use Rattle.mf_base.proofs.Faults.{IfErr-raised}
 use Rattle.mf_desk.proofs.Performances.{TellsOfRun-begun, TellsOfRun-first, TellsOfRun-nothing, TellsOfRun-unstarted}
 use Rattle.mf_desk.proofs.performance.perform.Goals as goal
 

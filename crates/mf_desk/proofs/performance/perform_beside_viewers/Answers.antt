@@ -6,7 +6,7 @@ use Rattle.mf_watch.specs.declared.watcher.Watcher.{Watcher}
 use Rattle.mf_session.specs.Sessions.{identity}
 use Rattle.mf_watch.specs.Watchers.{IsRecord, IsWatcher}
 use Rattle.mf_watch.specs.Watching.{AreStarted, viewer_count}
-use Rattle.mf_desk.proofs.Faults.{IfErr-raised}
+use Rattle.mf_base.proofs.Faults.{IfErr-raised}
 use Rattle.mf_desk.proofs.Performances.{TellsOfBegun-script, TellsOfBegun-end, TellsOfEnd-unfinished, IsPerformance-over}
 use Rattle.mf_desk.proofs.performance.perform_beside_viewers.Goals.{After-join-joined}
 use Rattle.mf_desk.proofs.performance.perform_beside_viewers.Goals as goal

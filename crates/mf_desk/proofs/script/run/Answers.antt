@@ -7,7 +7,7 @@ use Rattle.mf_desk.specs.declared.ended_run.EndedRun.{EndedRun}
 use Rattle.mf_desk.specs.declared.outcome.Outcome.{Outcome}
 use Rattle.mf_desk.specs.EndedRuns.{glance}
 use Rattle.mf_desk.specs.Performances.{viewer_lines}
-use Rattle.mf_desk.proofs.Faults.{IfErr-raised}
+use Rattle.mf_base.proofs.Faults.{IfErr-raised}
 use Rattle.mf_desk.proofs.Performances.{TellsOfBegun-end, TellsOfBegun-script, TellsOfEnd-unfinished, TellsOfRun-begun}
 use Rattle.mf_desk.proofs.Performances.{IsPerformance-over, TellsOfRun-nothing, TellsOfRun-unstarted}
 use Rattle.mf_desk.proofs.ViewerLines.{lines-nobody}

@@ -4,7 +4,7 @@ use Rattle.std.proofs.lemmas.List.Elements.{All-nil, All-head, All-rest}
 use Rattle.mf_live.specs.Writers.{ended_identity}
 use Rattle.mf_watch.specs.Watchers.{HasRoomFor, IsRecord, identity}
 use Rattle.mf_desk.specs.EndedRuns.{HasSeenLast}
-use Rattle.mf_desk.proofs.Faults.{IfErr-raised}
+use Rattle.mf_base.proofs.Faults.{IfErr-raised}
 use Rattle.mf_desk.proofs.Showing.{HasShown-start, breaks-behind, breaks-unflushed}
 use Rattle.mf_desk.proofs.ended_run.EndedRun.show_all.Goals as goal
 

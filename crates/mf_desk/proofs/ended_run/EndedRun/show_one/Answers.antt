@@ -5,7 +5,7 @@ use Rattle.std.proofs.lemmas.List.Elements.{All-push}
 use Rattle.mf_watch.specs.Watchers.{HasSeen, glance_at, record_of}
 use Rattle.mf_desk.specs.EndedRuns.{HasSeenLast, glance}
 use Rattle.mf_desk.specs.Performances.{viewer_line}
-use Rattle.mf_desk.proofs.Faults.{IfErr-raised}
+use Rattle.mf_base.proofs.Faults.{IfErr-raised}
 use Rattle.mf_desk.proofs.Showing.{HasShown-next, breaks-behind, breaks-line, breaks-look}
 use Rattle.mf_desk.proofs.ended_run.EndedRun.show_one.Goals.{In_ok-line}
 use Rattle.mf_desk.proofs.ended_run.EndedRun.show_one.Goals as goal

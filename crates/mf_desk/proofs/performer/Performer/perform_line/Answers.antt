@@ -2,7 +2,7 @@ use Rattle.std.proofs.Common.{[], ◌++◌, refl, take, drop, sym, ap, ◌+◌, 
 use Rattle.std.proofs.KnownBytes.{Appends-nil}
 use Rattle.std.proofs.lemmas.List.{length-take-le}
 use Rattle.mf_desk.specs.Performer.{IsLineText}
-use Rattle.mf_desk.proofs.Faults.{IfErr-raised}
+use Rattle.mf_base.proofs.Faults.{IfErr-raised}
 use Rattle.mf_desk.proofs.performer.Performer.perform_line.Goals as goal
 
 pub returns-in_err-text-clause-fault : goal.returns-in_err-text-clause-fault

@@ -1,4 +1,4 @@
-use Rattle.mf_desk.proofs.Faults.{IfErr-raised}
+use Rattle.mf_base.proofs.Faults.{IfErr-raised}
 use Rattle.mf_desk.proofs.Stages.{IsAfter-ended, Breaks-ended, kept-ended}
 use Rattle.mf_desk.proofs.progress.Progress.end_line.Goals as goal
 

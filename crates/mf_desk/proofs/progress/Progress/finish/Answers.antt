@@ -3,7 +3,7 @@ use Rattle.std.specs.Prelude.{OnOk}
 use Rattle.std.specs.Str.Lines.{lines}
 use Rattle.std.proofs.lemmas.Result.{IfErr-weaker}
 use Rattle.mf_desk.specs.Progress.{HasCounted, IsAfter}
-use Rattle.mf_desk.proofs.Faults.{IfErr-raised}
+use Rattle.mf_base.proofs.Faults.{IfErr-raised}
 use Rattle.mf_desk.proofs.Ended.{lines-none}
 use Rattle.mf_desk.proofs.Stages.{HasCounted-flushed, HasCounted-last, empty-unended, Breaks-last, Breaks-flush}
 use Rattle.mf_desk.proofs.progress.Progress.finish.Goals.{In_ok-perform}

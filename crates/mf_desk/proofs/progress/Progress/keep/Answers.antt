@@ -1,5 +1,5 @@
 use Rattle.std.proofs.Common.{refl}
-use Rattle.mf_desk.proofs.Faults.{IfErr-raised}
+use Rattle.mf_base.proofs.Faults.{IfErr-raised}
 use Rattle.mf_desk.proofs.Stages.{IsAfter-unbroken, Breaks-between}
 use Rattle.mf_desk.proofs.progress.Progress.keep.Goals as goal
 

@@ -1,11 +1,12 @@
 use Rattle.std.proofs.Common.{◌≡◌, ◌<◌, ◌++◌, Option, [], List, ℕ, length, take, inl, refl, sym, ap, ◌∙◌, subst, append-nil, arith}
 use Rattle.std.proofs.KnownBytes.{Consumes-nil, Consumes-trans, Consumes-kept}
-use Rattle.std.proofs.lemmas.Result.{err_from_is_err_and, on_ok_weaker, IfErr-weaker}
+use Rattle.std.proofs.lemmas.Result.{on_ok_weaker, IfErr-weaker}
 use Rattle.std.specs.Io.KnownBytes.{Consumes, IsAtEnd}
 use Rattle.mf_desk.specs.Ended.{ended_lines}
 use Rattle.mf_desk.specs.Fault.{Breaks}
-use Rattle.mf_desk.specs.Streams.{Gets, Passing}
+use Rattle.mf_desk.specs.Streams.{Gets, MakesPassage}
 use Rattle.mf_session.specs.Sessions.{limits}
+use Rattle.mf_base.proofs.Faults.{IfErr-raised}
 use Rattle.mf_desk.proofs.Stages.{Breaks-flush, Breaks-reads, IsAfter-flushed}
 use Rattle.mf_desk.proofs.progress.Progress.read_all.Goals as goal
 
@@ -21,13 +22,13 @@ reads-init g c = (omega (arith, c.requires.unwritten), ([], Consumes-nil _, c.re
 pub returns-in_err-flush-clause-fault : goal.returns-in_err-flush-clause-fault
 returns-in_err-flush-clause-fault g c =
     let (read, consumed, after) = c.reads.invariant.1 in
-    let passed_on = err_from_is_err_and c.from_residual.result c.from_residual.ensures.1 in
-    rw (passed_on.1, passed_on.2, ← c.reads.invariant.2) (
+    IfErr-raised c.from_residual.result _ c.from_residual.ensures.1
+    (rw (← c.reads.invariant.2) (
       read,
       consumed,
       Breaks-flush _ _ _ _ _ read (ended_lines read) c.reads.self.performer (inl (sym (append-nil _))) refl c.flush.ensures.kept after.lines
           c.in_err-flush.field-0.0 c.in_err-flush.ensures.fault,
-    )
+    ))
 
 pub returns-in-Err-clause-fault : goal.returns-in-Err-clause-fault
 returns-in-Err-clause-fault g c =
@@ -68,13 +69,13 @@ returns-in_err-take-in-Ok-clause-fault g c =
     let later = g.W.Write.contents c.take.new.writer in
     let left = g.R.Read.remaining c.read.new.self in
     let bytes = read ++ take c.in-Ok.count c.read.new.buf in
-    let passed_on = err_from_is_err_and c.from_residual-in_err-take-in-Ok.result c.from_residual-in_err-take-in-Ok.ensures.1 in
-    rw (passed_on.1, passed_on.2, ← c.reads.invariant.2) (
+    IfErr-raised c.from_residual-in_err-take-in-Ok.result _ c.from_residual-in_err-take-in-Ok.ensures.1
+    (rw (← c.reads.invariant.2) (
       bytes,
       Consumes-trans _ _ _ read _ consumed c.in-Ok.ensures.bytes.0,
-      subst (λ all. Gets held later (Passing (Breaks (limits c.reads.self.performer.session) c.in_err-take-in-Ok.field-0.0) left all)) (append-nil bytes)
+      subst (λ all. Gets held later (MakesPassage (Breaks (limits c.reads.self.performer.session) c.in_err-take-in-Ok.field-0.0) left all)) (append-nil bytes)
           (c.in_err-take-in-Ok.ensures.fault held _ read [] after),
-    )
+    ))
 
 pub reads-preserved : goal.reads-preserved
 reads-preserved g c =

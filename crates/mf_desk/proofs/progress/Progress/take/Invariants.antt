@@ -1,6 +1,6 @@
-use Rattle.std.proofs.Common.{◌≡◌, ◌+◌, ◌*◌, ◌≤◌, ◌++◌, Option, List, ℕ, length}
+use Rattle.std.proofs.Common.{◌≡◌, ◌+◌, ◌*◌, ◌≤◌, ◌++◌, List, ℕ, length}
 use Rattle.mf_desk.specs.Performer.{longest_text}
-use Rattle.mf_desk.specs.Progress.{IsAfter}
+use Rattle.mf_desk.specs.Progress.{GoesOn, intake}
 use Rattle.mf_session.specs.Sessions.{identity, limits}
 use Rattle.mf_desk.proofs.progress.Progress.take.Given as goal
 
@@ -9,8 +9,7 @@ invariant-lines g l =
     (done : List ℕ)
     × (l.bytes ≡ done ++ l.rest)
     × (l.self.performer.written ≤ l.initial.self.performer.written + length done * longest_text)
-    × ((held : Option (List ℕ)) (read : List ℕ) → IsAfter held read l.initial.self (g.W.Write.contents l.initial.writer)
-    → IsAfter held (read ++ done) l.self (g.W.Write.contents l.writer))
+    × GoesOn (intake l.initial.self done (g.W.Write.contents l.initial.writer) (g.W.Write.contents l.writer)) l.self
     × (limits l.self.performer.session ≡ limits l.initial.self.performer.session)
     × (identity l.self.performer.session ≡ identity l.initial.self.performer.session)
 

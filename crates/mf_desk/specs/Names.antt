@@ -1,0 +1,14 @@
+-- The names of the faults of runs, as texts show them.
+use Rattle.std.specs.Prelude.{ℕ, List, codes}
+use Rattle.mf_base.specs.Names.{memory_text}
+use Rattle.mf_desk.specs.declared.fault.RunFault.{RunFault}
+use Rattle.mf_desk.specs.declared.fault.RunFault.TheVariants.{OutOfMemory, NoPlace, FileTooLong, ReadFault, WriteFault, NoLook}
+
+-- the name of a fault; the number of bytes written is in the fault alone
+abbrev pub run_fault_text : RunFault → List ℕ
+run_fault_text OutOfMemory = memory_text
+run_fault_text NoPlace = codes "NoPlace"
+run_fault_text FileTooLong = codes "FileTooLong"
+run_fault_text ReadFault = codes "ReadFault"
+run_fault_text (WriteFault count) = codes "WriteFault"
+run_fault_text NoLook = codes "NoLook"
