@@ -1,6 +1,7 @@
 use Rattle.std.proofs.Common.{Err, ap, arith}
 use Rattle.std.proofs.lemmas.Result.{err_from_is_err_and}
 use Rattle.mf_view.proofs.Broken.{broken-place, broken-stage, unasked-stage}
+use Rattle.mf_view.proofs.Drawn.{part-nothing}
 use Rattle.mf_view.proofs.performance.perform.Goals as goal
 
 pub returns-in_err-stage-clause-fault : goal.returns-in_err-stage-clause-fault
@@ -17,3 +18,11 @@ returns-in_err-stage-clause-plates g c =
 
 pub returns-clause-fault : goal.returns-clause-fault
 returns-clause-fault g c = broken-place _ _
+
+pub returns-in_err-stage-clause-drawn : goal.returns-in_err-stage-clause-drawn
+returns-in_err-stage-clause-drawn g c =
+    let failed = err_from_is_err_and c.from_residual.result c.from_residual.ensures.1 in
+    rw failed.1 (part-nothing _ _)
+
+pub returns-clause-drawn : goal.returns-clause-drawn
+returns-clause-drawn g c = part-nothing _ _
