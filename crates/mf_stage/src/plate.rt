@@ -24,7 +24,7 @@ pub struct Plates {
 /// An image file that is to be written.
 #[derive(Drop)]
 pub struct Image {
-    /// Its path: the folder, the revision in seven digits, and `.svg` or `.pgm`.
+    /// Its path: the folder, the revision in at least seven digits, and `.svg` or `.pgm`.
     pub path: String,
     /// The bytes of the file.
     pub bytes: Vec<u8>,

@@ -74,6 +74,7 @@ impl Stage {
     ///
     /// Refused with `OutOfMemory`, `ReadFault` or `WriteFault`, and where plates are asked for, with `ImageTooLarge` or `PlateFault`.
     /// `ReadFault` also comes after 18,446,744,073,709,551,615 lines. What was written by then stays; the caller discards the stage.
+    /// No clause says that plates are written, or when the pace is told: tests do.
     pub fn perform<S: Wait + Files, R: Read + Drop, W: Write, P: Pace>(
         &mut self,
         rt: &S,
@@ -203,9 +204,9 @@ impl Stage {
         Ok(Some(plates.plate(alloc, revision, picture)?))
     }
 
-    /// Ends the script: writes the plate of the last revision, again if it was written before, and closes the picture. Answers with
-    /// the closed picture, and the font file of the shipped characters. Refused with `OutOfMemory`, `ImageTooLarge` or
-    /// `PlateFault`; then the picture is not closed, and looks may be refused.
+    /// Ends the script: writes the plate of the last revision, if plates are asked for, again if it was written before, and closes
+    /// the picture. Answers with the closed picture, and the font file of the shipped characters. Refused with `OutOfMemory`,
+    /// `ImageTooLarge` or `PlateFault`; then the picture is not closed, and looks may be refused.
     pub fn finish<S: Wait + Files>(
         self,
         rt: &S,
