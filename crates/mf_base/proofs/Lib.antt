@@ -1,2 +1,3 @@
+pub mod Faults
 mod KnownTexts
 mod Messages

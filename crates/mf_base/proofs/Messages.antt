@@ -1,4 +1,4 @@
--- A message, as far as a writer took it.
+-- A message, of which a writer took a front.
 use Rattle.std.proofs.Common.{ℕ, List, [], Option, Result, Ok, Err, IfErr, OnOk, drop, take, sym}
 use Rattle.std.proofs.lemmas.List.{append-nil, take-append-drop}
 use Rattle.std.specs.Io.KnownBytes.{Appends}
