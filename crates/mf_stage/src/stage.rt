@@ -5,7 +5,7 @@ ghost use Rattle.mf_session.specs.Endings.{HasEnded};
 ghost use Rattle.mf_live.specs.Entries.{picture_at, revision_at};
 ghost use Rattle.mf_session.specs.States.{State, least_bytes, limits_of, start};
 ghost use Rattle.mf_stage.specs.Faults.{BreaksLines, BreaksScript, ConcernsPlate, IsOfImage, IsOfPlate, NeedsNoFile};
-ghost use Rattle.mf_stage.specs.Publications.{IsPlateWhere, IsPublication};
+ghost use Rattle.mf_stage.specs.Publications.{IsPlateIfAsked, IsPublication};
 ghost use Rattle.mf_stage.specs.Scripts.{HasPerformedLine, PerformsLines, PerformsAll, StillStands, act_of};
 ghost use Rattle.mf_stage.specs.Stages.{StandsFor, identity, limits, plates_of, session_of};
 
@@ -189,7 +189,7 @@ impl Stage {
 
     /// The plate of `currentpicture`, if plates are asked for.
     fn plate(&self, alloc: Global) -> Result<Option<Plate>, StageFault>
-        ensures made { IfOk result (λ made. (s : State) → StandsFor self.now s → IsPlateWhere (plates_of self.now) s.pictures.accepted made) }
+        ensures made { IfOk result (λ made. (s : State) → StandsFor self.now s → IsPlateIfAsked (plates_of self.now) s.pictures.accepted made) }
         ensures plate { IfOk result (λ made. IsSome made → IsSome (plates_of self.now)) }
         ensures asked { IfErr result (λ _. IsSome (plates_of self.now)) }
         ensures fault { IfErr result (λ fault. (s : State) → StandsFor self.now s
