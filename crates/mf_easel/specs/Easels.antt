@@ -47,13 +47,13 @@ revision_of easel = easel.drawn
 abbrev pub HasSameManner : Easel → Easel → Type 0
 HasSameManner before after = manner_of after ≡ manner_of before
 
--- the text that draws a picture of this revision on an easel: over the frame before, if there is one
-abbrev pub drawing_with : Easel → ℕ → List Dot → List ℕ
-drawing_with easel revision ds = over easel.style easel.canvas (revision_of easel) ++ frame_text easel.style easel.canvas revision ds
+-- the text that draws a picture of this revision in a manner, over the frame of the revision drawn before, if there is one
+abbrev pub drawing : Manner → Option ℕ → ℕ → List Dot → List ℕ
+drawing m before revision ds = over m.style m.canvas before ++ frame_text m.style m.canvas revision ds
 
 -- the text that draws the picture of a list on an easel
 abbrev pub drawing_of : Easel → List Entry → List ℕ
-drawing_of easel L = drawing_with easel (revision_at L) (picture_at L)
+drawing_of easel L = drawing (manner_of easel) (revision_of easel) (revision_at L) (picture_at L)
 
 -- where nothing is drawn, the viewer has not looked, or something failed after it had
 abbrev pub IsNotDrawn : Viewer → Viewer → EaselFault → Type 0

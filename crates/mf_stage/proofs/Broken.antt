@@ -17,7 +17,7 @@ use Rattle.mf_stage.proofs.Performed.{published-all}
 use Rattle.mf_stage.proofs.Scripts.{AreFirstLines, IsUnderWay, under_way-line, under_way-start}
 use Rattle.mf_stage.specs.Faults.{BreaksLines, BreaksScript, ConcernsPlate, AreBrokenOff, IsCutText, IsOfPlate, IsPublishedAs, TellsOfScript}
 use Rattle.mf_stage.specs.Lines.{IsReadLine, Reads, without_ending}
-use Rattle.mf_stage.specs.Publications.{IsPlateWhere}
+use Rattle.mf_stage.specs.Publications.{IsPlateIfAsked}
 use Rattle.mf_stage.specs.Scripts.{Act, HasPerformedLine, PerformsFrom, act_of}
 use Rattle.mf_stage.specs.Stages.{StandsFor, limits, plates_of}
 use Rattle.mf_stage.specs.declared.fault.StageFault.{StageFault}
@@ -39,11 +39,6 @@ tells-between d last fault written (inr is) first = subst (λ f. TellsOfScript d
 between-plates : (fault : StageFault) → (fault ≡ OutOfMemory) ⊎ (fault ≡ ReadFault) → ConcernsPlate fault → ⊥
 between-plates fault (inl is) concerns = subst ConcernsPlate is concerns
 between-plates fault (inr is) concerns = subst ConcernsPlate is concerns
-
--- there is a plate only where plates are asked for
-plate-asked : (plates : Option Plates) (shown : List Entry) (made : Option Plate) → IsPlateWhere plates shown made → IsSome made → IsSome plates
-plate-asked None shown made none some = absurd (false≢true (sym (ap is_some none) ∙ some))
-plate-asked (Some plates) shown made is some = refl
 
 module _ (limits : Limits) (s t : State) (done mid more : List (List ℕ)) (text : List ℕ) (before : Perform limits s done (answer_with text t)) where
   -- lines that were performed go before the first of others
@@ -210,11 +205,11 @@ line-published act s next line text fault answer stands out all is some = record
   asked = λ concerns. some;
 }
 
--- a picture with a plate is not too large for an image
-pub plate-fits : (wanted : Option Plates) (shown : List Entry) (made : Option Plate) → IsPlateWhere wanted shown made → IsSome made
-    → IsTooLargeForImage (picture_at shown) → ⊥
-plate-fits None shown made none some large = absurd (false≢true (sym (ap is_some none) ∙ some))
-plate-fits (Some plates) shown made (plate, is, it) some large = it.svg.fits large
+-- there is a plate only where plates are asked for, and where the picture is not too large for an image
+plate-made : (plates : Option Plates) (shown : List Entry) (made : Option Plate) → IsPlateIfAsked plates shown made → IsSome made
+    → IsSome plates × (IsTooLargeForImage (picture_at shown) → ⊥)
+plate-made None shown made none some = absurd (false≢true (sym (ap is_some none) ∙ some))
+plate-made (Some plates) shown made (plate, is, it) some = (refl, it.svg.fits)
 
 -- the same of a plate that was made and not written
 pub line-unwritten : (act : Act) (s : State) (line : List ℕ) (fault : StageFault) (made : Option Publication) → HasPerformedLine act s line made
@@ -223,6 +218,5 @@ line-unwritten act s line fault None done is = absurd is
 line-unwritten act s line fault (Some publication) done (is, some) =
     let (given, of_list) = done.made_is in
     let all = published-all (limits act.before) s line (answer_with done.text done.next) done.answer given in
-    line-published act s done.next line done.text fault done.answer done.stands done.out all
-    (inr (is ∙ ap PlateFault of_list.revision, plate-fits (plates_of act.before) done.next.pictures.published publication.plate of_list.plate some))
-    (plate-asked (plates_of act.before) done.next.pictures.published publication.plate of_list.plate some)
+    let (asked, fits) = plate-made (plates_of act.before) done.next.pictures.published publication.plate of_list.plate some in
+    line-published act s done.next line done.text fault done.answer done.stands done.out all (inr (is ∙ ap PlateFault of_list.revision, fits)) asked

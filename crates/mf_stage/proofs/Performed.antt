@@ -7,7 +7,7 @@ use Rattle.mf_session.specs.Answers.{Answers, AnswersTo}
 use Rattle.mf_session.specs.Sessions.{HasAnswered, limits}
 use Rattle.mf_session.specs.States.{Answer, Limits, State, answer_with}
 use Rattle.mf_stage.specs.Plates.{IsPlate}
-use Rattle.mf_stage.specs.Publications.{IsPlateWhere, IsPublication}
+use Rattle.mf_stage.specs.Publications.{IsPlateIfAsked, IsPublication}
 use Rattle.mf_stage.specs.Scripts.{HasPerformedLine, act_of}
 use Rattle.mf_stage.specs.Stages.{plates_of, session_of}
 use Rattle.mf_stage.specs.declared.plate.Plate.{Plate}
@@ -21,9 +21,9 @@ use Rattle.mf_text.specs.declared.command.Command.TheVariants.{Publish}
 -- the plate of a picture is that of the list that it is the picture of
 pub plate_where : (wanted : Option Plates) (plates : Plates) (shown : List Entry) (revision : ℕ) (ds : List Dot) (made : Plate)
     → wanted ≡ Some plates → revision ≡ revision_at shown → ds ≡ picture_at shown
-    → IsPlate plates revision ds made → IsPlateWhere wanted shown (Some made)
+    → IsPlate plates revision ds made → IsPlateIfAsked wanted shown (Some made)
 plate_where wanted plates shown revision ds made is number picture plate =
-    subst (λ w. IsPlateWhere w shown (Some made)) (sym is)
+    subst (λ w. IsPlateIfAsked w shown (Some made)) (sym is)
     (made, refl, subst (λ n. IsPlate plates n (picture_at shown) made) number (subst (λ e. IsPlate plates revision e made) picture plate))
 
 -- after a line that publishes, everything that was accepted is published

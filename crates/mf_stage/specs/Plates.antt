@@ -31,15 +31,15 @@ pub record IsPgm (plates : Plates) (revision : ℕ) (ds : List Dot) (image : Ima
   pub path : string_bytes image.path ≡ path_of (string_bytes plates.folder) revision (codes "pgm")
   pub bytes : image.bytes.items ≡ pgm_bytes ds
 
--- a PGM image of which this is true where one is asked for, and else none
-abbrev pub IsPgmWhere : Bool → (Image → Type 0) → Option Image → Type 0
-IsPgmWhere true IsSuch made = (image : Image) × (made ≡ Some image) × IsSuch image
-IsPgmWhere false IsSuch made = made ≡ None
+-- where PGM images are asked for, there is one, of which this is true, and else there is none
+abbrev pub IsPgmIfAsked : Bool → (Image → Type 0) → Option Image → Type 0
+IsPgmIfAsked true IsSuch made = (image : Image) × (made ≡ Some image) × IsSuch image
+IsPgmIfAsked false IsSuch made = made ≡ None
 
 -- the plate of a picture that has this revision
 pub record IsPlate (plates : Plates) (revision : ℕ) (ds : List Dot) (plate : Plate) : Type 0 where
   pub svg : IsSvg plates revision ds plate.svg
-  pub pgm : IsPgmWhere plates.pgm (IsPgm plates revision ds) plate.pgm
+  pub pgm : IsPgmIfAsked plates.pgm (IsPgm plates revision ds) plate.pgm
 
 -- the fault of a script where the picture of a revision has no image
 abbrev pub fault_of_image : ImageFault → ℕ → StageFault

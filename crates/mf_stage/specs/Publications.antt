@@ -8,15 +8,15 @@ use Rattle.mf_stage.specs.declared.stage.Publication.{Publication}
 use Rattle.mf_text.specs.Lines.{Gives}
 use Rattle.mf_text.specs.declared.command.Command.TheVariants.{Publish}
 
--- the plate of the picture of a list where plates are asked for, and else none
-abbrev pub IsPlateWhere : Option Plates → List Entry → Option Plate → Type 0
-IsPlateWhere None shown made = made ≡ None
-IsPlateWhere (Some plates) shown made = (plate : Plate) × (made ≡ Some plate) × IsPlate plates (revision_at shown) (picture_at shown) plate
+-- where plates are asked for, there is the plate of the picture of a list, and else there is none
+abbrev pub IsPlateIfAsked : Option Plates → List Entry → Option Plate → Type 0
+IsPlateIfAsked None shown made = made ≡ None
+IsPlateIfAsked (Some plates) shown made = (plate : Plate) × (made ≡ Some plate) × IsPlate plates (revision_at shown) (picture_at shown) plate
 
 -- what is made where this list is published
 pub record IsPublication (plates : Option Plates) (shown : List Entry) (made : Publication) : Type 0 where
   pub revision : made.revision ≡ revision_at shown
-  pub plate : IsPlateWhere plates shown made.plate
+  pub plate : IsPlateIfAsked plates shown made.plate
 
 -- what is made of a line after which this list is published: its publication where the line gives the command to publish, and else
 -- nothing

@@ -2,7 +2,7 @@
 ghost use Rattle.std.specs.Io.KnownBytes.{Appends};
 ghost use Rattle.std.specs.Prelude.{◌≡◌, IfErr, IfOk, OnOk, string_bytes};
 ghost use Rattle.mf_stage.specs.Faults.{IsOfImage};
-ghost use Rattle.mf_stage.specs.Plates.{IsPgm, IsPgmWhere, IsPlate, IsSvg, fault_of_image, path_of, seven_digits};
+ghost use Rattle.mf_stage.specs.Plates.{IsPgm, IsPgmIfAsked, IsPlate, IsSvg, fault_of_image, path_of, seven_digits};
 
 use crate::fault::StageFault;
 use mf_image::{ImageFault, pgm, svg};
@@ -24,7 +24,7 @@ pub struct Plates {
 /// An image file that is to be written.
 #[derive(Drop)]
 pub struct Image {
-    /// Its path: the folder, the revision in seven digits, and `.svg` or `.pgm`.
+    /// Its path: the folder, the revision in at least seven digits, and `.svg` or `.pgm`.
     pub path: String,
     /// The bytes of the file.
     pub bytes: Vec<u8>,
@@ -63,7 +63,7 @@ impl Plates {
         revision: u32,
         picture: &Picture,
     ) -> Result<Option<Image>, StageFault>
-        ensures made { IfOk result (IsPgmWhere self.now.pgm (IsPgm self.now revision picture.now)) }
+        ensures made { IfOk result (IsPgmIfAsked self.now.pgm (IsPgm self.now revision picture.now)) }
         ensures fault { IfErr result (IsOfImage revision picture.now) }
     {
         if !self.pgm {

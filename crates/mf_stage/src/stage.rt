@@ -5,7 +5,7 @@ ghost use Rattle.mf_session.specs.Endings.{HasEnded};
 ghost use Rattle.mf_live.specs.Entries.{picture_at, revision_at};
 ghost use Rattle.mf_session.specs.States.{State, least_bytes, limits_of, start};
 ghost use Rattle.mf_stage.specs.Faults.{BreaksLines, BreaksScript, ConcernsPlate, IsOfImage, IsOfPlate, NeedsNoFile};
-ghost use Rattle.mf_stage.specs.Publications.{IsPlateWhere, IsPublication};
+ghost use Rattle.mf_stage.specs.Publications.{IsPlateIfAsked, IsPublication};
 ghost use Rattle.mf_stage.specs.Scripts.{HasPerformedLine, PerformsLines, PerformsAll, StillStands, act_of};
 ghost use Rattle.mf_stage.specs.Stages.{StandsFor, identity, limits, plates_of, session_of};
 
@@ -74,6 +74,7 @@ impl Stage {
     ///
     /// Refused with `OutOfMemory`, `ReadFault` or `WriteFault`, and where plates are asked for, with `ImageTooLarge` or `PlateFault`.
     /// `ReadFault` also comes after 18,446,744,073,709,551,615 lines. What was written by then stays; the caller discards the stage.
+    /// No clause says that plates are written, or when the pace is told: tests do.
     pub fn perform<S: Wait + Files, R: Read + Drop, W: Write, P: Pace>(
         &mut self,
         rt: &S,
@@ -188,7 +189,7 @@ impl Stage {
 
     /// The plate of `currentpicture`, if plates are asked for.
     fn plate(&self, alloc: Global) -> Result<Option<Plate>, StageFault>
-        ensures made { IfOk result (λ made. (s : State) → StandsFor self.now s → IsPlateWhere (plates_of self.now) s.pictures.accepted made) }
+        ensures made { IfOk result (λ made. (s : State) → StandsFor self.now s → IsPlateIfAsked (plates_of self.now) s.pictures.accepted made) }
         ensures plate { IfOk result (λ made. IsSome made → IsSome (plates_of self.now)) }
         ensures asked { IfErr result (λ _. IsSome (plates_of self.now)) }
         ensures fault { IfErr result (λ fault. (s : State) → StandsFor self.now s
@@ -203,9 +204,9 @@ impl Stage {
         Ok(Some(plates.plate(alloc, revision, picture)?))
     }
 
-    /// Ends the script: writes the plate of the last revision, again if it was written before, and closes the picture. Answers with
-    /// the closed picture, and the font file of the shipped characters. Refused with `OutOfMemory`, `ImageTooLarge` or
-    /// `PlateFault`; then the picture is not closed, and looks may be refused.
+    /// Ends the script: writes the plate of the last revision, if plates are asked for, again if it was written before, and closes
+    /// the picture. Answers with the closed picture, and the font file of the shipped characters. Refused with `OutOfMemory`,
+    /// `ImageTooLarge` or `PlateFault`; then the picture is not closed, and looks may be refused.
     pub fn finish<S: Wait + Files>(
         self,
         rt: &S,

@@ -6,7 +6,8 @@ use Rattle.std.specs.Prelude.{IsSome}
 use Rattle.mf_gf.specs.declared.file.GfFile.{GfFile}
 use Rattle.mf_session.specs.States.{State, answer_with, start}
 use Rattle.mf_session.specs.Transcript.{Due, Perform, due}
-use Rattle.mf_stage.specs.Faults.{BreaksScript, ConcernsPlate, TellsOfScript}
+use Rattle.mf_stage.specs.Faults as stage_faults
+use Rattle.mf_stage.specs.Faults.{BreaksScript, TellsOfScript}
 use Rattle.mf_stage.specs.Scripts.{PerformsAll, act_of}
 use Rattle.mf_stage.specs.Stages.{StandsFor, limits, plates_of}
 use Rattle.mf_stage.specs.declared.fault.StageFault.{StageFault}
@@ -14,13 +15,13 @@ use Rattle.mf_stage.specs.declared.fault.StageFault.TheVariants as stages
 use Rattle.mf_stage.specs.declared.stage.Stage.{Stage}
 use Rattle.mf_view.specs.Broken.{IsBrokenOff, IsOfEnd, TellsOfPerformance}
 use Rattle.mf_view.specs.Causes.{fault_of_stage}
-use Rattle.mf_view.specs.Faults.{ComesFromPlate, IsBrokenOffInto}
+use Rattle.mf_view.specs.Faults.{ConcernsPlate, IsBrokenOffInto}
 use Rattle.mf_view.specs.Performances.{ScreenStreams, script_limits}
 use Rattle.mf_view.specs.declared.fault.ProgramFault.{ProgramFault}
 use Rattle.mf_view.specs.declared.fault.ProgramFault.TheVariants.{OutOfMemory, NoPlace, TooSmall}
 
 -- a fault of a plate is one to the stage, too
-concerns-stage : (cause : StageFault) → ComesFromPlate (fault_of_stage cause) → ConcernsPlate cause
+concerns-stage : (cause : StageFault) → ConcernsPlate (fault_of_stage cause) → stage_faults.ConcernsPlate cause
 concerns-stage (stages.ImageTooLarge revision) concerns = tt
 concerns-stage (stages.PlateFault revision) concerns = tt
 concerns-stage cause concerns = absurd concerns
@@ -70,12 +71,12 @@ module _ (before after : Stage) (unread told tells : Option (List ℕ)) (limited
   pub asked-whole : (performed : Result (Unit {0}) StageFault) (r : Result GfFile ProgramFault) → plates_of after ≡ plates_of before
       → IfErr performed (BreaksScript (act_of before after told tells) unread)
       → IfErr performed (λ cause. r ≡ Err (fault_of_stage cause))
-      → OnOk performed (IfErr r (λ fault. ComesFromPlate fault → IsSome (plates_of after)))
-      → IfErr r (λ fault. ComesFromPlate fault → IsSome (plates_of before))
+      → OnOk performed (IfErr r (λ fault. ConcernsPlate fault → IsSome (plates_of after)))
+      → IfErr r (λ fault. ConcernsPlate fault → IsSome (plates_of before))
   asked-whole (Ok done) (Ok file) same broken is asked = tt
   asked-whole (Ok done) (Err fault) same broken is asked = λ concerns. subst IsSome same (asked concerns)
   asked-whole (Err cause) r same broken is asked =
-      subst (λ r. IfErr r (λ fault. ComesFromPlate fault → IsSome (plates_of before))) (sym is)
+      subst (λ r. IfErr r (λ fault. ConcernsPlate fault → IsSome (plates_of before))) (sym is)
       (λ concerns. (broken.broken start begins).asked (concerns-stage cause concerns))
 
 some-bytes : (unread : Option (List ℕ)) → (input : List ℕ) × IfSome unread (λ bytes. input ≡ bytes)
@@ -106,9 +107,9 @@ pub broken-stage : (unread told : Option (List ℕ)) (cause : StageFault) → (c
 broken-stage unread told cause (inl is) long_enough = absurd (long_enough is)
 broken-stage unread told cause (inr is) long_enough = subst (λ f. IsBrokenOff unread told told (fault_of_stage f)) (sym is) (broken-memory unread told)
 
-pub unasked-stage : (cause : StageFault) → (cause ≡ stages.FileTooLong) ⊎ (cause ≡ stages.OutOfMemory) → ComesFromPlate (fault_of_stage cause) → ⊥
-unasked-stage cause (inl is) concerns = subst (λ f. ComesFromPlate (fault_of_stage f)) is concerns
-unasked-stage cause (inr is) concerns = subst (λ f. ComesFromPlate (fault_of_stage f)) is concerns
+pub unasked-stage : (cause : StageFault) → (cause ≡ stages.FileTooLong) ⊎ (cause ≡ stages.OutOfMemory) → ConcernsPlate (fault_of_stage cause) → ⊥
+unasked-stage cause (inl is) concerns = subst (λ f. ConcernsPlate (fault_of_stage f)) is concerns
+unasked-stage cause (inr is) concerns = subst (λ f. ConcernsPlate (fault_of_stage f)) is concerns
 
 -- room to draw is not what a performance lacks
 roomy-stage : (cause : StageFault) → TooSmall ≡ fault_of_stage cause → ⊥

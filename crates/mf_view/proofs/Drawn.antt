@@ -1,13 +1,15 @@
 -- What looks add to what an easel has drawn.
-use Rattle.std.proofs.Common.{◌≡◌, ◌+◌, ◌∙◌, ◌++◌, ℕ, List, [], ◌∷◌, Option, None, Some, IfSome, All, length, ap, arith, refl, sym, subst}
+use Rattle.std.proofs.Common.{◌≡◌, ◌+◌, ◌∙◌, ◌++◌, ℕ, List, [], ◌∷◌, Option, None, Some, IfSome, length, ap, arith, refl, sym, subst}
 use Rattle.std.specs.Io.KnownBytes.{Appends}
 use Rattle.std.proofs.KnownBytes.{Appends-nil, Appends-trans}
 use Rattle.std.proofs.lemmas.List.{append-nil}
 use Rattle.std.proofs.lemmas.List.Elements.{All-cons, All-head, All-nil, All-weaker}
-use Rattle.mf_easel.specs.Easels.{HasLookedLast, HasSameManner, Manner, drawing_of, looked_at_list, manner_of, revision_of, viewer_of}
-use Rattle.mf_easel.specs.Screens.{GetsFrame, IsAbove, new_revision, over, screen_of}
-use Rattle.mf_frame.specs.Frames.{frame_text}
+use Rattle.mf_base.specs.Messages.{GetsMessage}
+use Rattle.mf_easel.specs.Easels.{HasLookedLast, HasSameManner, Manner, drawing, drawing_of, looked_at_list, manner_of, revision_of, viewer_of}
+use Rattle.mf_easel.specs.Screens.{GetsFrame, GetsNoMore, IsAbove, new_revision, screen_of}
 use Rattle.mf_easel.specs.declared.easel.Easel.{Easel}
+use Rattle.mf_easel.specs.declared.fault.EaselFault.{EaselFault}
+use Rattle.mf_easel.specs.declared.fault.EaselFault.TheVariants.{NoLook, OutOfMemory, WriteFault}
 use Rattle.mf_ops.specs.Operations.{picture_after, revision_after}
 use Rattle.mf_ops.specs.declared.op.Op.{Op}
 use Rattle.mf_live.specs.Entries.{Entry, operations, picture_at, revision_at}
@@ -15,7 +17,8 @@ use Rattle.mf_live.specs.Prefixes.{IsWholePrefix}
 use Rattle.mf_live.specs.Sheets.{HasLooked}
 use Rattle.mf_live.proofs.EntryLists.{operations-append, revision_at-append}
 use Rattle.mf_live.proofs.WholePrefixes.{whole-self, whole-trans}
-use Rattle.mf_view.specs.Drawings.{HasDrawn, IsSeenOf, Rise, ShowsLast, drawing, frames, last_revision}
+use Rattle.mf_view.proofs.Messages.{message-after}
+use Rattle.mf_view.specs.Drawings.{AreLooks, HasDrawn, HasDrawnPart, IsPublishable, IsSeenOf, ShowsLast, frames, last_revision}
 
 -- nothing is drawn where the revision is that of the frame before
 new-none : (drawn : Option ℕ) (revision : ℕ) → new_revision drawn revision ≡ None → drawn ≡ Some revision
@@ -27,9 +30,24 @@ new-some : (drawn : Option ℕ) (revision shown : ℕ) → new_revision drawn re
 new-some None revision shown some = grind arith
 new-some (Some before) revision shown some = grind arith
 
--- what is seen of a list is seen of a longer one
-seen-more : (S L : List Entry) (lists : List (List Entry)) → IsWholePrefix S L → All (IsSeenOf S) lists → All (IsSeenOf L) lists
-seen-more S L lists more seen = All-weaker (IsSeenOf S) (IsSeenOf L) (λ A part. whole-trans A S L part more) lists seen
+-- what was looked at before a list was looked at before a longer one
+looks-before : (S L : List Entry) (lists : List (List Entry)) → IsWholePrefix S L → AreLooks S lists → AreLooks L lists
+looks-before S L lists more looks = record {
+  rise = looks.rise;
+  seen = All-weaker (IsSeenOf S) (IsSeenOf L) (λ A part. whole-trans A S L part more) lists looks.seen;
+  published = looks.published;
+}
+
+-- and so was that longer one, if its revision is above
+looks-more : (S L : List Entry) (lists : List (List Entry)) (drawn : Option ℕ) → drawn ≡ last_revision lists → IsAbove drawn (revision_at L)
+    → IsWholePrefix S L → IsPublishable L → AreLooks S lists → AreLooks L (L ∷ lists)
+looks-more S L lists drawn last above more published looks =
+    let before = looks-before S L lists more looks in
+    record {
+      rise = (subst (λ d. IsAbove d (revision_at L)) last above, before.rise);
+      seen = All-cons (IsSeenOf L) L lists (whole-self L) before.seen;
+      published = All-cons IsPublishable L lists published before.published;
+    }
 
 -- what was drawn is the same text in the same manner
 in-manner : (held holds : Option (List ℕ)) (before after : Easel) (lists : List (List Entry)) → HasSameManner before after
@@ -39,10 +57,10 @@ in-manner held holds before after lists same text = subst (λ m. Appends held ho
 -- what a look draws goes after what was drawn
 drawn-after : (held then holds : Option (List ℕ)) (m : Manner) (drawn : Option ℕ) (lists : List (List Entry)) (L : List Entry)
     → Appends held then (frames m lists) → drawn ≡ last_revision lists
-    → Appends then holds (over m.style m.canvas drawn ++ frame_text m.style m.canvas (revision_at L) (picture_at L)) → Appends held holds (frames m (L ∷ lists))
+    → Appends then holds (drawing m drawn (revision_at L) (picture_at L)) → Appends held holds (frames m (L ∷ lists))
 drawn-after held then holds m drawn lists L was last gets =
-    Appends-trans held then holds (frames m lists) (drawing m lists L) was
-    (subst (λ d. Appends then holds (over m.style m.canvas d ++ frame_text m.style m.canvas (revision_at L) (picture_at L))) last gets)
+    Appends-trans held then holds (frames m lists) (drawing m (last_revision lists) (revision_at L) (picture_at L)) was
+    (subst (λ d. Appends then holds (drawing m d (revision_at L) (picture_at L))) last gets)
 
 -- a look draws its own list after what was drawn, or what was drawn last has its revision
 pub drawn-look : {W : Type 0} (contents : W → Option (List ℕ)) (held : Option (List ℕ)) (s t : W) (before after : Easel) (shown : Option ℕ)
@@ -54,8 +72,7 @@ pub drawn-look : {W : Type 0} (contents : W → Option (List ℕ)) (held : Optio
 drawn-look contents held s t before after None look manner answer drawn same rising was = record {
   lists = was.lists;
   text = rw same (in-manner held (contents s) before after was.lists manner was.text);
-  rise = was.rise;
-  seen = seen-more (looked_at_list before) (looked_at_list after) was.lists look.extends.looked was.seen;
+  looks = looks-before (looked_at_list before) (looked_at_list after) was.lists look.extends.looked was.looks;
   last = drawn ∙ (sym (new-none (revision_of before) (revision_at (looked_at_list after)) (sym answer)) ∙ was.last);
 }
 drawn-look contents held s t before after (Some shown) look manner answer drawn gets rising was =
@@ -64,9 +81,8 @@ drawn-look contents held s t before after (Some shown) look manner answer drawn 
       lists = looked_at_list after ∷ was.lists;
       text = in-manner held (contents t) before after (looked_at_list after ∷ was.lists) manner
           (drawn-after held (contents s) (contents t) (manner_of before) (revision_of before) was.lists (looked_at_list after) was.text was.last gets);
-      rise = (subst (λ n. IsAbove (last_revision was.lists) n) revision (subst (λ d. IsAbove d shown) was.last rising), was.rise);
-      seen = All-cons (IsSeenOf (looked_at_list after)) (looked_at_list after) was.lists (whole-self (looked_at_list after))
-          (seen-more (looked_at_list before) (looked_at_list after) was.lists look.extends.looked was.seen);
+      looks = looks-more (looked_at_list before) (looked_at_list after) was.lists (revision_of before) was.last
+          (subst (IsAbove (revision_of before)) revision rising) look.extends.looked (_, look.published) was.looks;
       last = drawn;
     }
 
@@ -86,19 +102,18 @@ same-picture L whole part same =
 
 -- the last picture was drawn before
 shown-before : (easel : Easel) (whole : List Entry) (held holds : Option (List ℕ)) (lists : List (List Entry))
-    → Appends held holds (frames (manner_of easel) lists) → Rise lists → All (IsSeenOf whole) lists → last_revision lists ≡ Some (revision_at whole)
+    → Appends held holds (frames (manner_of easel) lists) → AreLooks whole lists → last_revision lists ≡ Some (revision_at whole)
     → ShowsLast (manner_of easel) whole held holds
-shown-before easel whole held holds [] text rise seen last = cc
-shown-before easel whole held holds (L ∷ earlier) text rise seen last =
+shown-before easel whole held holds [] text looks last = cc
+shown-before easel whole held holds (L ∷ earlier) text looks last =
     let revision : revision_at L ≡ revision_at whole = cc in
     record {
       last = L;
       earlier = earlier;
       text = text;
-      rise = rise;
-      seen = seen;
+      looks = looks;
       revision = revision;
-      picture = same-picture L whole (All-head (IsSeenOf whole) L earlier seen) revision;
+      picture = same-picture L whole (All-head (IsSeenOf whole) L earlier looks.seen) revision;
     }
 
 -- the last look leaves the last picture on the screen
@@ -108,21 +123,50 @@ pub shown-last : {W : Type 0} (contents : W → Option (List ℕ)) (held : Optio
     → HasDrawn before held (contents s) → ShowsLast (manner_of before) whole held (contents t)
 shown-last contents held s t before after whole None look answer same rising was =
     let again = sym was.last ∙ new-none (revision_of before) (revision_at whole) (sym answer) in
-    let seen = seen-more (looked_at_list before) whole was.lists look.0.looked was.seen in
-    rw same (shown-before before whole held (contents s) was.lists was.text was.rise seen again)
+    let looks = looks-before (looked_at_list before) whole was.lists look.0.looked was.looks in
+    rw same (shown-before before whole held (contents s) was.lists was.text looks again)
 shown-last contents held s t before after whole (Some shown) look answer gets rising was =
     let revision = new-some (revision_of before) (revision_at whole) shown (sym answer) in
     record {
       last = whole;
       earlier = was.lists;
       text = drawn-after held (contents s) (contents t) (manner_of before) (revision_of before) was.lists whole was.text was.last gets;
-      rise = (subst (λ n. IsAbove (last_revision was.lists) n) revision (subst (λ d. IsAbove d shown) was.last rising), was.rise);
-      seen = All-cons (IsSeenOf whole) whole was.lists (whole-self whole) (seen-more (looked_at_list before) whole was.lists look.0.looked was.seen);
+      looks = looks-more (looked_at_list before) whole was.lists (revision_of before) was.last (subst (IsAbove (revision_of before)) revision rising)
+          look.0.looked (_, look.1.published) was.looks;
       revision = refl;
       picture = refl;
     }
 
+no-looks : (whole : List Entry) → AreLooks whole []
+no-looks whole = record { rise = tt; seen = All-nil (IsSeenOf whole); published = All-nil IsPublishable }
+
 -- an easel that has drawn nothing
 pub drawn-nothing : (easel : Easel) (held : Option (List ℕ)) → revision_of easel ≡ None → HasDrawn easel held held
-drawn-nothing easel held nothing =
-    record { lists = []; text = Appends-nil held; rise = tt; seen = All-nil (IsSeenOf (looked_at_list easel)); last = nothing }
+drawn-nothing easel held nothing = record { lists = []; text = Appends-nil held; looks = no-looks (looked_at_list easel); last = nothing }
+
+-- all that an easel has drawn is a part of it
+pub part-all : (easel : Easel) (held holds : Option (List ℕ)) → HasDrawn easel held holds → HasDrawnPart (manner_of easel) held holds
+part-all easel held holds was =
+    let text = frames (manner_of easel) was.lists in
+    record { whole = looked_at_list easel; lists = was.lists; looks = was.looks; text = (text, [], sym (append-nil text), was.text) }
+
+-- nothing was drawn
+pub part-nothing : (m : Manner) (held : Option (List ℕ)) → HasDrawnPart m held held
+part-nothing m held = record { whole = []; lists = []; looks = no-looks []; text = ([], [], refl, Appends-nil held) }
+
+-- after a fault of a look at a list the screen has a part of what was drawn and of the frame of that list
+pub part-cut : {W : Type 0} (contents : W → Option (List ℕ)) (held : Option (List ℕ)) (s t : W) (easel : Easel) (L : List Entry) (fault : EaselFault)
+    → (fault ≡ WriteFault → IsWholePrefix (looked_at_list easel) L × IsPublishable L × IsAbove (revision_of easel) (revision_at L))
+    → GetsNoMore (screen_of contents s t) (drawing_of easel L) fault → HasDrawn easel held (contents s) → HasDrawnPart (manner_of easel) held (contents t)
+part-cut contents held s t easel L OutOfMemory begun same was = rw same (part-all easel held (contents s) was)
+part-cut contents held s t easel L NoLook begun same was = rw same (part-all easel held (contents s) was)
+part-cut contents held s t easel L WriteFault begun gets was =
+    let (more, published, above) = begun refl in
+    let frame = λ (drawn : Option ℕ). drawing (manner_of easel) drawn (revision_at L) (picture_at L) in
+    record {
+      whole = L;
+      lists = L ∷ was.lists;
+      looks = looks-more (looked_at_list easel) L was.lists (revision_of easel) was.last above more published was.looks;
+      text = message-after held (contents s) (contents t) (frames (manner_of easel) was.lists) (frame (last_revision was.lists)) was.text
+          (subst (λ d. GetsMessage (contents s) (contents t) (frame d)) was.last gets);
+    }

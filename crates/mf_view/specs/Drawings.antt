@@ -1,27 +1,25 @@
 -- What an easel has drawn on a screen.
-use Rattle.std.specs.Prelude.{◌≡◌, ℕ, All, List, [], ◌∷◌, ◌++◌, None, OnOk, Option, Result, Some}
+use Rattle.std.specs.Prelude.{◌≡◌, ℕ, All, List, [], ◌∷◌, ◌++◌, MatchResult, None, OnOk, Option, Result, Some}
 use Rattle.std.specs.Io.KnownBytes.{Appends}
-use Rattle.mf_easel.specs.Easels.{Manner, looked_at_list, manner_of, revision_of}
-use Rattle.mf_easel.specs.Screens.{IsAbove, over}
+use Rattle.mf_base.specs.Messages.{GetsMessage}
+use Rattle.mf_easel.specs.Easels.{Manner, drawing, looked_at_list, manner_of, revision_of}
+use Rattle.mf_easel.specs.Screens.{IsAbove}
 use Rattle.mf_easel.specs.declared.easel.Easel.{Easel}
 use Rattle.mf_easel.specs.declared.fault.EaselFault.{EaselFault}
-use Rattle.mf_frame.specs.Frames.{frame_text}
 use Rattle.mf_live.specs.Entries.{Entry, picture_at, revision_at}
 use Rattle.mf_live.specs.Prefixes.{IsWholePrefix}
+use Rattle.mf_live.specs.Viewers.{IsPublished}
+use Rattle.mf_live.specs.declared.event.Event.{Event}
 
 -- the revision of the last of these lists, which are given from the last to the first
 abbrev pub last_revision : List (List Entry) → Option ℕ
 last_revision [] = None
 last_revision (L ∷ earlier) = Some (revision_at L)
 
--- the frame of the picture of a list, drawn over that of the last of the earlier lists
-abbrev pub drawing : Manner → List (List Entry) → List Entry → List ℕ
-drawing m earlier L = over m.style m.canvas (last_revision earlier) ++ frame_text m.style m.canvas (revision_at L) (picture_at L)
-
 -- the frames of the pictures of these lists, each drawn over the one before it
 abbrev pub frames : Manner → List (List Entry) → List ℕ
 frames m [] = []
-frames m (L ∷ earlier) = frames m earlier ++ drawing m earlier L
+frames m (L ∷ earlier) = frames m earlier ++ drawing m (last_revision earlier) (revision_at L) (picture_at L)
 
 -- the revision of each of these lists is above that of the one before it
 abbrev pub Rise : List (List Entry) → Type 0
@@ -32,27 +30,46 @@ Rise (L ∷ earlier) = IsAbove (last_revision earlier) (revision_at L) × Rise e
 abbrev pub IsSeenOf : List Entry → List Entry → Type 0
 IsSeenOf whole L = IsWholePrefix L whole
 
--- an easel has drawn frames of what its viewer has seen, of rising revisions, and nothing else went to its screen
+-- some events may happen that publish this list
+abbrev pub IsPublishable : List Entry → Type 0
+IsPublishable L = (events : List Event) × IsPublished events L
+
+-- a viewer that has looked at a list may have looked at these before: whole prefixes of it that may be published, of rising revisions
+pub record AreLooks (whole : List Entry) (lists : List (List Entry)) : Type 0 where
+  pub rise : Rise lists
+  pub seen : All (IsSeenOf whole) lists
+  pub published : All IsPublishable lists
+
+-- an easel has drawn frames of what its viewer has looked at, and nothing else went to its screen
 pub record HasDrawn (easel : Easel) (held holds : Option (List ℕ)) : Type 0 where
   pub lists : List (List Entry)
   pub text : Appends held holds (frames (manner_of easel) lists)
-  pub rise : Rise lists
-  pub seen : All (IsSeenOf (looked_at_list easel)) lists
+  pub looks : AreLooks (looked_at_list easel) lists
   pub last : revision_of easel ≡ last_revision lists
+
+-- a screen has got a front of the frames of what a viewer may have looked at, and nothing else: so the last frame may be cut, and no other
+pub record HasDrawnPart (manner : Manner) (held holds : Option (List ℕ)) : Type 0 where
+  pub whole : List Entry
+  pub lists : List (List Entry)
+  pub looks : AreLooks whole lists
+  pub text : GetsMessage held holds (frames manner lists)
 
 -- the easel has drawn more, whatever it had drawn before; its screen, which held some bytes, now holds others
 abbrev pub DrawsMore : Easel → Easel → Option (List ℕ) → Option (List ℕ) → Type 0
 DrawsMore before after holds later = (held : Option (List ℕ)) → HasDrawn before held holds → HasDrawn after held later
 
--- a screen has got frames of whole prefixes of a list, of rising revisions, and the last is that of the picture of the list
+-- a screen has got frames of what a viewer may have looked at before it looked at a list, and the last is that of the picture of the list
 pub record ShowsLast (manner : Manner) (whole : List Entry) (held holds : Option (List ℕ)) : Type 0 where
   pub last : List Entry
   pub earlier : List (List Entry)
   pub text : Appends held holds (frames manner (last ∷ earlier))
-  pub rise : Rise (last ∷ earlier)
-  pub seen : All (IsSeenOf whole) (last ∷ earlier)
+  pub looks : AreLooks whole (last ∷ earlier)
   pub revision : revision_at last ≡ revision_at whole
   pub picture : picture_at last ≡ picture_at whole
+
+-- the easel has drawn a part of its frames, whatever it had drawn before; its screen, which held some bytes, now holds others
+abbrev pub DrawsPart : Easel → Option (List ℕ) → Option (List ℕ) → Type 0
+DrawsPart easel holds later = (held : Option (List ℕ)) → HasDrawn easel held holds → HasDrawnPart (manner_of easel) held later
 
 -- the last picture, which is that of this list, is shown, whatever the easel had drawn before; its screen, which held some bytes, now
 -- holds others
@@ -74,3 +91,11 @@ receipt contents before after = record { held = contents before; holds = content
 abbrev pub EndsDrawing : Result (Unit {0}) EaselFault → Easel → List Entry → Receipt → Type 0
 EndsDrawing drawn easel whole screen =
     (held : Option (List ℕ)) → OnOk drawn (HasDrawn easel held screen.held) → ShowsLast (manner_of easel) whole held screen.holds
+
+-- an easel whose drawing has come to this result has drawn frames, or a part of them where the drawing has failed
+abbrev pub HasDrawnAs : Result (Unit {0}) EaselFault → Easel → Option (List ℕ) → Option (List ℕ) → Type 0
+HasDrawnAs drawn easel held holds = MatchResult drawn (λ _. HasDrawn easel held holds) (λ _. HasDrawnPart (manner_of easel) held holds)
+
+-- a part of the frames is on the screen where a run ends with a fault after such a drawing
+abbrev pub LeavesPart : Result (Unit {0}) EaselFault → Easel → Receipt → Type 0
+LeavesPart drawn easel screen = (held : Option (List ℕ)) → HasDrawnAs drawn easel held screen.held → HasDrawnPart (manner_of easel) held screen.holds

@@ -1,5 +1,5 @@
 -- What the program has written where it ends well.
-use Rattle.std.specs.Prelude.{◌≡◌, ◌≢◌, ◌⊎◌, Bool, true, false, ℕ, List, [], Option, None, Some, IsSome, codes, option_map, string_bytes}
+use Rattle.std.specs.Prelude.{◌≡◌, ◌≢◌, ◌⊎◌, Bool, true, false, ℕ, List, [], Option, None, Some, IsSome, option_map, string_bytes}
 use Rattle.std.specs.Io.KnownBytes.{Appends}
 use Rattle.clap.specs.Words.{Text}
 use Rattle.mf_easel.specs.Easels.{Manner, manner}
@@ -12,7 +12,7 @@ use Rattle.mf_gf.specs.Keeping.{Keeps, max_bytes_of}
 use Rattle.mf_view.specs.Fonts.{font_words}
 use Rattle.mf_view.specs.Performances.{Shows, ScreenStreams}
 use Rattle.mf_view_words.specs.Requests.{IsRequest}
-use Rattle.mf_view_words.specs.Texts.{help_text}
+use Rattle.mf_view_words.specs.Texts.{help_text, version_text}
 use Rattle.mf_view_words.specs.declared.words.Request.{Request}
 use Rattle.mf_view_words.specs.declared.words.Request.TheVariants.{Help, Show, Version}
 use Rattle.mf_view_words.specs.declared.words.Words.{Words}
@@ -35,10 +35,13 @@ pub record HasFont (words : Words) (file : GfFile) : Type 0 where
   pub fits : (characters : List Character) → Keeps file [] characters
       → IsLongFile (max_bytes_of file) (font_words words.design_size words.resolution) [] characters → ⊥
 
+-- how the words ask for frames to be drawn
+abbrev pub manner_for : Words → Manner
+manner_for words = manner (style_in words.frames) (size_in words.columns words.rows)
+
 -- a script was performed and shown as the words ask for it, and this is its font file
 abbrev pub IsShownFor : Words → ScreenStreams → GfFile → Type 0
-IsShownFor words =
-    IsShownInto (option_map string_bytes words.transcript) (manner (style_in words.frames) (size_in words.columns words.rows))
+IsShownFor words = IsShownInto (option_map string_bytes words.transcript) (manner_for words)
 
 -- the script was performed and shown as the words ask for it, and so is its font file
 pub record IsWatched (words : Words) (s : ScreenStreams) : Type 0 where
@@ -53,7 +56,7 @@ AsksForText words = IsRequest words Help ⊎ IsRequest words Version
 -- what was asked for is written: the help text, the version, or what a performance writes
 abbrev pub EndsAs : Request → ScreenStreams → Type 0
 EndsAs Help s = (s.tells ≡ s.told) × Appends s.held s.holds help_text
-EndsAs Version s = (s.tells ≡ s.told) × Appends s.held s.holds (codes "mfview 1.0\n")
+EndsAs Version s = (s.tells ≡ s.told) × Appends s.held s.holds version_text
 EndsAs (Show words) s = IsWatched words s
 
 -- these are the words of a request, and what it asks for is written

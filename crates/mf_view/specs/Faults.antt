@@ -1,5 +1,5 @@
 -- Which fault ends a run.
-use Rattle.std.specs.Prelude.{◌≡◌, ◌⊎◌, ℕ, IsSome, List, [], None, Option, Some, codes, option_map, string_bytes}
+use Rattle.std.specs.Prelude.{◌≡◌, ◌⊎◌, ℕ, IsSome, List, [], None, Option, Some, option_map, string_bytes}
 use Rattle.clap.specs.Words.{Text}
 use Rattle.mf_base.specs.Messages.{GetsMessage, GetsPart}
 use Rattle.mf_easel.specs.declared.fault.EaselFault.{EaselFault}
@@ -11,26 +11,27 @@ use Rattle.mf_view.specs.declared.fault.ProgramFault.{ProgramFault}
 use Rattle.mf_view.specs.declared.fault.ProgramFault.TheVariants as faults
 use Rattle.mf_view.specs.Broken.{IsBrokenOff}
 use Rattle.mf_view.specs.Causes.{fault_of_easel}
-use Rattle.mf_view.specs.Endings.{IsShownFor}
+use Rattle.mf_view.specs.Drawings.{HasDrawnPart}
+use Rattle.mf_view.specs.Endings.{IsShownFor, manner_for}
 use Rattle.mf_view.specs.Fonts.{font_words}
 use Rattle.mf_view.specs.Messages.{message_of}
 use Rattle.mf_view.specs.Performances.{ScreenStreams}
 use Rattle.mf_view.specs.Statuses.{status_of}
 use Rattle.mf_view_words.specs.Requests.{IsRequest}
-use Rattle.mf_view_words.specs.Texts.{help_text}
+use Rattle.mf_view_words.specs.Texts.{help_text, version_text}
 use Rattle.mf_view_words.specs.declared.words.Request.TheVariants.{Help, Show, Version}
 use Rattle.mf_view_words.specs.declared.words.Words.{Words}
 
--- the fault is one of a plate
-abbrev pub ComesFromPlate : ProgramFault → Type 0
-ComesFromPlate (faults.ImageTooLarge revision) = Unit {0}
-ComesFromPlate (faults.PlateFault revision) = Unit {0}
-ComesFromPlate _ = ⊥
+-- the fault is one of a plate, as a fault of the stage is
+abbrev pub ConcernsPlate : ProgramFault → Type 0
+ConcernsPlate (faults.ImageTooLarge revision) = Unit {0}
+ConcernsPlate (faults.PlateFault revision) = Unit {0}
+ConcernsPlate _ = ⊥
 
 -- where a script was performed to its end and the drawing has failed with the first fault, the second is told: it is the same, unless
 -- the end of the script fails, too, with `OutOfMemory` or a fault of its plate
 abbrev pub IsToldAfter : EaselFault → ProgramFault → Type 0
-IsToldAfter cause told = (told ≡ fault_of_easel cause) ⊎ ((told ≡ faults.OutOfMemory) ⊎ ComesFromPlate told)
+IsToldAfter cause told = (told ≡ fault_of_easel cause) ⊎ ((told ≡ faults.OutOfMemory) ⊎ ConcernsPlate told)
 
 -- the fault is not that there was no place for the viewer
 abbrev pub HadPlace : ProgramFault → Type 0
@@ -68,20 +69,19 @@ LosesFont asked file faults.NoCharacters = IsSome asked.gf × ((characters : Lis
 LosesFont asked file _ = ⊥
 
 -- with this fault the script that these words ask for ends: there is no room to draw it, and nothing is drawn or told; or the fault has
--- broken it off, one of a plate only where plates are asked for, and `NoPlace` only where nothing is drawn; or the script was performed
--- and shown, and gets no font file
+-- broken it off, with a part of its frames on the screen, one of a plate only where plates are asked for, and `NoPlace` only where nothing
+-- is drawn; or the script was performed and shown, and gets no font file
 abbrev pub EndsScript : Words → ScreenStreams → ProgramFault → Type 0
 EndsScript asked s fault =
     ((fault ≡ faults.TooSmall) × (IsLargeEnough asked.columns asked.rows → ⊥) × IsUntouched s)
-    ⊎ ((IsBrokenOffInto (option_map string_bytes asked.transcript) s fault
-    × (ComesFromPlate fault → IsSome asked.plates) × (fault ≡ faults.NoPlace → s.holds ≡ s.held))
+    ⊎ ((IsBrokenOffInto (option_map string_bytes asked.transcript) s fault × HasDrawnPart (manner_for asked) s.held s.holds
+    × (ConcernsPlate fault → IsSome asked.plates) × (fault ≡ faults.NoPlace → s.holds ≡ s.held))
     ⊎ ((file : GfFile) × IsShownFor asked s file × LosesFont asked file fault))
 
 -- these words ask for the help text or for the version, of which the screen has got a part, and not all
 abbrev pub GetsPartOfText : List Text → ScreenStreams → Type 0
 GetsPartOfText words s =
-    (IsRequest words Help × GetsPart s.held s.holds help_text)
-    ⊎ (IsRequest words Version × GetsPart s.held s.holds (codes "mfview 1.0\n"))
+    (IsRequest words Help × GetsPart s.held s.holds help_text) ⊎ (IsRequest words Version × GetsPart s.held s.holds version_text)
 
 -- with this fault a run with these words ends: memory is missing before anything is drawn or told, a text that is asked for is cut, or
 -- the script that is asked for ends with it

@@ -1,10 +1,10 @@
 //! The viewer's side of a performance: looking and drawing until the script has ended.
-ghost use Rattle.std.specs.Prelude.{◌≡◌, true, IfErr, OnOk};
+ghost use Rattle.std.specs.Prelude.{◌≡◌, true, IfErr, OnErr, OnOk};
 ghost use Rattle.mf_easel.specs.Easels.{HasSameManner, drawing_of, identity, looked_at_list};
 ghost use Rattle.mf_easel.specs.Screens.{GetsNoMore, screen_of};
 ghost use Rattle.mf_live.specs.Entries.{is_closed};
 ghost use Rattle.mf_live.specs.Viewers.{notice_identity, told_list};
-ghost use Rattle.mf_view.specs.Drawings.{DrawsMore, LeavesLast};
+ghost use Rattle.mf_view.specs.Drawings.{DrawsMore, DrawsPart, LeavesLast};
 
 use crate::pace::Rest;
 use mf_easel::{Easel, EaselFault};
@@ -26,6 +26,7 @@ pub fn draw_on<S: Wait, W: Write, P: Rest>(
     ensures identity { identity easel.new ≡ identity easel.old }
     ensures manner { HasSameManner easel.old easel.new }
     ensures drawn { OnOk result (DrawsMore easel.old easel.new (W.contents screen.old) (W.contents screen.new)) }
+    ensures part { OnErr result (DrawsPart easel.old (W.contents screen.old) (W.contents screen.new)) }
 {
     for _ in rt.forever() {
         draw(alloc, easel, screen, pace)?;
@@ -48,6 +49,7 @@ pub fn draw<W: Write, P: Rest>(
     ensures manner { HasSameManner easel.old easel.new }
     ensures drawn { OnOk result (DrawsMore easel.old easel.new (W.contents screen.old) (W.contents screen.new)) }
     ensures cut { IfErr result (GetsNoMore (screen_of W.contents screen.old screen.new) (drawing_of easel.old (looked_at_list easel.new))) }
+    ensures part { OnErr result (DrawsPart easel.old (W.contents screen.old) (W.contents screen.new)) }
 {
     match easel.look(alloc, screen) {
         Ok(Some(revision)) => {
@@ -70,6 +72,7 @@ pub fn draw_last<W: Write>(
     requires closed { is_closed (told_list notice) ≡ true }
     ensures shown { OnOk result (LeavesLast easel.old (told_list notice) (W.contents screen.old) (W.contents screen.new)) }
     ensures cut { IfErr result (GetsNoMore (screen_of W.contents screen.old screen.new) (drawing_of easel.old (told_list notice))) }
+    ensures part { OnErr result (DrawsPart easel.old (W.contents screen.old) (W.contents screen.new)) }
 {
     match easel.look_last(alloc, screen, notice) {
         Ok(_) => Ok(()),

@@ -1,5 +1,5 @@
 //! The performance of a script beside the viewer that draws its picture.
-ghost use Rattle.std.specs.Prelude.{◌≡◌, Err, IfErr, IfOk, IsErr, IsErrAnd, IsSome, None, OnOk};
+ghost use Rattle.std.specs.Prelude.{◌≡◌, Err, IfErr, IfOk, IsErr, IsErrAnd, IsSome, None, OnErr, OnOk};
 ghost use denote.Param.Send.{IsSync, IsSend};
 ghost use Rattle.mf_easel.specs.Easels as easels;
 ghost use Rattle.mf_live.specs.Writers.{ended_identity, ended_published_list};
@@ -11,8 +11,8 @@ ghost use Rattle.mf_stage.specs.Stages.{StandsFor, limits};
 ghost use Rattle.mf_stage.specs.Scripts.{PerformsAll, StillStands, act_of};
 ghost use Rattle.mf_view.specs.Broken.{IsBrokenOff, IsOfEnd};
 ghost use Rattle.mf_view.specs.Causes.{fault_of_stage};
-ghost use Rattle.mf_view.specs.Faults.{ComesFromPlate, HadPlace, IsToldAfter};
-ghost use Rattle.mf_view.specs.Drawings.{DrawsMore, EndsDrawing, receipt};
+ghost use Rattle.mf_view.specs.Faults.{ConcernsPlate, HadPlace, IsToldAfter};
+ghost use Rattle.mf_view.specs.Drawings.{DrawsMore, DrawsPart, EndsDrawing, HasDrawnPart, LeavesPart, receipt};
 ghost use Rattle.mf_view.specs.Performances.{Shows, screen_streams, script_limits};
 
 use crate::drawing::{draw, draw_last, draw_on};
@@ -54,8 +54,9 @@ struct Sides {
 /// shipped characters. A fault of the screen ends the drawing, and not the script.
 ///
 /// Refused with the fault of the script or of its end, else of the drawing, else of the last look; with `NoPlace` where there is
-/// no place for the viewer. After each fault the thread is joined, and what was written stays. No clause says that the blank
-/// picture is drawn first, that the script goes on after a fault of the screen, or which fault comes before another: tests do.
+/// no place for the viewer. After each fault the thread is joined, and what was written stays; of the frames, only the last may be
+/// cut. No clause says that the blank picture is drawn first, that the script goes on after a fault of the screen, or which fault
+/// comes before another: tests do.
 pub fn perform<
     S: Wait + Threads + Files + Sync,
     R: Read,
@@ -74,7 +75,8 @@ pub fn perform<
     ensures shown { IfOk result (Shows (easels.manner showing.style showing.canvas)
         (screen_streams (R.remaining reader.old) (receipt W.contents screen.old screen.new) (receipt T.contents transcript.old transcript.new))) }
     ensures fault { IfErr result (IsBrokenOff (R.remaining reader.old) (T.contents transcript.old) (T.contents transcript.new)) }
-    ensures plates { IfErr result (λ fault. ComesFromPlate fault → IsSome showing.plates) }
+    ensures drawn { OnErr result (HasDrawnPart (easels.manner showing.style showing.canvas) (W.contents screen.old) (W.contents screen.new)) }
+    ensures plates { IfErr result (λ fault. ConcernsPlate fault → IsSome showing.plates) }
     ensures no_place { result ≡ Err ProgramFault.NoPlace
         → (reader.new ≡ reader.old) × (screen.new ≡ screen.old) × (transcript.new ≡ transcript.old) }
 {
@@ -121,7 +123,8 @@ fn show<
     ensures shown { IfOk result (Shows (easels.manner_of easel)
         (screen_streams (R.remaining reader.old) (receipt W.contents screen.old screen.new) (receipt T.contents transcript.old transcript.new))) }
     ensures fault { IfErr result (IsBrokenOff (R.remaining reader.old) (T.contents transcript.old) (T.contents transcript.new)) }
-    ensures plates { IfErr result (λ fault. ComesFromPlate fault → IsSome (stages.plates_of stage)) }
+    ensures drawn { OnErr result (HasDrawnPart (easels.manner_of easel) (W.contents screen.old) (W.contents screen.new)) }
+    ensures plates { IfErr result (λ fault. ConcernsPlate fault → IsSome (stages.plates_of stage)) }
     ensures placed { IfErr result HadPlace }
 {
     let mut stage = stage;
@@ -148,12 +151,13 @@ fn conclude<S: Wait + Files, W: Write>(
     requires stands { OnOk performed ((s : State) × StandsFor stage s) }
     ensures script { IfErr performed (λ fault. result ≡ Err (fault_of_stage fault)) }
     ensures late { OnOk performed (IfErr result (λ fault. (s : State) → StandsFor stage s → IsOfEnd s.pictures.accepted fault)) }
-    ensures plates { OnOk performed (IfErr result (λ fault. ComesFromPlate fault → IsSome (stages.plates_of stage))) }
+    ensures plates { OnOk performed (IfErr result (λ fault. ConcernsPlate fault → IsSome (stages.plates_of stage))) }
     ensures drawing { IfErr drawn (λ _. IsErr result) }
     ensures told { OnOk performed (IfErr drawn (λ cause. IsErrAnd result (IsToldAfter cause))) }
     ensures file { IfOk result (λ file. (s : State) → StandsFor stage s → IsFileOf (stages.session_of stage) s file) }
     ensures shown { OnOk result ((s : State) → StandsFor stage s
         → EndsDrawing drawn easel (complete_list s.pictures) (receipt W.contents screen.old screen.new)) }
+    ensures part { OnErr result (LeavesPart drawn easel (receipt W.contents screen.old screen.new)) }
     ensures placed { IfErr result HadPlace }
 {
     match performed {
@@ -190,6 +194,7 @@ fn perform_beside<
     ensures manner { easels.HasSameManner easel.old easel.new }
     ensures stopped { IfErr first (λ fault. (result.drawn ≡ Err fault) × (screen.new ≡ screen.old)) }
     ensures drawn { OnOk result.drawn (DrawsMore easel.old easel.new (W.contents screen.old) (W.contents screen.new)) }
+    ensures part { OnOk first (OnErr result.drawn (DrawsPart easel.old (W.contents screen.old) (W.contents screen.new))) }
     ensures stands { OnOk result.performed (StillStands stage.old stage.new) }
     ensures transcript { OnOk result.performed
         (PerformsAll (act_of stage.old stage.new (T.contents transcript.old) (T.contents transcript.new)) (R.remaining reader.old)) }
@@ -204,7 +209,8 @@ fn perform_beside<
             ensures { (easels.identity easel.exit.now ≡ easels.identity easel.entry.now)
                 × easels.HasSameManner easel.entry.now easel.exit.now
                 × IfErr first (λ fault. (result ≡ Err fault) × (screen.exit.now ≡ screen.entry.now))
-                × OnOk result (DrawsMore easel.entry.now easel.exit.now (W.contents screen.entry.now) (W.contents screen.exit.now)) }
+                × OnOk result (DrawsMore easel.entry.now easel.exit.now (W.contents screen.entry.now) (W.contents screen.exit.now))
+                × OnOk first (OnErr result (DrawsPart easel.entry.now (W.contents screen.entry.now) (W.contents screen.exit.now))) }
         {
             match first {
                 Ok(()) => draw_on(rt, alloc, easel, screen, pace, &ended),
@@ -241,10 +247,11 @@ fn end<S: Wait + Files, W: Write>(
     requires stands { (s : State) × StandsFor stage s }
     ensures told { IfErr drawn (λ cause. IsErrAnd result (IsToldAfter cause)) }
     ensures late { IfErr result (λ fault. (s : State) → StandsFor stage s → IsOfEnd s.pictures.accepted fault) }
-    ensures plates { IfErr result (λ fault. ComesFromPlate fault → IsSome (stages.plates_of stage)) }
+    ensures plates { IfErr result (λ fault. ConcernsPlate fault → IsSome (stages.plates_of stage)) }
     ensures file { IfOk result (λ file. (s : State) → StandsFor stage s → IsFileOf (stages.session_of stage) s file) }
     ensures shown { OnOk result ((s : State) → StandsFor stage s
         → EndsDrawing drawn easel (complete_list s.pictures) (receipt W.contents screen.old screen.new)) }
+    ensures part { OnErr result (LeavesPart drawn easel (receipt W.contents screen.old screen.new)) }
     ensures placed { IfErr result HadPlace }
 {
     let (mut ended, file) = stage.finish(rt, alloc)?;
@@ -267,6 +274,7 @@ fn show_last<W: Write>(
     requires identity { easels.identity easel ≡ ended_identity ended.old }
     ensures drawing { IfErr drawn (λ fault. result ≡ Err fault) }
     ensures shown { OnOk result (EndsDrawing drawn easel (ended_published_list ended.old) (receipt W.contents screen.old screen.new)) }
+    ensures part { OnErr result (LeavesPart drawn easel (receipt W.contents screen.old screen.new)) }
 {
     let mut easel = easel;
     match drawn {

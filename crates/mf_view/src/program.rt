@@ -1,10 +1,10 @@
 //! The program that `main` calls: from its words and streams to its exit status.
 ghost use Rattle.std.specs.Io.KnownBytes.{Appends};
-ghost use Rattle.std.specs.Prelude.{◌≡◌, ◌++◌, ◌⊎◌, ◌↔◌, Err, IfErr, IfOk, IsOk, IsSome, OnOk, codes, decimal, option_map, string_bytes};
+ghost use Rattle.std.specs.Prelude.{◌≡◌, ◌++◌, ◌⊎◌, ◌↔◌, Err, IfErr, IfOk, IsOk, IsSome, OnErr, OnOk, codes, decimal, option_map, string_bytes};
 ghost use Rattle.mf_base.specs.Messages.{GetsMessage, GetsPart};
-ghost use Rattle.mf_view.specs.Drawings.{receipt};
+ghost use Rattle.mf_view.specs.Drawings.{HasDrawnPart, receipt};
 ghost use Rattle.mf_view.specs.Endings.{AsksForText, Fulfils, IsShownInto, IsWatched, style_in};
-ghost use Rattle.mf_view.specs.Faults.{ComesFromPlate, EndsScript, IsBrokenOffInto, LacksRoom, ReportsFaultLast};
+ghost use Rattle.mf_view.specs.Faults.{ConcernsPlate, EndsScript, IsBrokenOffInto, LacksRoom, ReportsFaultLast};
 ghost use Rattle.mf_easel.specs.Easels.{manner};
 ghost use Rattle.mf_frame.specs.Canvases.{IsLargeEnough, size_in};
 ghost use Rattle.mf_options.specs.Values.{texts_of};
@@ -48,9 +48,9 @@ pub const WANTING: u8 = 4;
 pub const TOO_SMALL: u8 = 5;
 
 /// Performs the script that `reader` gives as the words ask for it, and draws its picture on `screen`. The transcript goes to
-/// `errors` unless the words name a file for it, and so does a message where something went wrong. Then it writes the font file
-/// where the words ask for one. Answers with the exit status. `words` are those of the command line, and the first is the
-/// program's name. A fault of `errors` while a message is written changes no status.
+/// `errors`, unless the words name a file for it. Then it writes the font file where the words ask for one. Where something went
+/// wrong, a message goes to `errors` last. Answers with the exit status. `words` are those of the command line, and the first is
+/// the program's name. A fault of `errors` while a message is written changes no status.
 pub fn program<S: Wait + Threads + Files + Clock + Sync, R: Read, W: Write + Send, E: Write>(
     rt: &S,
     alloc: Global,
@@ -180,7 +180,8 @@ fn perform_into<
 ) -> Result<GfFile, ProgramFault>
     ensures done { IfOk result (IsShownInto (option_map string_bytes transcript) (manner showing.style showing.canvas)
         (screen_streams (R.remaining reader.old) (receipt W.contents screen.old screen.new) (receipt E.contents errors.old errors.new))) }
-    ensures plates { IfErr result (λ fault. ComesFromPlate fault → IsSome showing.plates) }
+    ensures drawn { OnErr result (HasDrawnPart (manner showing.style showing.canvas) (W.contents screen.old) (W.contents screen.new)) }
+    ensures plates { IfErr result (λ fault. ConcernsPlate fault → IsSome showing.plates) }
     ensures no_place { result ≡ Err ProgramFault.NoPlace → (reader.new ≡ reader.old) × (screen.new ≡ screen.old) }
     ensures fault { IfErr result (IsBrokenOffInto (option_map string_bytes transcript)
         (screen_streams (R.remaining reader.old) (receipt W.contents screen.old screen.new) (receipt E.contents errors.old errors.new))) }

@@ -1,9 +1,9 @@
 //! Looking and drawing.
-ghost use Rattle.std.specs.Prelude.{◌≡◌, ◌⊎◌, None, Some, true, IfErr, IfOk, IfSome, MatchResult, OnOk};
+ghost use Rattle.std.specs.Prelude.{◌≡◌, ◌⊎◌, Err, None, Some, true, IfErr, IfOk, IfSome, MatchResult, OnOk};
 ghost use Rattle.mf_live.specs.Entries.{is_closed, picture_at, revision_at};
 ghost use Rattle.mf_live.specs.Sheets.{HasLooked, sheet_picture, sheet_revision};
 ghost use Rattle.mf_live.specs.Viewers as viewers;
-ghost use Rattle.mf_easel.specs.Easels.{HasLookedLast, HasSameManner, IsLastNotDrawn, IsNotDrawn, drawing_of, drawing_with};
+ghost use Rattle.mf_easel.specs.Easels.{HasLookedLast, HasSameManner, IsLastNotDrawn, IsNotDrawn, drawing, drawing_of};
 ghost use Rattle.mf_easel.specs.Easels.{identity, looked_at_list, manner, manner_of, revision_of, viewer_of};
 ghost use Rattle.mf_easel.specs.Screens.{GetsFrame, GetsNoMore, IsAbove, new_revision, over, screen_of};
 
@@ -34,13 +34,13 @@ impl Easel {
         }
     }
 
-    /// Looks, and draws the picture of the look unless its revision is the one drawn last. The look ends before anything is
-    /// drawn, so that a slow screen never makes a publish wait. Answers the revision that was drawn, or `None`, and then nothing
-    /// went out. In the style `Colored` a frame after the first is drawn over the one before it.
+    /// Looks, and draws the picture of the look unless its revision is the one drawn last. Answers the revision that was drawn, or
+    /// `None`, and then nothing went out. In the style `Colored` a frame after the first is drawn over the one before it. The look
+    /// is kept as a sheet, so that it has ended before anything is drawn; no clause says so.
     ///
     /// Refused with `NoLook` where the look is not answered, with `OutOfMemory` where an allocation fails, and with `WriteFault`
-    /// where the screen fails; part of the frame may then have gone out. The revision drawn last stays as it was, so that a later
-    /// look draws it again.
+    /// where the screen fails; a front of the text may then have gone out, from nothing to all of it. The revision drawn last stays
+    /// as it was, so that the next look draws what it shows, unless its revision is still that one.
     #[tactic(auto, using(crate::proofs::Rising::sheet_rises))]
     pub fn look<W: Write>(
         &mut self,
@@ -57,6 +57,7 @@ impl Easel {
         ensures screen { IfOk result (GetsFrame (screen_of W.contents screen.old screen.new) (drawing_of self.old (looked_at_list self.new))) }
         ensures cut { IfErr result (GetsNoMore (screen_of W.contents screen.old screen.new) (drawing_of self.old (looked_at_list self.new))) }
         ensures rising { IfOk result (λ shown. IfSome shown (IsAbove (revision_of self.old))) }
+        ensures begun { result ≡ Err EaselFault.WriteFault → IsAbove (revision_of self.old) (revision_at (looked_at_list self.new)) }
     {
         let sheet = self.viewer.sheet(alloc)?;
         self.show(alloc, screen, &sheet)
@@ -83,6 +84,7 @@ impl Easel {
         ensures screen { IfOk result (GetsFrame (screen_of W.contents screen.old screen.new) (drawing_of self.old (viewers.told_list notice))) }
         ensures cut { IfErr result (GetsNoMore (screen_of W.contents screen.old screen.new) (drawing_of self.old (viewers.told_list notice))) }
         ensures rising { IfOk result (λ shown. IfSome shown (IsAbove (revision_of self.old))) }
+        ensures begun { result ≡ Err EaselFault.WriteFault → IsAbove (revision_of self.old) (revision_at (viewers.told_list notice)) }
     {
         let sheet = last_sheet(&mut self.viewer, alloc, notice)?;
         self.show(alloc, screen, &sheet)
@@ -105,6 +107,7 @@ impl Easel {
         ensures screen { IfOk result (GetsFrame (screen_of W.contents screen.old screen.new) (drawing_of self.old (looked_at_list self.old))) }
         ensures cut { IfErr result (GetsNoMore (screen_of W.contents screen.old screen.new) (drawing_of self.old (looked_at_list self.old))) }
         ensures rising { IfOk result (λ shown. IfSome shown (IsAbove (revision_of self.old))) }
+        ensures begun { result ≡ Err EaselFault.WriteFault → IsAbove (revision_of self.old) (revision_at (looked_at_list self.old)) }
         ensures fault { IfErr result (λ fault. (fault ≡ EaselFault.OutOfMemory) ⊎ (fault ≡ EaselFault.WriteFault)) }
     {
         let revision = sheet.revision();
@@ -119,7 +122,7 @@ impl Easel {
 
     /// The text that draws a sheet: over the frame before, if there is one.
     fn next_text(&self, alloc: Global, sheet: &Sheet) -> Result<Vec<u8>, OutOfMemory>
-        ensures { IfOk result (λ text. text.items ≡ drawing_with self.now (sheet_revision sheet.now) (sheet_picture sheet.now)) }
+        ensures { IfOk result (λ text. text.items ≡ drawing (manner_of self.now) (revision_of self.now) (sheet_revision sheet.now) (sheet_picture sheet.now)) }
     {
         let mut text = self.over(alloc)?;
         let frame = draw(

@@ -1,4 +1,6 @@
-use Rattle.mf_view.proofs.Drawn.{drawn-look}
+use Rattle.std.proofs.Common.{Err, ap, subst}
+use Rattle.mf_easel.specs.Easels.{IsNotDrawn}
+use Rattle.mf_view.proofs.Drawn.{drawn-look, part-cut}
 use Rattle.mf_view.proofs.drawing.draw.Goals as goal
 
 pub returns-in-Ok-Some-clause-drawn : goal.returns-in-Ok-Some-clause-drawn
@@ -10,3 +12,11 @@ pub returns-in-Ok-None-clause-drawn : goal.returns-in-Ok-None-clause-drawn
 returns-in-Ok-None-clause-drawn g c = λ held was.
     let done = c.in-Ok-None.ensures in
     drawn-look g.W.Write.contents held _ _ _ _ _ done.looked done.manner done.answer done.drawn done.screen done.rising was
+
+pub returns-in-Err-clause-part : goal.returns-in-Err-clause-part
+returns-in-Err-clause-part g c = λ held was.
+    let failed = c.in-Err.ensures in
+    part-cut g.W.Write.contents held _ _ c.args.easel.now _ c.in-Err.fault (λ is.
+    let look = subst (IsNotDrawn _ _) is failed.missed in
+    (look.extends.looked, (_, look.published), failed.begun (ap Err is)))
+    failed.cut was

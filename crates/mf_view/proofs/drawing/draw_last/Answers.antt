@@ -1,7 +1,17 @@
-use Rattle.mf_view.proofs.Drawn.{shown-last}
+use Rattle.std.proofs.Common.{Err, ap, subst}
+use Rattle.mf_easel.specs.Easels.{IsLastNotDrawn}
+use Rattle.mf_view.proofs.Drawn.{part-cut, shown-last}
 use Rattle.mf_view.proofs.drawing.draw_last.Goals as goal
 
 pub returns-in-Ok-clause-shown : goal.returns-in-Ok-clause-shown
 returns-in-Ok-clause-shown g c = λ held was.
     let done = c.in-Ok.ensures in
     shown-last g.W.Write.contents held _ _ _ c.look_last.new.self _ _ done.looked done.answer done.screen done.rising was
+
+pub returns-in-Err-clause-part : goal.returns-in-Err-clause-part
+returns-in-Err-clause-part g c = λ held was.
+    let failed = c.in-Err.ensures in
+    part-cut g.W.Write.contents held _ _ c.args.easel.now _ c.in-Err.fault (λ is.
+    let look = subst (IsLastNotDrawn _ _ _) is failed.missed in
+    (look.0.looked, (_, look.1.published), failed.begun (ap Err is)))
+    failed.cut was

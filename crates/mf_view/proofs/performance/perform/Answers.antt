@@ -1,19 +1,26 @@
 use Rattle.std.proofs.Common.{Err, ap, arith}
-use Rattle.std.proofs.lemmas.Result.{err_from_is_err_and}
+use Rattle.mf_base.proofs.Faults.{IfErr-raised}
 use Rattle.mf_view.proofs.Broken.{broken-place, broken-stage, unasked-stage}
+use Rattle.mf_view.proofs.Drawn.{part-nothing}
 use Rattle.mf_view.proofs.performance.perform.Goals as goal
 
 pub returns-in_err-stage-clause-fault : goal.returns-in_err-stage-clause-fault
 returns-in_err-stage-clause-fault g c =
-    let failed = err_from_is_err_and c.from_residual.result c.from_residual.ensures.1 in
-    rw (failed.1, failed.2) (broken-stage _ _ c.in_err-stage.field-0.0 c.in_err-stage.ensures.fault (λ is.
+    IfErr-raised c.from_residual.result _ c.from_residual.ensures.1 (broken-stage _ _ c.in_err-stage.field-0.0 c.in_err-stage.ensures.fault (λ is.
     let below = c.in_err-stage.ensures.too_long.1 (ap Err is) in
     omega (arith, below)))
 
 pub returns-in_err-stage-clause-plates : goal.returns-in_err-stage-clause-plates
 returns-in_err-stage-clause-plates g c =
-    let failed = err_from_is_err_and c.from_residual.result c.from_residual.ensures.1 in
-    rw (failed.1, failed.2) (λ concerns. absurd (unasked-stage c.in_err-stage.field-0.0 c.in_err-stage.ensures.fault concerns))
+    IfErr-raised c.from_residual.result _ c.from_residual.ensures.1
+    (λ concerns. absurd (unasked-stage c.in_err-stage.field-0.0 c.in_err-stage.ensures.fault concerns))
 
 pub returns-clause-fault : goal.returns-clause-fault
 returns-clause-fault g c = broken-place _ _
+
+pub returns-in_err-stage-clause-drawn : goal.returns-in_err-stage-clause-drawn
+returns-in_err-stage-clause-drawn g c =
+    IfErr-raised c.from_residual.result _ c.from_residual.ensures.1 (part-nothing _ _)
+
+pub returns-clause-drawn : goal.returns-clause-drawn
+returns-clause-drawn g c = part-nothing _ _

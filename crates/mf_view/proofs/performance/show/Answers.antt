@@ -1,25 +1,42 @@
 use Rattle.std.proofs.Common.{◌∙◌}
 use Rattle.mf_view.proofs.Broken.{asked-whole, broken-whole}
 use Rattle.mf_view.proofs.Drawn.{drawn-nothing}
-use Rattle.mf_view.proofs.Shown.{drawn-both, shown-end, shown-whole, stands-after}
+use Rattle.mf_view.proofs.Shown.{drawn-both, part-end, shown-end, shown-whole, stands-after}
+use Rattle.mf_view.specs.Drawings.{HasDrawnAs}
+use Rattle.mf_view.proofs.performance.show.Goals.{After-and-drawn}
 use Rattle.mf_view.proofs.performance.show.Goals as goal
 
 pub conclude-requires-clause-stands : goal.conclude-requires-clause-stands
 conclude-requires-clause-stands g c =
     stands-after c.args.stage c.perform_beside-drawn.new.stage c.perform_beside-drawn.result.performed c.requires.start c.perform_beside-drawn.ensures.stands
 
+-- how far the drawing has come when the performance is concluded
+drawn : (g : _) (c : After-and-drawn g) → HasDrawnAs c.and-drawn.result c.perform_beside-drawn.new.easel (g.W.Write.contents c.args.screen.now)
+    (g.W.Write.contents c.perform_beside-drawn.new.screen)
+drawn g c =
+    let first = c.draw-first.ensures in
+    let beside = c.perform_beside-drawn.ensures in
+    let held = g.W.Write.contents c.args.screen.now in
+    rw c.and-drawn.ensures (drawn-both g.W.Write.contents held held c.draw-first.new.screen c.perform_beside-drawn.new.screen
+    c.args.easel c.draw-first.new.easel c.perform_beside-drawn.new.easel c.draw-first.result c.perform_beside-drawn.result.drawn
+    first.manner beside.manner first.drawn first.part beside.stopped beside.drawn beside.part (drawn-nothing c.args.easel held c.requires.blank))
+
 pub returns-clause-shown : goal.returns-clause-shown
 returns-clause-shown g c =
-    let manner = c.perform_beside-drawn.ensures.manner ∙ c.draw-first.ensures.manner in
-    let blank = drawn-nothing c.args.easel (g.W.Write.contents c.args.screen.now) c.requires.blank in
-    let drawn = drawn-both _ _ _ _ _ _ _ _ _ c.draw-first.ensures.drawn c.perform_beside-drawn.ensures.drawn blank in
     shown-whole _ _ c.args.stage c.perform_beside-drawn.new.stage c.requires.limits c.requires.start c.perform_beside-drawn.result.performed
     c.conclude.result
     c.perform_beside-drawn.ensures.transcript
     c.conclude.ensures.script
     c.conclude.ensures.file
-    (shown-end c.args.easel c.perform_beside-drawn.new.easel c.perform_beside-drawn.new.stage _ _ _ c.and-drawn.result c.conclude.result manner
-    (rw c.and-drawn.ensures drawn) c.conclude.ensures.shown)
+    (shown-end c.args.easel c.perform_beside-drawn.new.easel c.perform_beside-drawn.new.stage _ _ _ c.and-drawn.result c.conclude.result
+    (c.perform_beside-drawn.ensures.manner ∙ c.draw-first.ensures.manner)
+    (drawn g (goal.at.returns-clause-shown g c).After-and-drawn) c.conclude.ensures.shown)
+
+pub returns-clause-drawn : goal.returns-clause-drawn
+returns-clause-drawn g c =
+    part-end c.args.easel c.perform_beside-drawn.new.easel _ _ (g.W.Write.contents c.conclude.new.screen) c.and-drawn.result c.conclude.result
+    (c.perform_beside-drawn.ensures.manner ∙ c.draw-first.ensures.manner)
+    (drawn g (goal.at.returns-clause-drawn g c).After-and-drawn) c.conclude.ensures.part
 
 pub returns-clause-fault : goal.returns-clause-fault
 returns-clause-fault g c =

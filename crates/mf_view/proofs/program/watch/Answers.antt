@@ -1,13 +1,13 @@
-use Rattle.std.proofs.Common.{[], Err, inl, inr, is_some, ap, refl, sym, option_map, string_bytes, ◌∙◌}
+use Rattle.std.proofs.Common.{[], Err, inl, inr, is_some, ap, refl, subst, sym, option_map, string_bytes, ◌∙◌}
 use Rattle.std.proofs.lemmas.Bool.{false≢true}
 use Rattle.std.proofs.lemmas.Result.{err_from_is_err_and}
 use Rattle.mf_gf.specs.Files.{file_if_any}
-use Rattle.mf_view.specs.Endings.{IsShownFor}
+use Rattle.mf_view.specs.Endings.{IsShownFor, IsShownInto}
 use Rattle.mf_view.specs.Faults.{EndsScript}
 use Rattle.mf_view.specs.Performances.{ScreenStreams, screen_streams}
-use Rattle.mf_view.specs.Drawings.{receipt}
+use Rattle.mf_view.specs.Drawings.{HasDrawnPart, receipt}
 use Rattle.mf_view.proofs.FontsAsked.{err-same, no-file, on-ok-from, placed-unmade, placed-unwritten, unmade, unwritten}
-use Rattle.mf_view.proofs.Shown.{shown-as}
+use Rattle.mf_view.proofs.Shown.{same-manner}
 use Rattle.mf_view.proofs.program.watch.Goals.{In_ok-file}
 use Rattle.mf_view.proofs.program.watch.Goals as goal
 
@@ -20,7 +20,8 @@ streams g c =
 -- the script was shown as the words ask for it
 shown : (g : _) (c : In_ok-file g) → IsShownFor c.args.words (streams g c) c.in_ok-file.file
 shown g c =
-    shown-as (option_map string_bytes c.args.words.transcript) _ _ _ _ (streams g c) c.in_ok-file.file c.in_ok-showing.ensures.asked c.in_ok-file.ensures.done
+    subst (λ m. IsShownInto (option_map string_bytes c.args.words.transcript) m (streams g c) c.in_ok-file.file)
+    (same-manner _ _ _ _ c.in_ok-showing.ensures.asked) c.in_ok-file.ensures.done
 
 pub returns-in-Some-clause-done : goal.returns-in-Some-clause-done
 returns-in-Some-clause-done g c =
@@ -44,8 +45,11 @@ returns-in_err-showing-clause-fault g c =
 pub returns-in_err-file-clause-fault : goal.returns-in_err-file-clause-fault
 returns-in_err-file-clause-fault g c =
     let failed = err_from_is_err_and c.from_residual-in_err-file.result c.from_residual-in_err-file.ensures.1 in
+    let held = g.W.Write.contents c.args.screen.now in
+    let holds = g.W.Write.contents c.perform_into.new.screen in
     rw (failed.1, failed.2) (inr (inl (
       c.in_err-file.ensures.fault,
+      subst (λ m. HasDrawnPart m held holds) (same-manner _ _ _ _ c.in_ok-showing.ensures.asked) c.in_err-file.ensures.drawn,
       (λ concerns. c.in_ok-showing.ensures.plates (c.in_err-file.ensures.plates concerns)),
       (λ is. ap g.W.Write.contents (c.in_err-file.ensures.no_place (ap Err is)).1),
     )))

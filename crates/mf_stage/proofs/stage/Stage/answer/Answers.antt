@@ -1,6 +1,6 @@
 use Rattle.std.proofs.Common.{inl, refl, subst, sym}
-use Rattle.std.proofs.lemmas.Result.{err_from_is_err_and}
 use Rattle.std.specs.Io.KnownBytes.{Appends}
+use Rattle.mf_base.proofs.Faults.{IfErr-raised}
 use Rattle.mf_base.specs.Messages.{GetsMessage}
 use Rattle.mf_session.specs.States.{answer_with}
 use Rattle.mf_stage.proofs.Broken.{line-cut, line-published, nothing-done}
@@ -11,21 +11,19 @@ use Rattle.mf_stage.proofs.stage.Stage.answer.Goals as goal
 
 pub returns-in_err-text-clause-begun : goal.returns-in_err-text-clause-begun
 returns-in_err-text-clause-begun g c =
-    let wanting = err_from_is_err_and c.from_residual-in_err-text.result c.from_residual-in_err-text.ensures.1 in
-    rw (wanting.1, wanting.2) (λ s stands. nothing-done c.args.self.now _ s c.args.line.now _ (c.in_err-text.ensures.unchanged s stands))
+    IfErr-raised c.from_residual-in_err-text.result _ c.from_residual-in_err-text.ensures.1
+    (λ s stands. nothing-done c.args.self.now _ s c.args.line.now _ (c.in_err-text.ensures.unchanged s stands))
 
 pub returns-in_err-write_text-clause-begun : goal.returns-in_err-write_text-clause-begun
 returns-in_err-write_text-clause-begun g c =
-    let failed = err_from_is_err_and c.from_residual-in_err-write_text.result c.from_residual-in_err-write_text.ensures.1 in
-    rw (failed.1, failed.2, c.in_err-write_text.ensures.fault) (λ s stands.
+    IfErr-raised c.from_residual-in_err-write_text.result _ c.from_residual-in_err-write_text.ensures.1 (rw c.in_err-write_text.ensures.fault (λ s stands.
     let answered = c.in_ok-text.ensures.answer s stands in
     let gets = subst (GetsMessage _ _) c.as_slice.ensures.value c.in_err-write_text.ensures.front in
-    line-cut _ s answered.next c.args.line.now c.in_ok-text.text.items answered.answer answered.stands gets)
+    line-cut _ s answered.next c.args.line.now c.in_ok-text.text.items answered.answer answered.stands gets))
 
 pub returns-in_err-publication-clause-begun : goal.returns-in_err-publication-clause-begun
 returns-in_err-publication-clause-begun g c =
-    let failed = err_from_is_err_and c.from_residual-in_err-publication.result c.from_residual-in_err-publication.ensures.1 in
-    rw (failed.1, failed.2) (λ s stands.
+    IfErr-raised c.from_residual-in_err-publication.result _ c.from_residual-in_err-publication.ensures.1 (λ s stands.
     let answered = c.in_ok-text.ensures.answer s stands in
     let given = c.in_ok-publishes.ensures.0 c.if-publishes.true in
     let all = published-all _ s c.args.line.now (answer_with c.in_ok-text.text.items answered.next) answered.answer given in

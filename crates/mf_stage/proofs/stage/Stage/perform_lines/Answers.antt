@@ -1,5 +1,5 @@
 use Rattle.std.proofs.Common.{◌∷◌, [], inr, refl, ap, subst, ◌∙◌}
-use Rattle.std.proofs.lemmas.Result.{err_from_is_err_and}
+use Rattle.mf_base.proofs.Faults.{IfErr-raised}
 use Rattle.mf_stage.proofs.Broken.{under_way-broken, under_way-cut}
 use Rattle.mf_stage.proofs.Scripts.{under_way-end, under_way-next, under_way-start}
 use Rattle.mf_stage.specs.Faults.{BreaksLines}
@@ -39,18 +39,18 @@ returns-in_default-clause-transcript g c =
 pub returns-in_err-line-clause-begun : goal.returns-in_err-line-clause-begun
 returns-in_err-line-clause-begun g c =
     let (limits_are, identity_is, plates_are, under_way, represents) = c.lines.invariant in
-    let failed = err_from_is_err_and c.from_residual.result c.from_residual.ensures.1 in
-    rw (failed.1, failed.2) (under_way-broken _ _ _ c.in_err-line.field-0.0 under_way c.in_err-line.ensures.fault)
+    IfErr-raised c.from_residual.result _ c.from_residual.ensures.1
+    (under_way-broken _ _ _ c.in_err-line.field-0.0 under_way c.in_err-line.ensures.fault)
 
 pub returns-in_err-perform_line-clause-begun : goal.returns-in_err-perform_line-clause-begun
 returns-in_err-perform_line-clause-begun g c =
     let (limits_are, identity_is, plates_are, under_way, represents) = c.lines.invariant in
-    let failed = err_from_is_err_and c.from_residual-in_err-perform_line.result c.from_residual-in_err-perform_line.ensures.1 in
     let held = g.W.Write.contents c.lines.transcript in
     let holds = g.W.Write.contents c.perform_line.new.transcript in
     let fault = c.in_err-perform_line.field-0.0 in
     let bare = c.without_ending.ensures ∙ ap without_ending c.deref.ensures.value in
-    rw (failed.1, failed.2) (under_way-cut c.args.self.now c.lines.self c.perform_line.new.self (g.B.Read.remaining c.args.script.now)
+    IfErr-raised c.from_residual-in_err-perform_line.result _ c.from_residual-in_err-perform_line.ensures.1
+    (under_way-cut c.args.self.now c.lines.self c.perform_line.new.self (g.B.Read.remaining c.args.script.now)
     (g.B.Read.remaining c.lines.script) (g.B.Read.remaining c.next_line.new.script) (g.W.Write.contents c.args.transcript.now) held holds
     c.in-Some.line.items fault limits_are plates_are under_way (rw c.in-Some.is at c.in_ok-line.ensures.whole) (rw c.in-Some.is at c.in_ok-line.ensures.line)
     (subst (λ l. BreaksLines (act_of c.lines.self c.perform_line.new.self held holds) (l ∷ []) fault) bare c.in_err-perform_line.ensures.begun))

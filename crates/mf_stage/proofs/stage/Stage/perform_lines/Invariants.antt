@@ -1,7 +1,6 @@
 use Rattle.std.proofs.Common.{◌≡◌}
-use Rattle.mf_session.specs.States.{State}
-use Rattle.mf_stage.specs.Scripts.{act_of}
-use Rattle.mf_stage.specs.Stages.{StandsFor, identity, limits, plates_of}
+use Rattle.mf_stage.specs.Scripts.{StillStands, act_of}
+use Rattle.mf_stage.specs.Stages.{identity, limits, plates_of}
 use Rattle.mf_stage.proofs.Scripts.{IsUnderWay}
 use Rattle.mf_stage.proofs.stage.Stage.perform_lines.Given as goal
 
@@ -12,4 +11,4 @@ invariant-lines g l =
     × (plates_of l.self ≡ plates_of l.initial.self)
     × IsUnderWay (act_of l.initial.self l.self (g.W.Write.contents l.initial.transcript) (g.W.Write.contents l.transcript))
     (g.B.Read.remaining l.initial.script) (g.B.Read.remaining l.script)
-    × ((s : State) → StandsFor l.initial.self s → (t : State) × StandsFor l.self t)
+    × StillStands l.initial.self l.self
