@@ -1,4 +1,5 @@
-//! Writing that counts how many bytes a writer took before it failed, and writing of texts that may be lost.
+//! Writing that counts how many bytes a writer took before it failed, and writing of texts that may be lost. The clauses say which
+//! bytes were written where a contract can know the bytes of the writer, as it can of a list of bytes in memory.
 ghost use Rattle.std.specs.Io.KnownBytes.{Appends};
 ghost use Rattle.std.specs.Prelude.{◌≡◌, ◌<◌, IfErr, OnOk, length, take, true, false};
 ghost use Rattle.mf_base.specs.Messages.{GetsMessage, GetsPart};
@@ -6,7 +7,7 @@ ghost use Rattle.mf_base.specs.Messages.{GetsMessage, GetsPart};
 use std::io::Write;
 
 /// Writes all these bytes, in as many writes as the writer needs. Where the writer fails with an error or takes no byte, the
-/// error is the number of bytes that were written: fewer than all of them.
+/// error is the number of bytes that were written: the first ones, and fewer than all of them.
 pub fn write_counted<W: Write>(writer: &mut W, bytes: &[u8]) -> Result<(), usize>
     ensures all { OnOk result (Appends (W.contents writer.old) (W.contents writer.new) bytes.now) }
     ensures front { IfErr result (λ count. Appends (W.contents writer.old) (W.contents writer.new) (take count bytes.now)) }
@@ -22,8 +23,8 @@ pub fn write_counted<W: Write>(writer: &mut W, bytes: &[u8]) -> Result<(), usize
     Ok(())
 }
 
-/// Writes all these bytes, in as many writes as the writer needs, and flushes. Whether both succeeded; where they did not, the writer
-/// took all bytes, or a front of them.
+/// Writes all these bytes, in as many writes as the writer needs, and flushes. Whether both succeeded: after `true` the writer has
+/// taken all bytes, and after `false` all of them or a front of them. No clause can say whether it was flushed.
 pub fn write_and_flush<W: Write>(writer: &mut W, bytes: &[u8]) -> bool
     ensures all { result ≡ true → Appends (W.contents writer.old) (W.contents writer.new) bytes.now }
     ensures front { GetsMessage (W.contents writer.old) (W.contents writer.new) bytes.now }
@@ -35,7 +36,7 @@ pub fn write_and_flush<W: Write>(writer: &mut W, bytes: &[u8]) -> bool
 }
 
 /// Writes a text, such as a message or a piece of one, as far as the writer takes it. Whether it took all; where it did not, it took
-/// fewer bytes.
+/// the first bytes of the text, fewer than all of them, and perhaps none.
 pub fn write_text<W: Write>(writer: &mut W, text: &str) -> bool
     ensures all { result ≡ true → Appends (W.contents writer.old) (W.contents writer.new) text.now }
     ensures part { result ≡ false → GetsPart (W.contents writer.old) (W.contents writer.new) text.now }

@@ -53,8 +53,9 @@ pub fn total_of_edges(edges: &[Edge]) -> i64
     total
 }
 
-/// The least reach of edges: the greatest absolute value of the weights between them, 0 where there are no edges. Requires sorted
-/// edges with a sum of 0, and between them sums of two lawful weights. So they are the edges of a row where it is at most 32767.
+/// The least reach of edges: the greatest absolute value of the weights between them, 0 where there are no edges. Requires edges as
+/// `weight_at_column` does, but the weights between them may be sums of two lawful weights, in -65534..=65534. So they are the edges
+/// of a row exactly where their reach is at most 32767.
 pub fn reach_of(edges: &[Edge]) -> i32
     requires { AreChanges edges.now }
     ensures { IsLeastReach result edges.now }
@@ -69,11 +70,12 @@ pub fn reach_of(edges: &[Edge]) -> i32
 }
 
 /// Adds a weight to all columns from column x on. The weight is added to the edge at x, which is removed where the two
-/// cancel; where there is no edge at x, one is inserted. Refused with `OutOfMemory`, only where an edge must be
-/// inserted and there is no room left for it; the edges are then unchanged. Requires edges sorted by column, at most
-/// one a column, in -4095..=4095, none of weight 0, with weights in -32767..=32767 between them; a column in
-/// -4095..=4095; and a weight in -32767..=32767. The weights afterwards may exceed 32767 in absolute value, but the
-/// next call requires that they do not.
+/// cancel; where there is no edge at x, one is inserted, unless the weight is 0. Refused with `OutOfMemory`, only where an
+/// edge must be inserted and there is no room left for it; the edges are then unchanged. Requires edges sorted by column,
+/// at most one a column, in -4095..=4095, none of weight 0, with weights in -32767..=32767 between them; a column in
+/// -4095..=4095; and a weight in -32767..=32767. The edges stay sorted, at most one a column, in -4095..=4095, none of weight
+/// 0. The weights between them may then exceed 32767 in absolute value, but the next call requires that they do not. The
+/// list gets at most one edge more, and its capacity never shrinks.
 pub fn add_edge(edges: &mut Vec<Edge>, x: i32, weight: i32) -> Result<(), OutOfMemory>
     requires edges { AreOpenEdges edges.old.items }
     requires left { least_coordinate ≤ℤ x }
@@ -122,7 +124,7 @@ fn change_edge(edges: &mut Vec<Edge>, at: usize, weight: i32)
 }
 
 /// Appends an edge to a list of edges, unless its weight is 0. Refused with `OutOfMemory`, only where the weight is not
-/// 0 and there is no room left; the list is then unchanged.
+/// 0 and there is no room left; the list is then unchanged. Its capacity never shrinks.
 pub fn push_unless_zero(edges: &mut Vec<Edge>, edge: Edge) -> Result<(), OutOfMemory>
     ensures pushed { OnOk result (edges.new.items ≡ edges.old.items ++ unless_zero edge) }
     ensures unchanged { OnErr result (edges.new.items ≡ edges.old.items) }
@@ -137,7 +139,8 @@ pub fn push_unless_zero(edges: &mut Vec<Edge>, edge: Edge) -> Result<(), OutOfMe
 }
 
 /// Gives back the room that cancelled edges have left, where fewer edges stay than half of the capacity, rounded down.
-/// A list with no edge then keeps none. Giving back less would cost more time than it saves memory.
+/// A list with no edge then keeps none; how much a list with edges gives back, no clause says. The edges are unchanged.
+/// Giving back less would cost more time than it saves memory.
 pub fn give_back_room(edges: &mut Vec<Edge>)
     ensures items { edges.new.items ≡ edges.old.items }
     ensures capacity { vec_capacity edges.new ≤ vec_capacity edges.old }

@@ -14,8 +14,9 @@ const FEW_EDGES: usize = 8;
 
 /// Appends the edges of the sum of a row and of what is added to it to a list of edges. The edges of the row up to the next change are
 /// copied at once. Whether the weights between the edges of the sum are lawful, the caller knows, or finds out afterwards. Refused
-/// with `OutOfMemory` where an allocation fails; some of the edges may then have been appended. Requires the edges of a row on the
-/// left, and changes of a row on the right: sorted edges with a sum of 0, and between them differences of two lawful weights.
+/// with `OutOfMemory` where an allocation fails; the list then has what it had, and perhaps some edges after that. Requires the edges
+/// of a row on the left, as `weight_at_column` does, and changes of a row on the right: edges as `reach_of` requires them, with
+/// differences of two lawful weights between them.
 pub fn push_sum_of_edges(
     sum: &mut Vec<Edge>,
     left: &[Edge],

@@ -13,7 +13,7 @@ pub const FIELD_END: i32 = MAX_COORDINATE;
 /// The greatest absolute value of a pixel's weight. This limit is the project's own: METAFONT has none.
 pub const MAX_WEIGHT: i32 = 32767;
 
-/// Whether a pixel may have this weight.
+/// Whether a pixel may have this weight: whether it is in -32767..=32767.
 pub fn is_lawful_weight(weight: i32) -> bool
     ensures { IsTrue result ↔ IsLawfulWeight weight }
 {

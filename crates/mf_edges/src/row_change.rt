@@ -22,8 +22,8 @@ pub enum RowChange {
 }
 
 /// The edges of a row after a change. Refused with `OutOfMemory` where an allocation fails. Requires the edges of a
-/// row, and a change that the row allows: a map that keeps weight 0 at 0 and lawful weights lawful, or a stretch by a
-/// factor in 1..=4095 that keeps the row in the field.
+/// row, and a change that the row allows: a map that keeps weight 0 at 0 and lawful weights lawful, a reflection, or a
+/// stretch by a factor in 1..=4095 that keeps the edges in -4095..=4095, and so the row in the field.
 pub fn changed_edges(
     alloc: Global,
     edges: &[Edge],

@@ -14,8 +14,8 @@ pub enum WeightMap {
 }
 
 /// Weights in `low..=high` become `inside`, and all others `outside` (`cull`: The METAFONTbook, chapter 13). `low` and
-/// `high` are any numbers. Mapping a picture requires that `inside` and `outside` are in -32767..=32767, and that 0
-/// becomes 0.
+/// `high` are any numbers. Mapping a picture requires that 0 becomes 0, and that weights in -32767..=32767 become such
+/// weights, as they do where `inside` and `outside` are such weights.
 #[derive(Clone, Copy, Debug, PartialEq, Eq)]
 pub struct Choice {
     pub low: i32,

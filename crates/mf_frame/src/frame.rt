@@ -19,8 +19,8 @@ use mf_base::OutOfMemory;
 use mf_rows::{Box4, Picture};
 use std::alloc::Global;
 
-/// A picture as a frame of characters. Each line of a picture shows two rows of cells by half blocks. A cell is one pixel, or
-/// where the picture is larger than the canvas the least square of pixels, `scale` wide, with which it fits; it has the shade
+/// A picture as a frame of characters, in UTF-8. Each line of a picture shows two rows of cells by half blocks. A cell is a square of
+/// pixels, as many each way as the scale says: the least scale, from 1 up, with which the picture fits on the canvas. It has the shade
 /// of its darkest pixel, so that nothing positive is lost: blank, negative, 1, 2, or 3 and more. Borders of cells lie on the
 /// axes, which are marked where nothing else is. Below come a line `revision R  totalweight T`, and a line
 /// `columns X1..X2  rows Y1..Y2  scale S` with the least box of the picture in pixels, or `blank  scale 1`. Refused with

@@ -13,7 +13,7 @@ pub fn dark_where_positive()
     ensures { (s : ℤ) (ds : List Dot) (i j : ℤ) → IsPicture ds → IsTrue (is_dark (cell_shade s ds i j)) ↔ HasPositivePixel s ds i j }
 {}
 
-/// The window of a box fits at its scale, and at no lesser one.
+/// The window of a box of the field fits on a canvas at its scale, which is at least 1, and at no lesser one.
 pub fn scale_is_least()
     ensures fits { (canvas : Size) (b : Box4) → IsSize canvas → IsBoxOfField b → IsTrue (fits_on canvas (window_at b (scale_of canvas b))) }
     ensures least { (canvas : Size) (b : Box4) (s : ℤ) → pos 1 ≤ℤ s → s <ℤ scale_of canvas b → IsFalse (fits_on canvas (window_at b s)) }

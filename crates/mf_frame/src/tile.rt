@@ -8,9 +8,10 @@ use mf_base::OutOfMemory;
 /// How a frame is drawn.
 #[derive(Clone, Copy, Debug, PartialEq, Eq)]
 pub enum Style {
-    /// In colors, as tall as the canvas leaves room for, each line erasing what stood there before (ECMA-48).
+    /// In colors, each line erasing what stood there before (ECMA-48), with empty lines above the picture where it is lower than the
+    /// canvas: the frame has `Canvas::lines` lines.
     Colored,
-    /// Without control codes, and only as tall as the picture.
+    /// Without control codes, and without empty lines.
     Plain,
 }
 

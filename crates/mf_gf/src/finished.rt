@@ -37,7 +37,8 @@ impl GfBytes {
     }
 
     /// Writes all bytes of the file, in as many writes as the writer needs. Refused with `WriteFault` where the writer fails with
-    /// an error or takes no byte. Its number says how many bytes were written before: fewer than the file has.
+    /// an error or takes no byte. Its number says how many bytes were written before: fewer than the file has. The clauses say
+    /// which bytes these are where a contract can know the bytes of the writer.
     pub fn write_to<W: Write>(&self, writer: &mut W) -> Result<(), WriteFault>
         ensures all { OnOk result (Appends (W.contents writer.old) (W.contents writer.new) self.now) }
         ensures front { IfErr result (λ fault. Appends (W.contents writer.old) (W.contents writer.new) (take fault.0 self.now)) }

@@ -26,7 +26,7 @@ pub fn head_read_back()
         head_of (spell code p ds) ≡ Some (record { code = pos code; earlier = p; box = box_of_pixels ds }) }
 {}
 
-/// The black pixels of a picture are exactly those of positive weight.
+/// The black pixels of a picture are a set of pixels of the field: exactly those of positive weight.
 pub fn black_pixels_are_a_set()
     ensures set { (ds : List Dot) → IsPicture ds → IsPixelSet (black ds) }
     ensures which { (ds : List Dot) (x y : ℤ) → IsPicture ds → (weight_at (black ds) x y ≡ pos 1) ↔ (pos 0 <ℤ weight_at ds x y) }
@@ -43,8 +43,8 @@ pub fn short_escapements()
 {}
 
 /// A file begins with its preamble and its characters. One more character comes after the others, and its p is the place of the
-/// last one with its code. It is then the last one with that code, its place is where its bytes begin, and the box of the file is
-/// joined with its own box.
+/// last one with its code, or -1 where there is none. It is then the last one with that code, its place is where its bytes begin,
+/// and the box of the file, where that had a character, is joined with its own box.
 pub fn one_character_more()
     ensures begins { (words : FontWords) (comment : List ℕ) (cs : List Character) → (rest : List ℕ)
         × (file_of words comment cs ≡ bytes_so_far comment cs ++ rest) }
@@ -83,7 +83,7 @@ pub fn numbers_are_read_back()
         → HasPost (file_of words comment (c ∷ cs)) (λ post. IsLeastAround (c ∷ cs) post.box) }
 {}
 
-/// The length of a finished file is a multiple of 4, and the file ends with four to seven bytes 223.
+/// The length of a finished file is a multiple of 4, and the file ends with the identification byte and four to seven bytes 223.
 pub fn files_are_padded()
     ensures { (words : FontWords) (comment : List ℕ) (characters : List Character) → IsPadded (file_of words comment characters) }
 {}

@@ -21,10 +21,11 @@ const GRID: &[u8] =
       <path d=\"M0 0h1M0 0v1\" stroke=\"#999\" stroke-width=\".06\"/></pattern>\n";
 
 /// The SVG image of a picture (Scalable Vector Graphics 1.1): for each weight a path of rectangles, one for each maximal run, the
-/// least weight first. A pixel is a unit square, and the image has the least box with a margin of one pixel. Over the paths lie a grid
-/// of pixel borders, and the axes in red. Negative weights are orange, 1 is dark gray, 2 blue, and 3 and more are black. The image of
-/// the blank picture has the box of the pixel at the origin, and no path. Refused with `ImageTooLarge` exactly where the least box is
-/// wider or higher than 4,096 pixels, and with `OutOfMemory` where an allocation fails.
+/// least weight first. The pixel (x, y) is the unit square with its upper left corner at (x, -(y + 1)), since y points down in SVG, and
+/// the image has the least box with a margin of one pixel. Over the paths lie a grid of pixel borders, and the axes in red. Negative
+/// weights are orange, 1 is dark gray, 2 blue, and 3 and more are black. The image of the blank picture has the box of the pixel at the
+/// origin, and no path of a weight. Refused with `ImageTooLarge` exactly where the least box is wider or higher than 4,096 pixels, and
+/// with `OutOfMemory` where an allocation fails.
 pub fn svg(alloc: Global, picture: &Picture) -> Result<Vec<u8>, ImageFault>
     ensures text { IfOk result (λ text. text.items ≡ svg_text picture.now) }
     ensures too_large { IsTooLargeForImage picture.now ↔ (result ≡ Err ImageFault.ImageTooLarge) }

@@ -55,8 +55,8 @@ pub fn refused_where_it_turns_back()
 {}
 
 /// A shift or a scale is refused with `OutOfField` exactly where some pixel outside the field would get a nonzero weight.
-/// Contours, sums and differences of pictures, lawful culls, turns and clears give no pixel outside the field a weight, and are
-/// never refused with `OutOfField`.
+/// Contours, sums and differences of pictures, lawful culls, turns and clears give no pixel outside the field a nonzero weight, and
+/// are never refused with `OutOfField`.
 pub fn refused_where_a_pixel_leaves()
     ensures shift { (ds : List Dot) (dx dy : ℤ) → IsPicture ds →
         (op_fault ds (Shift dx dy) ≡ Some OutOfField) ↔ LiesOutside (step_at ds (Shift dx dy)) }
@@ -96,7 +96,8 @@ pub fn one_source_under_a_scale()
     ensures only { (f p q : ℤ) → IsFactor f → HasPlace f p q → scale_source f q ≡ p }
 {}
 
-/// Four turns by 90 degrees leave each weight in its place, and so do two reflections in the same line.
+/// Four turns by 90 degrees leave each weight in its place, and so do two reflections in the same line. A reflection is the scale by
+/// the factor -1: column, or row, q comes from column, or row, -q - 1.
 pub fn turns_and_reflections_return()
     ensures turns { (f : ℤ → ℤ → ℤ) (x y : ℤ) → turn_once (turn_once (turn_once (turn_once f))) x y ≡ f x y }
     ensures reflections { (q : ℤ) → scale_source (negsuc 0) (scale_source (negsuc 0) q) ≡ q }
@@ -152,8 +153,8 @@ pub fn picture_of_operations()
     ensures next_revision { (ops : List Op) (op : Op) → revision_after (ops ++ op ∷ []) ≡ revision_after ops + 1 }
 {}
 
-/// A list of operations is accepted exactly where all but the last are accepted, and the last one is not refused on the picture
-/// that they make.
+/// The list of no operations is accepted. Any other is accepted exactly where all but the last are accepted, and the last one is not
+/// refused on the picture that they make.
 pub fn accepted_one_by_one()
     ensures none { AreAccepted [] }
     ensures more { (ops : List Op) (op : Op) → AreAccepted (ops ++ op ∷ []) ↔ (AreAccepted ops × (op_fault (picture_after ops) op ≡ None)) }

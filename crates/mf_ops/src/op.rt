@@ -129,7 +129,7 @@ impl Op {
 /// - `Backtracks`, of a contour under the turning check, with the first vertex at which its cycle turns straight back;
 /// - `TurningZero`, of a contour under the turning check, where the turning number of its cycle is 0;
 /// - `OutOfField`, exactly where a pixel of nonzero weight would leave the field;
-/// - `WeightTooLarge`, exactly where the weight of some pixel would exceed 32767 in absolute value;
+/// - `WeightTooLarge`, where the weight of some pixel would exceed 32767 in absolute value, and nowhere else;
 /// - `OutOfMemory`, where an allocation fails. It may come instead of `WeightTooLarge`, but of none of the others.
 ///
 /// A clear is never refused, nor is a cull of a blank picture, nor adding a blank picture to a blank one or subtracting it.

@@ -14,15 +14,16 @@ ghost use Rattle.mf_rows.specs.Order.{IsRun};
 ghost use Rattle.mf_rows.specs.Runs.{dots_of, runs_of, AreMaximal, IsMaximalRun};
 ghost use Rattle.mf_rows.specs.Weights.{picture_of, HaveSameWeights};
 
-/// The dots of the runs of a picture are its dots, and no run could be longer.
+/// The dots of the runs of a picture, or of any list of dots, are these dots in their order. No run is followed by one that would
+/// continue it: in the same row, from the column after its last, with the same weight.
 #[tactic(auto, using(crate::proofs::RunsLemmas::maximal_runs))]
 pub fn runs_are_maximal()
     ensures covered { (ds : List Dot) → flat_map dots_of (runs_of ds) ≡ ds }
     ensures maximal { (ds : List Dot) → AreMaximal (runs_of ds) }
 {}
 
-/// Each run of a picture has at least one pixel, all its pixels have its weight, and neither neighbour in its row has
-/// that weight.
+/// Each run of a picture has at least one pixel, all its pixels have its weight, which is not 0, and neither neighbour in
+/// its row has that weight.
 #[tactic(auto, using(crate::proofs::MaximalRuns::longest_runs))]
 pub fn runs_are_as_long_as_can_be()
     ensures { (ds : List Dot) → IsPicture ds → All (IsMaximalRun ds) (runs_of ds) }

@@ -185,7 +185,7 @@ impl Pile {
     }
 
     /// Adds the rows of another picture, or subtracts them. Refused with `WeightTooLarge` where a weight would exceed 32767 in absolute
-    /// value, and with `OutOfMemory` where an allocation fails; a refusal leaves all as it was.
+    /// value, and with `OutOfMemory` where an allocation fails; a refusal leaves the rows as they were.
     pub(crate) fn add(&mut self, alloc: Global, other: &Pile, sign: Sign) -> Result<(), AddFault>
         ensures weights { OnOk result (HaveRowWeights (weight_in_all self.old (signed sign other.now)) self.new) }
         ensures unchanged { OnErr result (self.new ≡ self.old) }
@@ -205,7 +205,8 @@ impl Pile {
     }
 
     /// Adds rows, which are those of a contour. Refused with `WeightTooLarge` where a weight would exceed 32767 in absolute value, and with
-    /// `OutOfMemory` where an allocation fails; a refusal leaves all as it was.
+    /// `OutOfMemory` where an allocation fails; a refusal leaves the picture as it was, though the newest contours may have been added to
+    /// the older rows.
     pub(crate) fn add_rows(&mut self, alloc: Global, rows: RowSlice<'_>) -> Result<(), AddFault>
         requires { AreRows (slice_rows rows) }
         ensures weights { OnOk result (HaveRowWeights (weight_in_all self.old (slice_rows rows.entry)) self.new) }

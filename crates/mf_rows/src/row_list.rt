@@ -48,7 +48,7 @@ impl Place {
     }
 }
 
-/// A row of a list: its height and its edges, and its reach, where one is known.
+/// A row of a list: its height, a reach of its weights, which is at most 32767, and where its edges are.
 #[derive(Debug, Drop)]
 pub(crate) struct Head {
     pub(crate) y: i32,

@@ -43,7 +43,8 @@ fn blank(alloc: Global) -> Result<Vec<u8>, OutOfMemory>
     Ok(Vec::from_slice(alloc, b"blank\n")?)
 }
 
-/// The number of columns, or rows, from the first to the last, both inclusive. Requires that they are in the field.
+/// The number of columns, or rows, from the first to the last, both inclusive: 1 to 8190. Requires that they are in the field, in
+/// -4095..=4094, and that the first is not greater than the last.
 pub fn extent(first: i32, last: i32) -> u32
     requires least { least_coordinate ≤ℤ first }
     requires greatest { last ≤ℤ last_in_field }
@@ -53,7 +54,7 @@ pub fn extent(first: i32, last: i32) -> u32
     (last - first) as u32 + 1
 }
 
-/// Whether a box has more columns, or more rows, than this.
+/// Whether a box has more columns, or more rows, than this. Requires a box that is not empty, with columns and rows in -4095..=4094.
 pub fn is_larger_than(bounds: &Box4, most: u32) -> bool
     requires { IsBoxOfField bounds.now }
     ensures { IsTrue result ↔ IsLargerThan most bounds.now }

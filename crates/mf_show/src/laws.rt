@@ -21,8 +21,8 @@ pub fn grid_is_of_the_least_box()
     ensures blank { grid_text [] ≡ codes "blank\n" }
 {}
 
-/// The text of a box has a line for each of its rows, from the top. A line has the character of the weight of each pixel, from
-/// the left, and a line feed.
+/// The text of a box has a line for each of its rows, from the top, and nothing else. A line has the character of the weight of each
+/// pixel, from the left, and a line feed.
 pub fn grid_has_each_pixel()
     ensures pixels { (ds : List Dot) (b : Box4) (i j : ℕ) → i < extent b.min_x b.max_x → j < extent b.min_y b.max_y →
         get_or (box_text ds b) (j * (extent b.min_x b.max_x + 1) + i) 0 ≡ grid_character (weight_at ds (b.min_x +ℤ pos i) (b.max_y -ℤ pos j)) }

@@ -5,8 +5,8 @@ ghost use Rattle.std.specs.Fmt.{signed_decimal};
 use itoa::Buffer;
 use mf_base::OutOfMemory;
 
-/// Appends a number in decimal, and the bytes that come after it. Refused with `OutOfMemory` where an allocation fails; the
-/// text may then have the number without the bytes after it.
+/// Appends a number in decimal, with `-` before it where it is negative, and the bytes that come after it. Refused with `OutOfMemory`
+/// where an allocation fails; what the text then has, no clause says, and each caller gives it up.
 pub fn push_number(text: &mut Vec<u8>, number: i32, after: &[u8]) -> Result<(), OutOfMemory>
     ensures { IfOk result (λ _. text.new.items ≡ text.old.items ++ signed_decimal number ++ after.now) }
 {

@@ -17,13 +17,14 @@ pub enum Name {
 pub enum Source {
     /// `nullpicture`
     Null,
+    /// `currentpicture` or a register
     Named(Name),
 }
 
 /// What a line of a script asks for, with its values checked.
 #[derive(Debug, Drop)]
 pub enum Command {
-    /// No command: an empty line, `;`, or a comment
+    /// No command: a line without tokens, such as an empty one or a comment, or `;` alone
     Nothing,
     /// `addto p contour ..`; its cycle has not passed the turning check yet
     Contour(Name, Cycle, Weight),

@@ -22,7 +22,8 @@ pub fn words_are_written()
 {}
 
 /// The tokens of a line are its bytes, cut from the left: each is as long as possible, only blanks come between them, and after
-/// the last one only blanks and perhaps a comment. No other list of tokens is cut from a line in this way.
+/// the last one only blanks and perhaps a comment. Each has the column of its first byte, from 1, and the one after its last. No
+/// other list of tokens is cut from a line in this way.
 #[tactic(auto, using(crate::proofs::Cuts::are_tokens, crate::proofs::Cuts::one_cut))]
 pub fn tokens_are_as_long_as_can_be()
     ensures cut { (line : List ℕ) → AreTokens 1 line (tokens line) }

@@ -68,7 +68,8 @@ impl GfFile {
     }
 
     /// Ships a character (METAFONT's `shipout`; mf.web: ship_out). Its black pixels are the pixels of positive weight in the
-    /// picture. `dx` is its escapement in 1/65536 pixel, and `width` its width in 1/1048576 of the design size.
+    /// picture. `dx` is its escapement in 1/65536 pixel, and `width` its width in 1/1048576 of the design size. Its vertical
+    /// escapement is 0.
     ///
     /// The code may have been shipped before. Then p of the new character is the place of the last one with that code, and the
     /// locator of the code becomes that of the new character.

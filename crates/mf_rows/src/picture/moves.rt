@@ -40,9 +40,8 @@ impl Picture {
     }
 
     /// The picture after its columns and rows are stretched, so that each pixel becomes a rectangle of its weight
-    /// (mf.web: `x_scale_edges`, `y_scale_edges`). This one is unchanged. Rows of a band that come from one row share
-    /// their edges. Requires factors in 1..=4095, and that all of these rectangles lie in the field. Refused with
-    /// `OutOfMemory` where an allocation fails.
+    /// (mf.web: `x_scale_edges`, `y_scale_edges`). This one is unchanged. Requires factors in 1..=4095, and that the
+    /// rectangles of all pixels of nonzero weight lie in the field. Refused with `OutOfMemory` where an allocation fails.
     pub fn stretch(
         &self,
         alloc: Global,
