@@ -19,7 +19,7 @@ use Rattle.mf_desk.specs.Performer.{IsLineText, IsWritten}
 use Rattle.mf_desk.specs.Progress.{HasCounted, IsAfter}
 use Rattle.mf_desk.specs.Streams.{Gets, MakesPassage}
 use Rattle.mf_session.specs.Sessions.{HasPerformed, StandsFor, limits}
-use Rattle.mf_session.specs.States.{Answer, Limits, State, answer_with, joint_answer, start}
+use Rattle.mf_session.specs.States.{Answer, Limits, State, answer_with, answers_in_turn, start}
 use Rattle.mf_session.specs.Transcript.{Perform, due}
 use Rattle.mf_desk.proofs.Ended.{ended_lines-line_feed, unended_line-line_feed, ended_lines-unbroken, unended_line-unbroken, ended_lines-front, lines-last}
 use Rattle.mf_desk.proofs.LongLines.{take-taken, Answers-kept, Answers-stripped}
@@ -76,7 +76,7 @@ module _ (held holds : Option (List ℕ)) (read : List ℕ) (run : Progress) (af
 
   -- a line whose answer comes after the texts so far makes these the lines that have been performed
   abbrev Prolongs : List ℕ → List (List ℕ) → Type 0
-  Prolongs line all = (a : Answer) → Answers bounds so_far.last line a → Perform bounds start all (joint_answer answer_so_far a)
+  Prolongs line all = (a : Answer) → Answers bounds so_far.last line a → Perform bounds start all (answers_in_turn answer_so_far a)
 
   -- one more line has been performed, and its text written
   HasCounted-more : (later : Option (List ℕ)) (all : List (List ℕ)) (line : List ℕ) (new : Performer) → Prolongs line all
@@ -106,7 +106,7 @@ module _ (held holds : Option (List ℕ)) (read : List ℕ) (run : Progress) (af
   -- the line that a line feed ends has been performed
   performed-ended : (line : List ℕ) → StandsForEnded line → Prolongs line (ended_lines (read ++ 10 ∷ []))
   performed-ended line whole a answer =
-      subst (λ ls. Perform bounds start ls (joint_answer answer_so_far a)) (sym (ended_lines-line_feed read))
+      subst (λ ls. Perform bounds start ls (answers_in_turn answer_so_far a)) (sym (ended_lines-line_feed read))
       (performed-more (strip_carriage_return (unended_line read)) a (whole a answer))
 
   -- a line feed is read, and its line has been performed
@@ -180,7 +180,7 @@ module _ (held holds : Option (List ℕ)) (read : List ℕ) (run : Progress) (af
   -- the last line, which no line feed ends, has been performed
   performed-last : eqb (length run.line) 0 ≡ false → Prolongs run.line (lines read)
   performed-last some a answer =
-      subst (λ ls. Perform bounds start ls (joint_answer answer_so_far a)) (sym (lines-last read (some-unended some)))
+      subst (λ ls. Perform bounds start ls (answers_in_turn answer_so_far a)) (sym (lines-last read (some-unended some)))
       (performed-more (unended_line read) a
       (Answers-kept bounds so_far.last (unended_line read) a (subst (λ line. Answers bounds so_far.last line a) after.line answer)))
 

@@ -25,7 +25,7 @@ pub enum RunFault {
     ReadFault,
     /// The writer answered with an error, also where it was flushed, or took no byte. An interrupted write is an error, too, and
     /// is not tried again. The number counts the bytes that the writer took in this run. These bytes are a prefix of the
-    /// transcript and the lines of the viewers, maybe all of it.
+    /// transcript and the lines of the viewers, maybe all of them.
     WriteFault(u128),
     /// A look was refused. The writer has got the complete transcript and the lines of the first viewers, but not of all. No line
     /// is cut.

@@ -46,7 +46,7 @@ abbrev pub GetsFrame : {W : Type 0} → Screen W → List ℕ → Option ℕ →
 GetsFrame s text None = s.after ≡ s.before
 GetsFrame s text (Some revision) = Appends (s.contents s.before) (s.contents s.after) text
 
--- after a fault the screen is as it was, or after `WriteFault` has got the text as far as it took it: maybe nothing, maybe all of it
+-- after a fault the screen is as it was, or after `WriteFault` has got a front of the text, from nothing to all of it
 abbrev pub GetsNoMore : {W : Type 0} → Screen W → List ℕ → EaselFault → Type 0
 GetsNoMore s text OutOfMemory = s.after ≡ s.before
 GetsNoMore s text NoLook = s.after ≡ s.before

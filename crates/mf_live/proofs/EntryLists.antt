@@ -7,7 +7,7 @@ use Rattle.mf_ops.specs.Step.{next_picture, op_fault}
 use Rattle.mf_ops.specs.declared.op.Op.{Op}
 use Rattle.mf_ops.proofs.Operations.{picture_after-push, AreAccepted-push}
 use Rattle.mf_live.specs.Entries.{Change, Operation, End, Entry, entry, operation_of, operations, picture_at, revision_at}
-use Rattle.mf_live.specs.Entries.{IsUnrefused, is_end, is_closed, is_end_last}
+use Rattle.mf_live.specs.Entries.{IsUnrefused, is_end, is_closed, is_nothing_after_end}
 use Rattle.mf_live.specs.Prefixes.{IsWholePrefix}
 
 pub operations-append : (xs ys : List Entry) → operations (xs ++ ys) ≡ operations xs ++ operations ys
@@ -53,44 +53,44 @@ pub is_closed-append : (xs ys : List Entry) → is_closed (xs ++ ys) ≡ (is_clo
 is_closed-append [] ys = refl
 is_closed-append (e ∷ xs) ys = rw (is_closed-append xs ys) (or-assoc (is_end e.change) (is_closed xs) (is_closed ys))
 
-ends-alone : (n : ℕ) (c : Change) → is_end_last (entry n c ∷ []) ≡ true
+ends-alone : (n : ℕ) (c : Change) → is_nothing_after_end (entry n c ∷ []) ≡ true
 ends-alone n (Operation op) = refl
 ends-alone n End = refl
 
-is_end_last-step : (n : ℕ) (c : Change) (L more : List Entry) → is_closed (entry n c ∷ L) ≡ false → is_end_last (entry n c ∷ L) ≡ true
-    → (is_closed L ≡ false → is_end_last L ≡ true → is_end_last (L ++ more) ≡ true) → is_end_last (entry n c ∷ L ++ more) ≡ true
-is_end_last-step n (Operation op) L more not_closed ends rest = rest not_closed ends
-is_end_last-step n End L more not_closed ends rest = cc
+is_nothing_after_end-step : (n : ℕ) (c : Change) (L more : List Entry) → is_closed (entry n c ∷ L) ≡ false → is_nothing_after_end (entry n c ∷ L) ≡ true
+    → (is_closed L ≡ false → is_nothing_after_end L ≡ true → is_nothing_after_end (L ++ more) ≡ true) → is_nothing_after_end (entry n c ∷ L ++ more) ≡ true
+is_nothing_after_end-step n (Operation op) L more not_closed ends rest = rest not_closed ends
+is_nothing_after_end-step n End L more not_closed ends rest = cc
 
-pub is_end_last-push : (L : List Entry) (e : Entry) → is_closed L ≡ false → is_end_last L ≡ true → is_end_last (L ++ e ∷ []) ≡ true
-is_end_last-push [] e not_closed ends = ends-alone e.label e.change
-is_end_last-push (first ∷ L) e not_closed ends =
-    is_end_last-step first.label first.change L (e ∷ []) not_closed ends (is_end_last-push L e)
+pub is_nothing_after_end-push : (L : List Entry) (e : Entry) → is_closed L ≡ false → is_nothing_after_end L ≡ true → is_nothing_after_end (L ++ e ∷ []) ≡ true
+is_nothing_after_end-push [] e not_closed ends = ends-alone e.label e.change
+is_nothing_after_end-push (first ∷ L) e not_closed ends =
+    is_nothing_after_end-step first.label first.change L (e ∷ []) not_closed ends (is_nothing_after_end-push L e)
 
-nothing_after_end : (n : ℕ) (S rest : List Entry) → is_end_last (entry n End ∷ S ++ rest) ≡ true → rest ≡ []
+nothing_after_end : (n : ℕ) (S rest : List Entry) → is_nothing_after_end (entry n End ∷ S ++ rest) ≡ true → rest ≡ []
 nothing_after_end n [] [] ends = refl
 nothing_after_end n [] (e ∷ rest) ends = cc
 nothing_after_end n (e ∷ S) rest ends = cc
 
-nothing_follows-step : (n : ℕ) (c : Change) (S rest : List Entry) → is_end_last (entry n c ∷ S ++ rest) ≡ true → is_closed (entry n c ∷ S) ≡ true
-    → (is_end_last (S ++ rest) ≡ true → is_closed S ≡ true → rest ≡ []) → rest ≡ []
+nothing_follows-step : (n : ℕ) (c : Change) (S rest : List Entry) → is_nothing_after_end (entry n c ∷ S ++ rest) ≡ true → is_closed (entry n c ∷ S) ≡ true
+    → (is_nothing_after_end (S ++ rest) ≡ true → is_closed S ≡ true → rest ≡ []) → rest ≡ []
 nothing_follows-step n (Operation op) S rest ends closed follows = follows ends closed
 nothing_follows-step n End S rest ends closed follows = nothing_after_end n S rest ends
 
 -- nothing follows a closed list
-pub nothing_follows : (S rest : List Entry) → is_end_last (S ++ rest) ≡ true → is_closed S ≡ true → rest ≡ []
+pub nothing_follows : (S rest : List Entry) → is_nothing_after_end (S ++ rest) ≡ true → is_closed S ≡ true → rest ≡ []
 nothing_follows [] rest ends closed = cc
 nothing_follows (e ∷ S) rest ends closed =
     nothing_follows-step e.label e.change S rest ends closed (nothing_follows S rest)
 
-length-revision_at-step : (n : ℕ) (c : Change) (L : List Entry) → is_end_last (entry n c ∷ L) ≡ true
-    → (is_end_last L ≡ true → length L ≤ revision_at L + 1) → length (entry n c ∷ L) ≤ revision_at (entry n c ∷ L) + 1
+length-revision_at-step : (n : ℕ) (c : Change) (L : List Entry) → is_nothing_after_end (entry n c ∷ L) ≡ true
+    → (is_nothing_after_end L ≡ true → length L ≤ revision_at L + 1) → length (entry n c ∷ L) ≤ revision_at (entry n c ∷ L) + 1
 unfolding revision_after
 length-revision_at-step n (Operation op) L ends rest = let few : length L ≤ revision_at L + 1 = rest ends in omega arith
 length-revision_at-step n End [] ends rest = omega arith
 length-revision_at-step n End (e ∷ L) ends rest = cc
 
 -- all entries but the end mark are operations
-pub length-revision_at : (L : List Entry) → is_end_last L ≡ true → length L ≤ revision_at L + 1
+pub length-revision_at : (L : List Entry) → is_nothing_after_end L ≡ true → length L ≤ revision_at L + 1
 length-revision_at [] ends = omega arith
 length-revision_at (e ∷ L) ends = length-revision_at-step e.label e.change L ends (length-revision_at L)

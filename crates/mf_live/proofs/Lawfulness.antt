@@ -13,7 +13,7 @@ use Rattle.mf_live.specs.Entries.{Change, Operation, End, Entry, entry, revision
 use Rattle.mf_live.specs.Prefixes.{IsWholePrefix, IsCutAmong, labels, longer}
 use Rattle.mf_live.specs.World.{World, new_world, May, after_event, notice_at, with_seen, IsPending, IsLawful, ShowsMore}
 use Rattle.mf_live.proofs.Blank.{revision_at-none}
-use Rattle.mf_live.proofs.EntryLists.{revision_at-push, revision_at-end, unrefused-push, unrefused-end, is_end_last-push}
+use Rattle.mf_live.proofs.EntryLists.{revision_at-push, revision_at-end, unrefused-push, unrefused-end, is_nothing_after_end-push}
 use Rattle.mf_live.proofs.WholePrefixes.{labels-append, length-labels, whole-self, whole-nil, whole-trans, whole-longer}
 
 -- the next label is one more than the last
@@ -95,7 +95,7 @@ accepts max_ops w c lawful unrefused few not_closed = record {
   pending = pending-push w.published w.accepted c lawful.pending;
   each_seen = lawful.each_seen;
   each_notice = lawful.each_notice;
-  ended = is_end_last-push w.accepted (entry (next_label w.published) c) not_closed lawful.ended;
+  ended = is_nothing_after_end-push w.accepted (entry (next_label w.published) c) not_closed lawful.ended;
 }
 
 -- the writer publishes everything that it has accepted

@@ -14,7 +14,7 @@ use Rattle.mf_live.specs.declared.version.Version.{Version}
 use Rattle.mf_live.specs.declared.view.View.{View}
 use Rattle.mf_live.specs.declared.viewer.Viewer.{Viewer}
 use Rattle.mf_live.specs.Books.{most_accepted}
-use Rattle.mf_live.specs.Entries.{Entry, is_closed, is_end_last}
+use Rattle.mf_live.specs.Entries.{Entry, is_closed, is_nothing_after_end}
 use Rattle.mf_live.specs.Prefixes.{IsWholePrefix, longer}
 use Rattle.mf_live.specs.Rule.{IsKnowledgeOf, IsLook, seen_knowledge, book_of, events_of}
 use Rattle.mf_live.specs.Sheets.{HasLearnt}
@@ -36,8 +36,8 @@ pub is_published : (n : Notice) → IsPublished (notice_events n) (told_list n)
 is_published n = record { happen = n.prefix.lawful; is = refl; all = n.whole; alive = n.prefix.alive }
 
 -- nothing follows the end mark in what a notice says
-pub told_list-ends : (n : Notice) → is_end_last (told_list n) ≡ true
-told_list-ends n = subst (λ (L : List Entry). is_end_last L ≡ true) n.whole (lawful-after most_accepted (notice_events n) n.prefix.lawful).ended
+pub told_list-ends : (n : Notice) → is_nothing_after_end (told_list n) ≡ true
+told_list-ends n = subst (λ (L : List Entry). is_nothing_after_end L ≡ true) n.whole (lawful-after most_accepted (notice_events n) n.prefix.lawful).ended
 
 kept_by-prefix : (b : Book) (events : List Event) (missed : Bool) (v : View) → IsKnowledgeOf b events v.earlier
     → IsKnowledgeOf b events v.latest → IsKnowledgeOf b events (seen_knowledge missed v)
@@ -103,7 +103,7 @@ one_lists look n (inl prefix) = inl (shown_list-prefix look (notice_events n) pr
 one_lists look n (inr prefix) = inr (told_list-prefix n (look_events look) prefix)
 
 -- a list that has a closed list as a whole prefix is that closed list
-pub shown-last : (S L : List Entry) → IsWholePrefix S L → is_end_last L ≡ true → is_closed S ≡ true → L ≡ S
+pub shown-last : (S L : List Entry) → IsWholePrefix S L → is_nothing_after_end L ≡ true → is_closed S ≡ true → L ≡ S
 shown-last S L whole ends closed =
-    let none = nothing_follows S whole.rest (subst (λ (M : List Entry). is_end_last M ≡ true) whole.whole ends) closed in
+    let none = nothing_follows S whole.rest (subst (λ (M : List Entry). is_nothing_after_end M ≡ true) whole.whole ends) closed in
     whole.whole ∙ (ap (λ (rest : List Entry). S ++ rest) none ∙ append-nil S)

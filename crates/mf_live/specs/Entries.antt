@@ -56,9 +56,9 @@ is_empty [] = true
 is_empty (e ∷ es) = false
 
 -- whether nothing follows the end mark
-abbrev pub is_end_last : List Entry → Bool
-is_end_last [] = true
-is_end_last (e ∷ es) = (not (is_end e.change) || is_empty es) && is_end_last es
+abbrev pub is_nothing_after_end : List Entry → Bool
+is_nothing_after_end [] = true
+is_nothing_after_end (e ∷ es) = (not (is_end e.change) || is_empty es) && is_nothing_after_end es
 
 -- one more than the label of the last entry, or n if there is none
 abbrev pub next_label_after : ℕ → List Entry → ℕ

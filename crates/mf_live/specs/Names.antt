@@ -8,9 +8,9 @@ use Rattle.mf_live.specs.declared.sheet.SheetFault.{SheetFault}
 use Rattle.mf_live.specs.declared.sheet.SheetFault.TheVariants.{NoLook, OutOfMemory}
 
 -- the name of the reason why an operation is not accepted
-abbrev pub fault_text : Fault → List ℕ
-fault_text TooManyOperations = codes "TooManyOperations"
-fault_text (Refused fault) = op_fault_text fault
+abbrev pub writer_fault_text : Fault → List ℕ
+writer_fault_text TooManyOperations = codes "TooManyOperations"
+writer_fault_text (Refused fault) = op_fault_text fault
 
 -- the name of the reason why there is no sheet
 abbrev pub sheet_fault_text : SheetFault → List ℕ

@@ -5,7 +5,7 @@ use Rattle.mf_live.specs.declared.sheet.Sheet.{Sheet}
 use Rattle.mf_live.specs.declared.sheet.SheetFault.{SheetFault}
 use Rattle.mf_live.specs.declared.sheet.SheetFault.TheVariants.{NoLook, OutOfMemory}
 use Rattle.mf_live.specs.declared.viewer.Viewer.{Viewer}
-use Rattle.mf_live.specs.Entries.{Entry, is_end_last, picture_at, revision_at}
+use Rattle.mf_live.specs.Entries.{Entry, is_nothing_after_end, picture_at, revision_at}
 use Rattle.mf_live.specs.Prefixes.{IsWholePrefix, longer}
 use Rattle.mf_live.specs.Viewers.{Extends, IsPublished, SeesTheSame, learnt_list, looked_at_list, looked_at_events, seen_list}
 
@@ -22,7 +22,7 @@ pub record HasLooked (before after : Viewer) : Type 0 where
   pub extends : Extends before (looked_at_list after)
   pub learnt : learnt_list after ≡ learnt_list before
   pub seen : seen_list after ≡ looked_at_list after
-  pub ends : is_end_last (looked_at_list after) ≡ true
+  pub ends : is_nothing_after_end (looked_at_list after) ≡ true
   pub published : IsPublished (looked_at_events after) (looked_at_list after)
 
 -- a sheet has what its look showed

@@ -3,7 +3,7 @@ use Rattle.std.specs.Prelude.{◌≡◌, ◌<◌, ◌≤◌, ◌++◌, ◌==◌,
 use Rattle.mf_ops.specs.Step.{op_fault}
 use Rattle.mf_live.specs.declared.event.Event.{Event}
 use Rattle.mf_live.specs.declared.event.Event.TheVariants.{Accept, Refuse, Close, Publish, Discard, Look, Tell, Learn}
-use Rattle.mf_live.specs.Entries.{Operation, End, Entry, entry, picture_at, revision_at, next_label, is_closed, is_end_last, IsUnrefused}
+use Rattle.mf_live.specs.Entries.{Operation, End, Entry, entry, picture_at, revision_at, next_label, is_closed, is_nothing_after_end, IsUnrefused}
 use Rattle.mf_live.specs.Prefixes.{IsWholePrefix, longer}
 
 -- what the writer has accepted, what of that is published, what viewers have seen, and what notices say
@@ -79,7 +79,7 @@ pub record IsLawful (max_ops : ℕ) (w : World) : Type 0 where
   pub pending : IsPending w.published w.accepted
   pub each_seen : (i : ℕ) → IsWholePrefix (w.seen i) w.published
   pub each_notice : All (λ n. IsWholePrefix n w.published) w.notices
-  pub ended : is_end_last w.accepted ≡ true
+  pub ended : is_nothing_after_end w.accepted ≡ true
 
 -- a look shows what is published: that is what the viewer has seen after it, and everything that the viewer had seen before is a whole
 -- prefix of that

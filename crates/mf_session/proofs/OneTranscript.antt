@@ -12,7 +12,7 @@ use Rattle.mf_session.specs.Answers.{Answers, AnswersTo, ProofAnswers}
 use Rattle.mf_session.specs.Pictures.{source_picture}
 use Rattle.mf_session.specs.Shipments.{Ships}
 use Rattle.mf_session.specs.Refusals.{refusal_line}
-use Rattle.mf_session.specs.States.{Answer, Limits, State, answer_with, joint_answer, start}
+use Rattle.mf_session.specs.States.{Answer, Limits, State, answer_with, answers_in_turn, start}
 use Rattle.mf_session.specs.Transcript.{IsTranscript, Perform}
 
 proof_once : (ds : List Dot) (text other : List ℕ) → ProofAnswers ds text → ProofAnswers ds other → text ≡ other
@@ -52,8 +52,8 @@ performed_once limits s [] a b p q = p ∙ sym q
 performed_once limits s (line ∷ more) a b (first, rest, answer, performed, is) (first_too, rest_too, answer_too, performed_too, is_too) =
     let same = one_answer limits s line first first_too answer answer_too in
     let after = subst (λ x. Perform limits x.next more rest) same performed in
-    is ∙ ap (λ x. joint_answer x rest) same
-    ∙ ap (joint_answer first_too) (performed_once limits first_too.next more rest rest_too after performed_too) ∙ sym is_too
+    is ∙ ap (λ x. answers_in_turn x rest) same
+    ∙ ap (answers_in_turn first_too) (performed_once limits first_too.next more rest rest_too after performed_too) ∙ sym is_too
 
 pub one_transcript : (limits : Limits) (input text other : List ℕ) → IsTranscript limits input text → IsTranscript limits input other → text ≡ other
 one_transcript limits input text other p q =

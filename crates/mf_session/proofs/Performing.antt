@@ -1,23 +1,23 @@
 -- Lines that are performed one after another.
 use Rattle.std.proofs.Common.{◌≡◌, List, ℕ, [], ◌∷◌, ◌++◌, refl, sym, ap, ◌∙◌, append_assoc, append-nil}
 use Rattle.mf_session.specs.Answers.{Answers}
-use Rattle.mf_session.specs.States.{Answer, Limits, State, answer_with, joint_answer}
+use Rattle.mf_session.specs.States.{Answer, Limits, State, answer_with, answers_in_turn}
 use Rattle.mf_session.specs.Transcript.{Perform}
 
 -- of three answers, the last two may be joined first
-joint_answer-assoc : (a b c : Answer) → joint_answer (joint_answer a b) c ≡ joint_answer a (joint_answer b c)
-joint_answer-assoc a b c = ap (λ text. answer_with text c.next) (append_assoc a.text b.text c.text)
+answers_in_turn-assoc : (a b c : Answer) → answers_in_turn (answers_in_turn a b) c ≡ answers_in_turn a (answers_in_turn b c)
+answers_in_turn-assoc a b c = ap (λ text. answer_with text c.next) (append_assoc a.text b.text c.text)
 
 -- the first lines are performed, and then the others
 pub Perform-append : (limits : Limits) (s : State) (lines more : List (List ℕ)) (a b : Answer)
-    → Perform limits s lines a → Perform limits a.next more b → Perform limits s (lines ++ more) (joint_answer a b)
+    → Perform limits s lines a → Perform limits a.next more b → Perform limits s (lines ++ more) (answers_in_turn a b)
 Perform-append limits s [] more a b nothing after = rw nothing (rw nothing at after)
 Perform-append limits s (line ∷ lines) more a b (first, rest, answer, performed, is) after = (
   first,
-  joint_answer rest b,
+  answers_in_turn rest b,
   answer,
   Perform-append limits first.next lines more rest b performed (rw is at after),
-  rw is (joint_answer-assoc first rest b),
+  rw is (answers_in_turn-assoc first rest b),
 )
 
 -- one line is performed
@@ -26,8 +26,8 @@ Perform-one limits s line a answer = (a, answer_with [] a.next, answer, refl, ap
 
 -- what lines and then others answer is what the first answer and then, from the state in between, what the others answer
 pub Perform-split : (limits : Limits) (s : State) (lines more : List (List ℕ)) (whole : Answer) → Perform limits s (lines ++ more) whole
-    → (a : Answer) × (b : Answer) × Perform limits s lines a × Perform limits a.next more b × (whole ≡ joint_answer a b)
+    → (a : Answer) × (b : Answer) × Perform limits s lines a × Perform limits a.next more b × (whole ≡ answers_in_turn a b)
 Perform-split limits s [] more whole performed = (answer_with [] s, whole, refl, performed, refl)
 Perform-split limits s (line ∷ lines) more whole (first, rest, answer, performed, is) =
     let (a, b, before, after, cut) = Perform-split limits first.next lines more rest performed in
-    (joint_answer first a, b, (first, a, answer, before, refl), after, is ∙ ap (joint_answer first) cut ∙ sym (joint_answer-assoc first a b))
+    (answers_in_turn first a, b, (first, a, answer, before, refl), after, is ∙ ap (answers_in_turn first) cut ∙ sym (answers_in_turn-assoc first a b))

@@ -16,7 +16,7 @@ use Rattle.mf_session.specs.Answers.{Answers, AnswersTo, ProofAnswers}
 use Rattle.mf_session.specs.Pictures.{source_picture}
 use Rattle.mf_session.specs.Refusals.{refusal_line}
 use Rattle.mf_session.specs.Shipments.{Ships}
-use Rattle.mf_session.specs.States.{Answer, Limits, State, answer_with, joint_answer, start}
+use Rattle.mf_session.specs.States.{Answer, Limits, State, answer_with, answers_in_turn, start}
 use Rattle.mf_session.specs.Transcript.{IsTranscript, Perform}
 
 -- a picture has a grid text, or that text is too large
@@ -54,7 +54,7 @@ perform_some limits s [] = (_, refl)
 perform_some limits s (line ∷ more) =
     let (first, answer) = some_answer limits s line in
     let (rest, performed) = perform_some limits first.next more in
-    (joint_answer first rest, (first, rest, answer, performed, refl))
+    (answers_in_turn first rest, (first, rest, answer, performed, refl))
 
 pub some_transcript : (limits : Limits) (input : List ℕ) → (text : List ℕ) × IsTranscript limits input text
 some_transcript limits input =

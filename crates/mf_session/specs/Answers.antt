@@ -12,7 +12,7 @@ use Rattle.mf_text.specs.declared.command.Command.TheVariants.{Nothing, Turning,
 use Rattle.mf_text.specs.declared.command.Command.TheVariants.{Total, Show, Proof, Ship, Publish}
 use Rattle.mf_text.specs.declared.fault.TextFault.{TextFault}
 use Rattle.mf_text.specs.declared.fault.TextFault.TheVariants.{OutOfMemory}
-use Rattle.mf_session.specs.Changes.{OpOn, pictures_after_publish, on, next_pictures, operation_text, published_line}
+use Rattle.mf_session.specs.Changes.{OpOn, pictures_after_publish, on, pictures_unless_refused, operation_text, published_line}
 use Rattle.mf_session.specs.Pictures.{source_picture}
 use Rattle.mf_session.specs.Refusals.{refusal_line}
 use Rattle.mf_session.specs.Shipments.{Ships}
@@ -26,7 +26,7 @@ Prints s line a = a ≡ answer_with line s
 -- what an operation on a picture answers
 abbrev pub Operates : Limits → State → OpOn → Answer → Type 0
 Operates limits s o a =
-    a ≡ answer_with (operation_text limits.max_ops s.pictures o) (record s { pictures = next_pictures limits.max_ops s.pictures o })
+    a ≡ answer_with (operation_text limits.max_ops s.pictures o) (record s { pictures = pictures_unless_refused limits.max_ops s.pictures o })
 
 -- the line that shows a total weight
 abbrev pub total_line : List Dot → List ℕ

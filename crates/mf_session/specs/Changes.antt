@@ -28,9 +28,9 @@ pictures_after s Current op = record s { accepted = accepted_list_with s (Operat
 pictures_after s (Register number) op = record s { registers = slice_set s.registers number (next_picture (slice_index_or s.registers number []) op) }
 
 -- an operation that is refused prints why, and any other prints nothing
-abbrev pub line_of_refusal : Option Fault → List ℕ
-line_of_refusal None = []
-line_of_refusal (Some why) = refusal_line (RefusedOperation why)
+abbrev pub line_if_refused : Option Fault → List ℕ
+line_if_refused None = []
+line_if_refused (Some why) = refusal_line (RefusedOperation why)
 
 -- an operation that is refused changes nothing, and any other makes the new pictures
 abbrev pub unless_refused : Option Fault → Pictures → Pictures → Pictures
@@ -48,11 +48,11 @@ on name op = record { name = name; op = op }
 
 -- what an operation on a picture prints
 abbrev pub operation_text : ℕ → Pictures → OpOn → List ℕ
-operation_text max_ops s o = line_of_refusal (refusal_of max_ops s o.name o.op)
+operation_text max_ops s o = line_if_refused (refusal_of max_ops s o.name o.op)
 
 -- the pictures after it
-abbrev pub next_pictures : ℕ → Pictures → OpOn → Pictures
-next_pictures max_ops s o = unless_refused (refusal_of max_ops s o.name o.op) s (pictures_after s o.name o.op)
+abbrev pub pictures_unless_refused : ℕ → Pictures → OpOn → Pictures
+pictures_unless_refused max_ops s o = unless_refused (refusal_of max_ops s o.name o.op) s (pictures_after s o.name o.op)
 
 -- the line that tells the revision of a publish
 abbrev pub published_line : Pictures → List ℕ

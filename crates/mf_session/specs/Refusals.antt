@@ -1,6 +1,6 @@
 -- Refusals, as the transcript prints them.
 use Rattle.std.specs.Prelude.{ℕ, ◌++◌, List, codes}
-use Rattle.mf_live.specs.Names.{fault_text}
+use Rattle.mf_live.specs.Names.{writer_fault_text}
 use Rattle.mf_text.specs.Names.{text_fault_text}
 use Rattle.mf_session.specs.declared.refusal.Refusal.{Refusal}
 use Rattle.mf_session.specs.declared.refusal.Refusal.TheVariants.{Line, Operation, FileTooLong, ProofTooLarge}
@@ -8,7 +8,7 @@ use Rattle.mf_session.specs.declared.refusal.Refusal.TheVariants.{Line, Operatio
 -- the name of a refusal and, after a space, the place or the column where it has one
 abbrev pub refusal_text : Refusal → List ℕ
 refusal_text (Line fault) = text_fault_text fault
-refusal_text (Operation fault) = fault_text fault
+refusal_text (Operation fault) = writer_fault_text fault
 refusal_text FileTooLong = codes "FileTooLong"
 refusal_text ProofTooLarge = codes "ProofTooLarge"
 

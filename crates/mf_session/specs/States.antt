@@ -26,8 +26,8 @@ abbrev pub answer_with : List ℕ → State → Answer
 answer_with text next = record { text = text; next = next }
 
 -- an answer, and then another from the state after it
-abbrev pub joint_answer : Answer → Answer → Answer
-joint_answer first rest = answer_with (first.text ++ rest.text) rest.next
+abbrev pub answers_in_turn : Answer → Answer → Answer
+answers_in_turn first rest = answer_with (first.text ++ rest.text) rest.next
 
 -- the greatest number of operations that `currentpicture` accepts, and of bytes that the font file may have
 pub record Limits : Type 0 where

@@ -2,13 +2,13 @@
 use Rattle.std.specs.Prelude.{◌≡◌, ℕ, List, [], ◌∷◌, ◌++◌}
 use Rattle.std.specs.Str.Lines.{lines}
 use Rattle.mf_session.specs.Answers.{Answers, Prints}
-use Rattle.mf_session.specs.States.{Answer, Limits, State, answer_with, joint_answer, start}
+use Rattle.mf_session.specs.States.{Answer, Limits, State, answer_with, answers_in_turn, start}
 
 -- lines are performed one after another from a state: what they print, and the state after them
 abbrev pub Perform : Limits → State → List (List ℕ) → Answer → Type 0
 Perform limits s [] a = Prints s [] a
 Perform limits s (line ∷ more) a =
-    (first : Answer) × (rest : Answer) × Answers limits s line first × Perform limits first.next more rest × (a ≡ joint_answer first rest)
+    (first : Answer) × (rest : Answer) × Answers limits s line first × Perform limits first.next more rest × (a ≡ answers_in_turn first rest)
 
 -- lines that are due to be performed from a state on
 pub record Due : Type 0 where

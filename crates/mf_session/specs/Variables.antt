@@ -3,7 +3,7 @@ use Rattle.std.specs.Prelude.{◌≡◌, ℕ, List}
 use Rattle.logbook.specs.Pages.{Book}
 use Rattle.mf_live.specs.Writers as writers
 use Rattle.mf_session.specs.declared.variables.Variables.{Variables}
-use Rattle.mf_session.specs.Changes.{OpOn, pictures_after_publish, next_pictures, operation_text, published_line}
+use Rattle.mf_session.specs.Changes.{OpOn, pictures_after_publish, pictures_unless_refused, operation_text, published_line}
 use Rattle.mf_session.specs.Pictures.{Pictures}
 
 -- the pictures: what `currentpicture` has accepted, what of that is published, and the registers
@@ -21,7 +21,7 @@ max_ops v = writers.max_ops v.writer
 -- an operation on a picture has been performed, or refused, and has printed this
 abbrev pub OperatesOn : Variables → OpOn → List ℕ → Variables → Type 0
 OperatesOn before o text after =
-    (text ≡ operation_text (max_ops before) (pictures before) o) × (pictures after ≡ next_pictures (max_ops before) (pictures before) o)
+    (text ≡ operation_text (max_ops before) (pictures before) o) × (pictures after ≡ pictures_unless_refused (max_ops before) (pictures before) o)
 
 -- everything that was accepted is published, and its revision is printed
 abbrev pub PublishesAll : Variables → List ℕ → Variables → Type 0

@@ -48,7 +48,7 @@ impl Session {
     /// them. The session accepts at most `max_ops` operations on `currentpicture`. Its font file has no comment and at most
     /// `max_bytes` bytes; more than 2,147,483,647 count as that. Requires at most 64 places. Refused with `FileTooLong` exactly
     /// where `max_bytes` is below 3, since the preamble alone has three bytes, and with `OutOfMemory` where an allocation fails.
-    /// It takes `rt` because opening a live picture publishes once, but nobody looks yet for whom it could wait.
+    /// It takes `rt` because opening a live picture publishes once. It has nobody to wait for, since nobody looks yet.
     pub fn new<R: Wait>(
         rt: &R,
         alloc: Global,

@@ -13,7 +13,7 @@ use Rattle.mf_text.specs.Grammar.{AddPicture, CullKeeping, CullDropping, Clear, 
 use Rattle.mf_text.specs.Grammar.{SetCheck, PublishAll, Shifted, Scaled, XScaled, YScaled, Rotated, Transform, Sign, Plus, Minus}
 use Rattle.mf_text.specs.Rests.{Kind, Of, This, Names, Numbers, Codes, Rest, Ends, Take, OrTake, Corners, One, Or, character_code, CodeNumber}
 use Rattle.mf_text.specs.Rests.{rest_of_corner, ends, if_kind, rest_of_pair, int, is_code_number, path, source, step, value, Token, code_of, int_of}
-use Rattle.mf_text.specs.Rests.{line, line_end, name_token, assignment, int_at_end, source_at_end, transform, weight_at_end, name_in, this_in}
+use Rattle.mf_text.specs.Rests.{line, line_end, name_token, assignment, int_then_end, source_then_end, transform, weight_then_end, name_in, this_in}
 use Rattle.mf_text.proofs.ReadInts.{some_code, code_of-is, int_of-is, short_int}
 use Rattle.mf_text.proofs.TokenTexts.{same_token, token_is}
 
@@ -147,7 +147,7 @@ unfolding reads
 end_to form true = or_to (record { tokens = []; read = refl })
 end_to form false = record { tokens = []; read = refl }
 
-weight_to : (form : Option Int → Form) (w : Option Int) (ended : Bool) → To (weight_at_end form) (record { form = form w; ended = ended })
+weight_to : (form : Option Int → Form) (w : Option Int) (ended : Bool) → To (weight_then_end form) (record { form = form w; ended = ended })
 unfolding reads
 weight_to form None true = on (token.Mark mark.Semicolon) refl (record { tokens = []; read = refl })
 weight_to form None false = record { tokens = []; read = refl }
@@ -176,7 +176,7 @@ form_to Nothing true = on (token.Mark mark.Semicolon) refl (record { tokens = []
 form_to Nothing false = record { tokens = []; read = refl }
 form_to (AddContour name p w) ended = or_to (take_to name tt (or_to (path_to (λ q. weight_to (AddContour name q) w ended) p)))
 form_to (AddPicture name sign s) ended = or_to (take_to name tt (on (token.Word word.Also) refl (by_sign sign s))) where
-  by_sign : (g : Sign) (s : Source) → To (Or (token.Mark mark.Minus) (source_at_end (AddPicture name Minus)) (source_at_end (AddPicture name Plus)))
+  by_sign : (g : Sign) (s : Source) → To (Or (token.Mark mark.Minus) (source_then_end (AddPicture name Minus)) (source_then_end (AddPicture name Plus)))
       (record { form = AddPicture name g s; ended = ended })
   by_sign Minus s = or_to (source_to (λ t. end_to (AddPicture name Minus t) ended) s)
   by_sign Plus Null = on (token.Word word.NullPicture) refl (end_to _ ended)
@@ -198,7 +198,7 @@ form_to (ShipOut s code dx width) ended =
     on (token.Word word.Shipout) refl (source_to after_source s) where
       after_source : (t : Source)
           → To (One (token.Word word.Code) (character_code (λ c. One (token.Word word.Dx) (int (λ x. One (token.Word word.Width)
-          (int_at_end (ShipOut t c x))))))) (record { form = ShipOut t code dx width; ended = ended })
+          (int_then_end (ShipOut t c x))))))) (record { form = ShipOut t code dx width; ended = ended })
       after_source t = one_to (code_to code (one_to (int_to dx (one_to (int_to width (end_to _ ended))))))
 form_to (SetCheck n) ended = on (token.Word word.TurningCheck) refl (one_to (int_to n (end_to _ ended)))
 form_to PublishAll ended = on (token.Word word.Publish) refl (end_to _ ended)

@@ -14,7 +14,7 @@ use Rattle.mf_text.specs.Grammar.{Line, Path, spell_form, spell_weight, spell_in
 use Rattle.mf_text.specs.Grammar.{spell_path, spell_line, Plus, Minus, Code, Name, Current, Register, Source, Null, Named, Int, Pair}
 use Rattle.mf_text.specs.Rests.{Kind, Of, This, Names, Codes, Rest, Ends, Take, OrTake, Corners, One, Or, CodeNumber, ends, if_kind}
 use Rattle.mf_text.specs.Rests.{character_code, int, is_code_number, pair, path, rest_of_corner, rest_of_pair, source, step, assignment, line, line_end}
-use Rattle.mf_text.specs.Rests.{name_token, transform, value, weight_at_end, Token}
+use Rattle.mf_text.specs.Rests.{name_token, transform, value, weight_then_end, Token}
 use Rattle.mf_text.specs.Syntax.{is_negative_code}
 use Rattle.mf_text.proofs.Rests.{HasSign, token_of, value_is, is_code_number_at, reads}
 
@@ -172,7 +172,7 @@ sound_end form spelled = record { by = (ap (λ ts. ts ++ token.Mark mark.Semicol
 
 -- a weight that may be left out
 sound_weight : {past : List Token} (form : Option Int → Form) → ((w : Option Int) → spell_form (form w) ≡ past ++ spell_weight w)
-    → Sound past (weight_at_end form)
+    → Sound past (weight_then_end form)
 sound_weight {past} form spelled = grind (arith, ints, sound_or, sound_int, sound_end, spelled, append_assoc, append-nil)
 
 sound_transform : (name : Name) → Sound ((spell_name name ++ token.Mark mark.Becomes ∷ []) ++ spell_name name) (transform name)

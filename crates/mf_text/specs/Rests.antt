@@ -92,44 +92,45 @@ abbrev pub weight : (Option Int → Rest) → Rest
 weight next = Or (token.Word word.WithWeight) (int (λ n. next (Some n))) (next None)
 
 -- after a command that may have a weight: the weight, if there is one, and the end of the line
-abbrev pub weight_at_end : (Option Int → Form) → Rest
-weight_at_end form = weight (λ n. line_end (form n))
+abbrev pub weight_then_end : (Option Int → Form) → Rest
+weight_then_end form = weight (λ n. line_end (form n))
 
 -- a source, and the end of the line
-abbrev pub source_at_end : (Source → Form) → Rest
-source_at_end form = source (λ picture. line_end (form picture))
+abbrev pub source_then_end : (Source → Form) → Rest
+source_then_end form = source (λ picture. line_end (form picture))
 
 -- an int, and the end of the line
-abbrev pub int_at_end : (Int → Form) → Rest
-int_at_end form = int (λ n. line_end (form n))
+abbrev pub int_then_end : (Int → Form) → Rest
+int_then_end form = int (λ n. line_end (form n))
 
 -- a range, and a weight and the end of the line
-abbrev pub range_at_end : (Pair → Option Int → Form) → Rest
-range_at_end form = pair (λ range. weight_at_end (form range))
+abbrev pub range_then_end : (Pair → Option Int → Form) → Rest
+range_then_end form = pair (λ range. weight_then_end (form range))
 
 -- after `addto`
 abbrev pub addto : Rest
 addto =
-    Take Names (λ name. Or (token.Word word.Contour) (path (λ p. weight_at_end (AddContour name p)))
-    (One (token.Word word.Also) (Or (token.Mark mark.Minus) (source_at_end (AddPicture name Minus)) (source_at_end (AddPicture name Plus)))))
+    Take Names (λ name. Or (token.Word word.Contour) (path (λ p. weight_then_end (AddContour name p)))
+    (One (token.Word word.Also) (Or (token.Mark mark.Minus) (source_then_end (AddPicture name Minus)) (source_then_end (AddPicture name Plus)))))
 
 -- after `cull`
 abbrev pub cull : Rest
-cull = Take Names (λ name. Or (token.Word word.Keeping) (range_at_end (CullKeeping name)) (One (token.Word word.Dropping) (range_at_end (CullDropping name))))
+cull = Take Names (λ name.
+    Or (token.Word word.Keeping) (range_then_end (CullKeeping name)) (One (token.Word word.Dropping) (range_then_end (CullDropping name))))
 
 -- after `show`
 abbrev pub show : Rest
-show = Or (token.Word word.TotalWeight) (source_at_end ShowTotal) (source_at_end ShowPicture)
+show = Or (token.Word word.TotalWeight) (source_then_end ShowTotal) (source_then_end ShowPicture)
 
 -- after `shipout`
 abbrev pub shipout : Rest
 shipout =
     source (λ picture. One (token.Word word.Code) (character_code (λ code. One (token.Word word.Dx) (int (λ dx. One (token.Word word.Width)
-    (int_at_end (ShipOut picture code dx)))))))
+    (int_then_end (ShipOut picture code dx)))))))
 
 -- after `turningcheck`
 abbrev pub turning_check : Rest
-turning_check = One (token.Mark mark.Becomes) (int_at_end SetCheck)
+turning_check = One (token.Mark mark.Becomes) (int_then_end SetCheck)
 
 -- the token of a name
 abbrev pub name_token : Name → Token
@@ -139,8 +140,8 @@ name_token (Register letter) = token.Letter letter
 -- after name `:=` name, where `shifted` does not come: another transform
 abbrev pub scale_or_turn : Name → Rest
 scale_or_turn name =
-    Or (token.Word word.Scaled) (int_at_end (λ n. Move name (Scaled n))) (Or (token.Word word.XScaled) (int_at_end (λ n. Move name (XScaled n)))
-    (Or (token.Word word.YScaled) (int_at_end (λ n. Move name (YScaled n))) (One (token.Word word.Rotated) (int_at_end (λ n. Move name (Rotated n))))))
+    Or (token.Word word.Scaled) (int_then_end (λ n. Move name (Scaled n))) (Or (token.Word word.XScaled) (int_then_end (λ n. Move name (XScaled n)))
+    (Or (token.Word word.YScaled) (int_then_end (λ n. Move name (YScaled n))) (One (token.Word word.Rotated) (int_then_end (λ n. Move name (Rotated n))))))
 
 -- after name `:=` name: a transform
 abbrev pub transform : Name → Rest
@@ -153,7 +154,7 @@ assignment name = One (token.Mark mark.Becomes) (Or (token.Word word.NullPicture
 -- a complete line
 abbrev pub line : Rest
 line =
-    Or (token.Word word.Addto) addto (Or (token.Word word.Cull) cull (Or (token.Word word.Show) show (Or (token.Word word.Proof) (source_at_end ShowProof)
+    Or (token.Word word.Addto) addto (Or (token.Word word.Cull) cull (Or (token.Word word.Show) show (Or (token.Word word.Proof) (source_then_end ShowProof)
     (Or (token.Word word.Shipout) shipout (Or (token.Word word.TurningCheck) turning_check (Or (token.Word word.Publish) (line_end PublishAll)
     (OrTake Names assignment (line_end Nothing))))))))
 

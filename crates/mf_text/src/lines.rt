@@ -102,7 +102,7 @@ fn addto(alloc: Global, tokens: &mut Tokens<'_>) -> Result<Command, TextFault>
 
 /// The line after `addto`, a name and `contour`.
 fn add_contour(alloc: Global, tokens: &mut Tokens<'_>, name: Name) -> Result<Command, TextFault>
-    ensures { AnswersLine (from (rests.path (λ p. rests.weight_at_end (AddContour name p))) (ahead tokens.old)) result }
+    ensures { AnswersLine (from (rests.path (λ p. rests.weight_then_end (AddContour name p))) (ahead tokens.old)) result }
 {
     let path = tokens.path(alloc)?;
     let weight = tokens.weight()?;
@@ -113,7 +113,7 @@ fn add_contour(alloc: Global, tokens: &mut Tokens<'_>, name: Name) -> Result<Com
 /// The line after `addto`, a name, `also`, and `-` where it comes.
 #[inline(always)]
 fn also(tokens: &mut Tokens<'_>, name: Name, sign: Sign) -> Result<Command, TextFault>
-    ensures { AnswersLine (from (rests.source_at_end (AddPicture name sign)) (ahead tokens.old)) result }
+    ensures { AnswersLine (from (rests.source_then_end (AddPicture name sign)) (ahead tokens.old)) result }
 {
     let source = tokens.source()?;
     tokens.end()?;
@@ -134,7 +134,7 @@ fn cull(tokens: &mut Tokens<'_>) -> Result<Command, TextFault>
 
 /// The line after `cull`, a name and `keeping`.
 fn keep(tokens: &mut Tokens<'_>, name: Name) -> Result<Command, TextFault>
-    ensures { AnswersLine (from (rests.range_at_end (CullKeeping name)) (ahead tokens.old)) result }
+    ensures { AnswersLine (from (rests.range_then_end (CullKeeping name)) (ahead tokens.old)) result }
 {
     let range = tokens.pair()?;
     let weight = tokens.weight()?;
@@ -144,7 +144,7 @@ fn keep(tokens: &mut Tokens<'_>, name: Name) -> Result<Command, TextFault>
 
 /// The line after `cull`, a name and `dropping`.
 fn drop_range(tokens: &mut Tokens<'_>, name: Name) -> Result<Command, TextFault>
-    ensures { AnswersLine (from (rests.range_at_end (CullDropping name)) (ahead tokens.old)) result }
+    ensures { AnswersLine (from (rests.range_then_end (CullDropping name)) (ahead tokens.old)) result }
 {
     let range = tokens.pair()?;
     let weight = tokens.weight()?;
@@ -166,7 +166,7 @@ fn show(tokens: &mut Tokens<'_>) -> Result<Command, TextFault>
 
 /// The line after `show totalweight`.
 fn total(tokens: &mut Tokens<'_>) -> Result<Command, TextFault>
-    ensures { AnswersLine (from (rests.source_at_end ShowTotal) (ahead tokens.old)) result }
+    ensures { AnswersLine (from (rests.source_then_end ShowTotal) (ahead tokens.old)) result }
 {
     let source = tokens.source()?;
     tokens.end()?;
@@ -175,7 +175,7 @@ fn total(tokens: &mut Tokens<'_>) -> Result<Command, TextFault>
 
 /// The line after `proof`.
 fn proof(tokens: &mut Tokens<'_>) -> Result<Command, TextFault>
-    ensures { AnswersLine (from (rests.source_at_end ShowProof) (ahead tokens.old)) result }
+    ensures { AnswersLine (from (rests.source_then_end ShowProof) (ahead tokens.old)) result }
 {
     let source = tokens.source()?;
     tokens.end()?;
@@ -265,7 +265,7 @@ fn scale_or_turn(tokens: &mut Tokens<'_>, name: Name) -> Result<Command, TextFau
 
 /// The line after a name, `:=`, the same name and `scaled`.
 fn scale_both(tokens: &mut Tokens<'_>, name: Name) -> Result<Command, TextFault>
-    ensures { AnswersLine (from (rests.int_at_end (λ n. Move name (Scaled n))) (ahead tokens.old)) result }
+    ensures { AnswersLine (from (rests.int_then_end (λ n. Move name (Scaled n))) (ahead tokens.old)) result }
 {
     let factor = tokens.int()?;
     tokens.end()?;
@@ -274,7 +274,7 @@ fn scale_both(tokens: &mut Tokens<'_>, name: Name) -> Result<Command, TextFault>
 
 /// The line after a name, `:=`, the same name and `xscaled`.
 fn scale_columns(tokens: &mut Tokens<'_>, name: Name) -> Result<Command, TextFault>
-    ensures { AnswersLine (from (rests.int_at_end (λ n. Move name (XScaled n))) (ahead tokens.old)) result }
+    ensures { AnswersLine (from (rests.int_then_end (λ n. Move name (XScaled n))) (ahead tokens.old)) result }
 {
     let factor = tokens.int()?;
     tokens.end()?;
@@ -283,7 +283,7 @@ fn scale_columns(tokens: &mut Tokens<'_>, name: Name) -> Result<Command, TextFau
 
 /// The line after a name, `:=`, the same name and `yscaled`.
 fn scale_rows(tokens: &mut Tokens<'_>, name: Name) -> Result<Command, TextFault>
-    ensures { AnswersLine (from (rests.int_at_end (λ n. Move name (YScaled n))) (ahead tokens.old)) result }
+    ensures { AnswersLine (from (rests.int_then_end (λ n. Move name (YScaled n))) (ahead tokens.old)) result }
 {
     let factor = tokens.int()?;
     tokens.end()?;
@@ -292,7 +292,7 @@ fn scale_rows(tokens: &mut Tokens<'_>, name: Name) -> Result<Command, TextFault>
 
 /// The line after a name, `:=`, the same name and `rotated`.
 fn turn(tokens: &mut Tokens<'_>, name: Name) -> Result<Command, TextFault>
-    ensures { AnswersLine (from (rests.int_at_end (λ n. Move name (Rotated n))) (ahead tokens.old)) result }
+    ensures { AnswersLine (from (rests.int_then_end (λ n. Move name (Rotated n))) (ahead tokens.old)) result }
 {
     let angle = tokens.int()?;
     tokens.end()?;

@@ -34,7 +34,7 @@ IsSeenOf whole L = IsWholePrefix L whole
 abbrev pub IsPublishable : List Entry → Type 0
 IsPublishable L = (events : List Event) × IsPublished events L
 
--- a viewer that has looked at a list may have looked at these before: whole prefixes of it that may be published, of rising revisions
+-- a viewer that has looked at a list may have looked at these up to then: whole prefixes of it that may be published, of rising revisions
 pub record AreLooks (whole : List Entry) (lists : List (List Entry)) : Type 0 where
   pub rise : Rise lists
   pub seen : All (IsSeenOf whole) lists
@@ -58,7 +58,7 @@ pub record HasDrawnPart (manner : Manner) (held holds : Option (List ℕ)) : Typ
 abbrev pub DrawsMore : Easel → Easel → Option (List ℕ) → Option (List ℕ) → Type 0
 DrawsMore before after holds later = (held : Option (List ℕ)) → HasDrawn before held holds → HasDrawn after held later
 
--- a screen has got frames of what a viewer may have looked at before it looked at a list, and the last is that of the picture of the list
+-- a screen has got frames of what a viewer may have looked at when it has looked at a list, and the last is that of the picture of the list
 pub record ShowsLast (manner : Manner) (whole : List Entry) (held holds : Option (List ℕ)) : Type 0 where
   pub last : List Entry
   pub earlier : List (List Entry)

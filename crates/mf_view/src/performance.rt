@@ -75,7 +75,7 @@ pub fn perform<
     ensures shown { IfOk result (Shows (easels.manner showing.style showing.canvas)
         (screen_streams (R.remaining reader.old) (receipt W.contents screen.old screen.new) (receipt T.contents transcript.old transcript.new))) }
     ensures fault { IfErr result (IsBrokenOff (R.remaining reader.old) (T.contents transcript.old) (T.contents transcript.new)) }
-    ensures drawn { OnErr result (HasDrawnPart (easels.manner showing.style showing.canvas) (W.contents screen.old) (W.contents screen.new)) }
+    ensures part { OnErr result (HasDrawnPart (easels.manner showing.style showing.canvas) (W.contents screen.old) (W.contents screen.new)) }
     ensures plates { IfErr result (λ fault. ConcernsPlate fault → IsSome showing.plates) }
     ensures no_place { result ≡ Err ProgramFault.NoPlace
         → (reader.new ≡ reader.old) × (screen.new ≡ screen.old) × (transcript.new ≡ transcript.old) }
@@ -123,7 +123,7 @@ fn show<
     ensures shown { IfOk result (Shows (easels.manner_of easel)
         (screen_streams (R.remaining reader.old) (receipt W.contents screen.old screen.new) (receipt T.contents transcript.old transcript.new))) }
     ensures fault { IfErr result (IsBrokenOff (R.remaining reader.old) (T.contents transcript.old) (T.contents transcript.new)) }
-    ensures drawn { OnErr result (HasDrawnPart (easels.manner_of easel) (W.contents screen.old) (W.contents screen.new)) }
+    ensures part { OnErr result (HasDrawnPart (easels.manner_of easel) (W.contents screen.old) (W.contents screen.new)) }
     ensures plates { IfErr result (λ fault. ConcernsPlate fault → IsSome (stages.plates_of stage)) }
     ensures placed { IfErr result HadPlace }
 {

@@ -180,7 +180,7 @@ fn perform_into<
 ) -> Result<GfFile, ProgramFault>
     ensures done { IfOk result (IsShownInto (option_map string_bytes transcript) (manner showing.style showing.canvas)
         (screen_streams (R.remaining reader.old) (receipt W.contents screen.old screen.new) (receipt E.contents errors.old errors.new))) }
-    ensures drawn { OnErr result (HasDrawnPart (manner showing.style showing.canvas) (W.contents screen.old) (W.contents screen.new)) }
+    ensures part { OnErr result (HasDrawnPart (manner showing.style showing.canvas) (W.contents screen.old) (W.contents screen.new)) }
     ensures plates { IfErr result (λ fault. ConcernsPlate fault → IsSome showing.plates) }
     ensures no_place { result ≡ Err ProgramFault.NoPlace → (reader.new ≡ reader.old) × (screen.new ≡ screen.old) }
     ensures fault { IfErr result (IsBrokenOffInto (option_map string_bytes transcript)
@@ -208,7 +208,7 @@ fn answer<W: Write, E: Write>(screen: &mut W, errors: &mut E, text: &str) -> u8
     report(errors, ProgramFault::WriteFault)
 }
 
-/// Refuses the words of the command line: writes how to use the program, as far as `errors` takes it, and answers with the
+/// Refuses the words of the command line: writes how to use the program, or a front of that where `errors` fails, and answers with the
 /// status.
 pub fn refuse_words<E: Write>(errors: &mut E) -> u8
     ensures status { result ≡ BAD_WORDS }
@@ -218,7 +218,7 @@ pub fn refuse_words<E: Write>(errors: &mut E) -> u8
     BAD_WORDS
 }
 
-/// Reports a fault by its name, and its revision if it has one, as far as `errors` takes them, and answers with the status.
+/// Reports a fault by its name, and its revision if it has one, or a front of that where `errors` fails, and answers with the status.
 pub fn report<E: Write>(errors: &mut E, fault: ProgramFault) -> u8
     ensures status { result ≡ status_of fault }
     ensures message { GetsMessage (E.contents errors.old) (E.contents errors.new) (message_of fault) }
@@ -241,7 +241,7 @@ fn status_of(fault: ProgramFault) -> u8
     }
 }
 
-/// Writes the message of a fault, as far as `errors` takes it.
+/// Writes the message of a fault, or a front of it where `errors` fails.
 fn write_message<E: Write>(errors: &mut E, fault: ProgramFault)
     ensures { GetsMessage (E.contents errors.old) (E.contents errors.new) (message_of fault) }
 {
@@ -267,14 +267,14 @@ fn write_message<E: Write>(errors: &mut E, fault: ProgramFault)
     }
 }
 
-/// Writes a text, as far as `errors` takes it.
+/// Writes a text, or a front of it where `errors` fails.
 fn put<E: Write>(errors: &mut E, text: &str)
     ensures { GetsMessage (E.contents errors.old) (E.contents errors.new) text.now }
 {
     write_text(errors, text);
 }
 
-/// Writes a text, a number and a line feed, as far as `errors` takes them: nothing follows a text that was cut. It allocates
+/// Writes a text, a number and a line feed, or a front of these where `errors` fails: nothing follows a text that was cut. It allocates
 /// nothing, so that each fault can be told.
 fn write_numbered<E: Write>(errors: &mut E, text: &str, number: u32)
     ensures { GetsMessage (E.contents errors.old) (E.contents errors.new) (text.now ++ decimal number ++ codes "\n") }

@@ -6,6 +6,6 @@ use Rattle.mf_view_words.specs.declared.texts.TheConstants.{HELP}
 abbrev pub help_text : List ℕ
 help_text = HELP.now
 
--- the version text, which they ask for by `--version` (here as well as in the code, so that a wrong constant there is not proved)
+-- the version text, which they ask for by `--version` (here as well as in the code, so that with a wrong constant there `mf_view` is not proved)
 abbrev pub version_text : List ℕ
 version_text = codes "mfview 1.0\n"

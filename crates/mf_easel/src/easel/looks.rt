@@ -57,7 +57,7 @@ impl Easel {
         ensures screen { IfOk result (GetsFrame (screen_of W.contents screen.old screen.new) (drawing_of self.old (looked_at_list self.new))) }
         ensures cut { IfErr result (GetsNoMore (screen_of W.contents screen.old screen.new) (drawing_of self.old (looked_at_list self.new))) }
         ensures rising { IfOk result (λ shown. IfSome shown (IsAbove (revision_of self.old))) }
-        ensures begun { result ≡ Err EaselFault.WriteFault → IsAbove (revision_of self.old) (revision_at (looked_at_list self.new)) }
+        ensures rising_if_cut { result ≡ Err EaselFault.WriteFault → IsAbove (revision_of self.old) (revision_at (looked_at_list self.new)) }
     {
         let sheet = self.viewer.sheet(alloc)?;
         self.show(alloc, screen, &sheet)
@@ -84,7 +84,7 @@ impl Easel {
         ensures screen { IfOk result (GetsFrame (screen_of W.contents screen.old screen.new) (drawing_of self.old (viewers.told_list notice))) }
         ensures cut { IfErr result (GetsNoMore (screen_of W.contents screen.old screen.new) (drawing_of self.old (viewers.told_list notice))) }
         ensures rising { IfOk result (λ shown. IfSome shown (IsAbove (revision_of self.old))) }
-        ensures begun { result ≡ Err EaselFault.WriteFault → IsAbove (revision_of self.old) (revision_at (viewers.told_list notice)) }
+        ensures rising_if_cut { result ≡ Err EaselFault.WriteFault → IsAbove (revision_of self.old) (revision_at (viewers.told_list notice)) }
     {
         let sheet = last_sheet(&mut self.viewer, alloc, notice)?;
         self.show(alloc, screen, &sheet)
@@ -107,7 +107,7 @@ impl Easel {
         ensures screen { IfOk result (GetsFrame (screen_of W.contents screen.old screen.new) (drawing_of self.old (looked_at_list self.old))) }
         ensures cut { IfErr result (GetsNoMore (screen_of W.contents screen.old screen.new) (drawing_of self.old (looked_at_list self.old))) }
         ensures rising { IfOk result (λ shown. IfSome shown (IsAbove (revision_of self.old))) }
-        ensures begun { result ≡ Err EaselFault.WriteFault → IsAbove (revision_of self.old) (revision_at (looked_at_list self.old)) }
+        ensures rising_if_cut { result ≡ Err EaselFault.WriteFault → IsAbove (revision_of self.old) (revision_at (looked_at_list self.old)) }
         ensures fault { IfErr result (λ fault. (fault ≡ EaselFault.OutOfMemory) ⊎ (fault ≡ EaselFault.WriteFault)) }
     {
         let revision = sheet.revision();

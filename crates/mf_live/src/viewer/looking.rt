@@ -1,7 +1,7 @@
 //! What a viewer does.
 ghost use Rattle.std.specs.Prelude.{◌≡◌, List, true, IfOk, MatchResult};
 ghost use Rattle.left_right.specs.Sides.{view};
-ghost use Rattle.mf_live.specs.Entries.{Entry, is_end_last, is_closed};
+ghost use Rattle.mf_live.specs.Entries.{Entry, is_nothing_after_end, is_closed};
 ghost use Rattle.mf_live.specs.Prefixes.{IsWholePrefix, longer};
 ghost use Rattle.mf_live.specs.Rule.{IsLook, seen_knowledge};
 ghost use Rattle.mf_live.specs.Viewers.{identity, learnt_list, looked_at_list, seen_list, Extends, IsPublished, SeesTheSame};
@@ -37,7 +37,7 @@ impl Viewer {
     pub fn look(self) -> Result<Look, (Viewer, NoLook)>
         ensures identity { MatchResult result (λ look. look_identity look ≡ identity self) (λ refused. identity refused.0 ≡ identity self) }
         ensures extends { MatchResult result (λ look. Extends self (shown_list look)) (λ refused. SeesTheSame self refused.0) }
-        ensures ends { MatchResult result (λ look. is_end_last (shown_list look) ≡ true) (λ refused. seen_list refused.0 ≡ seen_list self) }
+        ensures ends { MatchResult result (λ look. is_nothing_after_end (shown_list look) ≡ true) (λ refused. seen_list refused.0 ≡ seen_list self) }
         ensures learnt { IfOk result (λ look. look_learnt_list look ≡ learnt_list self) }
         ensures published { IfOk result (λ look. IsPublished (look_events look) (shown_list look)) }
         ensures last { is_closed (seen_list self) ≡ true → IfOk result (λ look. shown_list look ≡ seen_list self) }

@@ -13,5 +13,5 @@ returns-in-Err-clause-part g c = λ held was.
     let failed = c.in-Err.ensures in
     part-cut g.W.Write.contents held _ _ c.args.easel.now _ c.in-Err.fault (λ is.
     let look = subst (IsLastNotDrawn _ _ _) is failed.missed in
-    (look.0.looked, (_, look.1.published), failed.begun (ap Err is)))
+    (look.0.looked, (_, look.1.published), failed.rising_if_cut (ap Err is)))
     failed.cut was

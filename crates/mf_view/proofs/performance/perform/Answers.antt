@@ -18,9 +18,9 @@ returns-in_err-stage-clause-plates g c =
 pub returns-clause-fault : goal.returns-clause-fault
 returns-clause-fault g c = broken-place _ _
 
-pub returns-in_err-stage-clause-drawn : goal.returns-in_err-stage-clause-drawn
-returns-in_err-stage-clause-drawn g c =
+pub returns-in_err-stage-clause-part : goal.returns-in_err-stage-clause-part
+returns-in_err-stage-clause-part g c =
     IfErr-raised c.from_residual.result _ c.from_residual.ensures.1 (part-nothing _ _)
 
-pub returns-clause-drawn : goal.returns-clause-drawn
-returns-clause-drawn g c = part-nothing _ _
+pub returns-clause-part : goal.returns-clause-part
+returns-clause-part g c = part-nothing _ _

@@ -32,11 +32,11 @@ returns-clause-shown g c =
     (c.perform_beside-drawn.ensures.manner ∙ c.draw-first.ensures.manner)
     (drawn g (goal.at.returns-clause-shown g c).After-and-drawn) c.conclude.ensures.shown)
 
-pub returns-clause-drawn : goal.returns-clause-drawn
-returns-clause-drawn g c =
+pub returns-clause-part : goal.returns-clause-part
+returns-clause-part g c =
     part-end c.args.easel c.perform_beside-drawn.new.easel _ _ (g.W.Write.contents c.conclude.new.screen) c.and-drawn.result c.conclude.result
     (c.perform_beside-drawn.ensures.manner ∙ c.draw-first.ensures.manner)
-    (drawn g (goal.at.returns-clause-drawn g c).After-and-drawn) c.conclude.ensures.part
+    (drawn g (goal.at.returns-clause-part g c).After-and-drawn) c.conclude.ensures.part
 
 pub returns-clause-fault : goal.returns-clause-fault
 returns-clause-fault g c =

@@ -49,7 +49,7 @@ returns-in_err-file-clause-fault g c =
     let holds = g.W.Write.contents c.perform_into.new.screen in
     rw (failed.1, failed.2) (inr (inl (
       c.in_err-file.ensures.fault,
-      subst (λ m. HasDrawnPart m held holds) (same-manner _ _ _ _ c.in_ok-showing.ensures.asked) c.in_err-file.ensures.drawn,
+      subst (λ m. HasDrawnPart m held holds) (same-manner _ _ _ _ c.in_ok-showing.ensures.asked) c.in_err-file.ensures.part,
       (λ concerns. c.in_ok-showing.ensures.plates (c.in_err-file.ensures.plates concerns)),
       (λ is. ap g.W.Write.contents (c.in_err-file.ensures.no_place (ap Err is)).1),
     )))

@@ -2,7 +2,7 @@ use Rattle.std.proofs.Common.{◌≡◌, true, ap, sym, subst, ◌∙◌, arith}
 use mathlib.Core.List.{IsPrefix}
 use Rattle.mf_live.specs.declared.view.View.{View}
 use Rattle.mf_live.specs.declared.version.Version.{Version}
-use Rattle.mf_live.specs.Entries.{is_end_last}
+use Rattle.mf_live.specs.Entries.{is_nothing_after_end}
 use Rattle.mf_live.specs.Rule.{events_of}
 use Rattle.mf_live.specs.Viewers.{IsPublished, notice_events}
 use Rattle.mf_live.specs.World.{published_list_of}
@@ -28,7 +28,8 @@ invariant_of-result c =
 
 pub returns-clause-ends : goal.returns-clause-ends
 returns-clause-ends c =
-    subst (λ (v : View). is_end_last (published_list_of v.latest.seen.log) ≡ true) (sym c.in-Ok.ensures.is) (told_list-ends c.in-Ok.reading.part.value.notice)
+    subst (λ (v : View). is_nothing_after_end (published_list_of v.latest.seen.log) ≡ true)
+    (sym c.in-Ok.ensures.is) (told_list-ends c.in-Ok.reading.part.value.notice)
 
 pub returns-clause-published : goal.returns-clause-published
 returns-clause-published c =
