@@ -67,7 +67,7 @@ lengthened all r s rs next so_far =
     let end : place (s.x +ℤ pos s.len) s.y ≡ place (r.x +ℤ pos (r.len + s.len)) r.y = rw (next.row, next.column) (omega (arith, ints)) in
     let others = subst (λ low. AreRunsFrom low rs) end runs.2.2 in
     record {
-      black_runs = record {
+      blacks = record {
         order = record { runs = (lengthened_run r s runs.0 runs.2.0 next, runs.1, others) };
         ones = All-cons IsBlack (with_more r s) rs one (All-tail IsBlack s rs ones);
       };
