@@ -18,7 +18,7 @@ from collections.abc import Iterator
 from prover import Failure, Prover
 
 PROGRAMS = ("mfpic", "mfview")
-FIRST_TIME = "8 to 16 minutes on four processors, and 0.8 GB of disk"
+FIRST_TIME = "8 to 20 minutes on four processors, and 0.8 GB of disk"
 # The memory of a job, in bytes: the most that any job was seen to take.
 JOB_MEMORY = 2_000_000_000
 
