@@ -1,5 +1,5 @@
 -- The area of a rectilinear cycle is the sum of its winding numbers over the field.
-use Rattle.std.proofs.Common.{◌≡◌, ℕ, zero, suc, ◌-◌, ◌<◌, ◌≤◌, ℤ, pos, ◌+ℤ◌, ◌-ℤ◌, ◌*ℤ◌, ◌≤ℤ◌, nat_abs, int_div, List, length, sym, ◌∙◌, ap, inl, inr, arith}
+use Rattle.std.proofs.Common.{◌≡◌, ℕ, zero, suc, ◌-◌, ℤ, pos, ◌+ℤ◌, ◌-ℤ◌, ◌*ℤ◌, ◌≤ℤ◌, nat_abs, int_div, List, length, sym, ◌∙◌, ap, inl, inr, arith}
 use Rattle.std.proofs.lemmas.Int.{ints}
 use Rattle.std.proofs.lemmas.Bool.{cases_lt}
 use Rattle.mf_geom.specs.Coordinates.{least_coordinate, greatest_coordinate, field_size, greatest_length}
@@ -21,11 +21,7 @@ use Rattle.mf_geom.proofs.Sums.{sum_over_field-mul, sum_over_field-product, sum_
 sum_below-unit_step_after : (n k : ℕ) (a : ℤ) → sum_below n (λ i. unit_step (a +ℤ pos i) (a +ℤ pos k)) ≡ pos (n - k)
 unfolding sum_below
 sum_below-unit_step_after zero k a = omega (arith, ints)
-sum_below-unit_step_after (suc n) k a =
-    let before = sum_below-unit_step_after n k a in
-    let beyond : n < k → unit_step (a +ℤ pos n) (a +ℤ pos k) ≡ pos 0 = λ lt. unit_step-beyond (a +ℤ pos n) (a +ℤ pos k) (omega (arith, ints)) in
-    let reached : k ≤ n → unit_step (a +ℤ pos n) (a +ℤ pos k) ≡ pos 1 = λ le. unit_step-reached (a +ℤ pos n) (a +ℤ pos k) (omega (arith, ints)) in
-    elim (cases_lt n k) [ inl lt ↦ let none = beyond lt in omega (arith, ints) | inr le ↦ let one = reached le in omega (arith, ints) ]
+sum_below-unit_step_after (suc n) k a = grind (arith, ints, unit_step-beyond, unit_step-reached, cases_lt, sum_below-unit_step_after n k a)
 
 -- of the n numbers from a on, those from p on are at least p
 sum_below-unit_step : (n : ℕ) (a p : ℤ) → a ≤ℤ p → p ≤ℤ (a +ℤ pos n) → sum_below n (λ i. unit_step (a +ℤ pos i) p) ≡ (a +ℤ pos n) -ℤ p
@@ -66,10 +62,7 @@ shoelace-level x x' y = let flat = mul-self (greatest_coordinate -ℤ x) y in om
 shoelace-upright : (x y y' : ℤ)
     → x *ℤ y' -ℤ x *ℤ y ≡ pos 2 *ℤ ((greatest_coordinate -ℤ x) *ℤ (y -ℤ y')) +ℤ ((greatest_length *ℤ y' -ℤ x *ℤ y') -ℤ (greatest_length *ℤ y -ℤ x *ℤ y))
 shoelace-upright x y y' =
-    let apart = mul-sub (greatest_coordinate -ℤ x) y y' in
-    let from = sub-mul greatest_coordinate x y in
-    let to = sub-mul greatest_coordinate x y' in
-    omega (arith, ints)
+    omega (arith, ints, mul-sub (greatest_coordinate -ℤ x) y y', sub-mul greatest_coordinate x y, sub-mul greatest_coordinate x y')
 
 -- a segment's part of the shoelace sum is twice its area_beside plus a difference between its ends
 shoelace-area_beside : (e : Segment) → IsRectilinear e

@@ -42,9 +42,7 @@ unfolding quarter_along crossing unit_step quadrant IsRectilinear across up
 quarter_along-crossing x y e (inl level) =
     let same_height : e.to.y ≡ e.from.y = let rise = level.1 in omega (arith, ints) in
     rw same_height (quarter-level (int_lt x e.from.x) (int_lt x e.to.x) (int_lt y e.from.y))
-quarter_along-crossing x y e (inr upright) =
-    let same_column : e.to.x ≡ e.from.x = let run = upright.0 in omega (arith, ints) in
-    rw same_column (quarter-upright (int_lt x e.from.x) (int_lt y e.from.y) (int_lt y e.to.y))
+quarter_along-crossing x y e (inr upright) = grind (arith, ints, quarter-upright)
 
 -- round a cycle, the differences of the quadrants add up to 0
 pub quarters-crossings : (ps : List Point) (x y : ℤ) → IsRectilinearCycle ps

@@ -1,16 +1,15 @@
 -- Which lists of points have no fault, and which cycles pass the turning check.
-use Rattle.std.proofs.Common.{◌≡◌, ◌∙◌, ℕ, ◌<◌, true, false, pos, List, length, Option, None, Some, IfNone, refl, sym, arith, inl, inr}
+use Rattle.std.proofs.Common.{◌≡◌, ◌∙◌, ℕ, ◌<◌, true, false, List, length, Option, None, Some, IfNone, refl, sym, arith, inl, inr}
 use Rattle.std.specs.Option.{option_map, option_or}
-use Rattle.std.specs.Ordering.{int_eq}
 use Rattle.std.proofs.lemmas.Bool.{cases_Bool, cases_lt, true_from_ne_false, false_from_ne_true, both_ways}
 use Rattle.std.proofs.lemmas.Bool.Decides.{nat_tests}
 use Rattle.std.proofs.lemmas.Int.{ints}
-use Rattle.mf_geom.specs.declared.cycle.CycleFault.TheVariants.{TooFewPoints, TooManyPoints, PointOutOfRange, NotRectilinear, Backtracks}
+use Rattle.mf_geom.specs.declared.cycle.CycleFault.TheVariants.{TooFewPoints, TooManyPoints, PointOutOfRange, NotRectilinear}
 use Rattle.mf_geom.specs.declared.point.Point.{Point}
 use Rattle.mf_geom.specs.Faults.{fault_from_turning, first_not_rectilinear, first_out_of_range, first_reversal}
 use Rattle.mf_geom.specs.Faults.{form_fault, is_not_rectilinear, is_out_of_range, is_reversal, turning_fault}
 use Rattle.mf_geom.specs.Lawful.{HasLawfulLength, StaysInRange, IsRectilinearCycle, NeverReverses, PassesCheck, most_points}
-use Rattle.mf_geom.specs.Path.{Segment, across, IsInRange, IsRectilinear, IsReversal}
+use Rattle.mf_geom.specs.Path.{Segment, IsInRange, IsRectilinear, IsReversal}
 use Rattle.mf_geom.proofs.FirstPlaces.{first_place-none, neither, none_passes}
 
 -- ---- the tests of points and segments
@@ -21,10 +20,7 @@ is_out_of_range-false p range = let x = range.x in let y = range.y in grind (ari
 
 IsInRange-from_false : (p : Point) → is_out_of_range p ≡ false → IsInRange p
 unfolding is_out_of_range
-IsInRange-from_false p passes = record {
-  x = record { least = grind (arith, ints); greatest = grind (arith, ints) };
-  y = record { least = grind (arith, ints); greatest = grind (arith, ints) };
-}
+IsInRange-from_false p passes = grind (arith, ints)
 
 pub is_out_of_range-true : (p : Point) → ¬ IsInRange p → is_out_of_range p ≡ true
 is_out_of_range-true p beyond = true_from_ne_false _ (λ passes. beyond (IsInRange-from_false p passes))
@@ -36,11 +32,7 @@ is_not_rectilinear-false e (inr upright) = grind (arith, ints)
 
 IsRectilinear-from_false : (e : Segment) → is_not_rectilinear e ≡ false → IsRectilinear e
 unfolding is_not_rectilinear IsRectilinear
-IsRectilinear-from_false e passes =
-    elim (cases_Bool (int_eq (across e) (pos 0))) [
-      | inl upright ↦ inr (grind (arith, ints), grind (arith, ints))
-      | inr level ↦ inl (grind (arith, ints), grind (arith, ints))
-    ]
+IsRectilinear-from_false e passes = grind (arith, ints, cases_Bool)
 
 pub is_not_rectilinear-true : (e : Segment) → ¬ IsRectilinear e → is_not_rectilinear e ≡ true
 is_not_rectilinear-true e slanted = true_from_ne_false _ (λ passes. slanted (IsRectilinear-from_false e passes))
@@ -81,10 +73,7 @@ unfolding form_fault
 form_fault-many ps many = grind (arith, nat_tests)
 
 pub no_form_fault : (ps : List Point) → IsRectilinearCycle ps → form_fault ps ≡ None
-no_form_fault ps cycle =
-    let inside : first_out_of_range ps ≡ None = first_place-none _ _ (λ i below. is_out_of_range-false _ (cycle.range.in_range i below)) in
-    let straight : first_not_rectilinear ps ≡ None = first_place-none _ _ (λ i below. is_not_rectilinear-false _ (cycle.rectilinear i below)) in
-    form_fault-sized ps cycle.range.sized ∙ rw (inside, straight) refl
+no_form_fault ps cycle = grind (arith, ints, first_place-none, is_out_of_range-false, is_not_rectilinear-false, form_fault-sized)
 
 pub is_cycle-straight : (ps : List Point) → StaysInRange ps → first_not_rectilinear ps ≡ None → IsRectilinearCycle ps
 is_cycle-straight ps range straight = record { range = range; rectilinear = λ i below. IsRectilinear-from_false _ (none_passes _ _ straight i below) }
@@ -122,6 +111,4 @@ pub turning_fault-none : (ps : List Point) → PassesCheck ps → turning_fault 
 turning_fault-none ps passes = let turns = passes.turns in turning_fault-onward ps passes.onward ∙ grind (arith, ints)
 
 pub PassesCheck-from_none : (ps : List Point) → IsRectilinearCycle ps → turning_fault ps ≡ None → PassesCheck ps
-PassesCheck-from_none ps cycle none =
-    let parts = neither (option_map Backtracks (first_reversal ps)) _ none in
-    record { onward = never_reverses ps cycle (none_mapped Backtracks _ parts.0); turns = λ zero_turns. let same = parts.1 in grind (arith, ints) }
+PassesCheck-from_none ps cycle none = grind (arith, ints, neither, never_reverses, none_mapped)

@@ -78,26 +78,17 @@ same_side a b a_apart b_apart onward opposite =
 
 cross-level : (a c : ℤ) → a ≢ pos 0 → c ≢ pos 0 → ((a *ℤ c +ℤ pos 0 *ℤ pos 0) <ℤ pos 0 → ⊥)
     → int_signum (a *ℤ pos 0 -ℤ pos 0 *ℤ c) ≡ bend (heading c (pos 0) -ℤ heading a (pos 0))
-cross-level a c a_apart c_apart onward =
-    let flat : a *ℤ pos 0 -ℤ pos 0 *ℤ c ≡ pos 0 = omega (arith, ints) in
-    rw (flat, heading-level a (pos 0) a_apart, heading-level c (pos 0) c_apart)
-    (bend-level _ _ (same_side a c a_apart c_apart (λ less. onward (omega (arith, ints)))))
+cross-level a c a_apart c_apart onward = grind (arith, ints, heading-level, bend-level, same_side)
 
 cross-level-upright : (a d : ℤ) → a ≢ pos 0 → d ≢ pos 0 → int_signum (a *ℤ d -ℤ pos 0 *ℤ pos 0) ≡ bend (heading (pos 0) d -ℤ heading a (pos 0))
-cross-level-upright a d a_apart d_apart =
-    let product : a *ℤ d -ℤ pos 0 *ℤ pos 0 ≡ a *ℤ d = omega (arith, ints) in
-    rw (product, signum-product a d a_apart d_apart, heading-level a (pos 0) a_apart) (bend-level-upright _ _)
+cross-level-upright a d a_apart d_apart = grind (arith, ints, signum-product, heading-level, bend-level-upright)
 
 cross-upright-level : (b c : ℤ) → b ≢ pos 0 → c ≢ pos 0 → int_signum (pos 0 *ℤ pos 0 -ℤ b *ℤ c) ≡ bend (heading c (pos 0) -ℤ heading (pos 0) b)
-cross-upright-level b c b_apart c_apart =
-    let product : pos 0 *ℤ pos 0 -ℤ b *ℤ c ≡ neg_ℤ (b *ℤ c) = omega (arith, ints) in
-    rw (product, signum-neg (b *ℤ c), signum-product b c b_apart c_apart, heading-level c (pos 0) c_apart) (bend-upright-level _ _)
+cross-upright-level b c b_apart c_apart = grind (arith, ints, signum-neg, signum-product, heading-level, bend-upright-level)
 
 cross-upright : (b d : ℤ) → b ≢ pos 0 → d ≢ pos 0 → ((pos 0 *ℤ pos 0 +ℤ b *ℤ d) <ℤ pos 0 → ⊥)
     → int_signum (pos 0 *ℤ d -ℤ b *ℤ pos 0) ≡ bend (heading (pos 0) d -ℤ heading (pos 0) b)
-cross-upright b d b_apart d_apart onward =
-    let flat : pos 0 *ℤ d -ℤ b *ℤ pos 0 ≡ pos 0 = omega (arith, ints) in
-    rw flat (bend-upright _ _ (same_side b d b_apart d_apart (λ less. onward (omega (arith, ints)))))
+cross-upright b d b_apart d_apart onward = grind (arith, ints, bend-upright, same_side)
 
 -- the turn from one rectilinear segment to the next is the difference of their headings, except for the jump between right
 -- and down
@@ -128,15 +119,7 @@ previous_place-next_place ps i below = grind (arith, nat_tests)
 turn_at-next_place : (ps : List Point) (i : ℕ) → NeverReverses ps → i < length ps
     → turn_at ps (next_place ps i) ≡ bend (heading_of (segment_at ps (next_place ps i)) -ℤ heading_of (segment_at ps i))
 unfolding turn_at segment_into
-turn_at-next_place ps i never below =
-    let next = next_place ps i in
-    let next_below = next_place-below ps i below in
-    let here = previous_place-next_place ps i below in
-    let rectilinear = never.rectilinear.rectilinear in
-    let onward_next = never.onward next next_below in
-    let onward : IsReversal (segment_at ps i) (segment_at ps next) → ⊥ = rw here at onward_next in
-    ap (λ k. turn (segment_at ps k) (segment_at ps next)) here
-    ∙ turn-bend (segment_at ps i) (segment_at ps next) (rectilinear i below) (rectilinear next next_below) onward
+turn_at-next_place ps i never below = grind (arith, ints, next_place-below, previous_place-next_place, turn-bend)
 
 -- round a cycle the differences of the headings add up to 0
 pub turns-turning : (ps : List Point) → NeverReverses ps → sum_below (length ps) (turn_at ps) ≡ pos 4 *ℤ turning ps

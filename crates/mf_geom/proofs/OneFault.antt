@@ -1,7 +1,6 @@
 -- The fault that is declared is the one that is computed.
-use Rattle.std.proofs.Common.{◌≡◌, ◌↔◌, ◌∙◌, ℕ, true, pos, List, length, Option, None, Some, refl, sym, arith, inl, inr}
+use Rattle.std.proofs.Common.{◌≡◌, ◌↔◌, ℕ, true, List, Option, None, Some, refl, sym, arith}
 use Rattle.std.specs.Option.{option_map, option_or}
-use Rattle.std.specs.Ordering.{int_eq}
 use Rattle.std.proofs.lemmas.Bool.{cases_Bool, cases_lt, both_ways}
 use Rattle.std.proofs.lemmas.Int.{ints}
 use Rattle.mf_geom.specs.declared.cycle.CycleFault.{CycleFault}
@@ -9,9 +8,8 @@ use Rattle.mf_geom.specs.declared.cycle.CycleFault.TheVariants.{TooFewPoints, To
 use Rattle.mf_geom.specs.declared.point.Point.{Point}
 use Rattle.mf_geom.specs.Faults.{fault_from_turning, first_not_rectilinear, first_out_of_range, first_reversal}
 use Rattle.mf_geom.specs.Faults.{form_fault, is_not_rectilinear, is_out_of_range, is_reversal, turning_fault}
-use Rattle.mf_geom.specs.Lawful.{HasLawfulLength, StaysInRange, IsRectilinearCycle, NeverReverses, IsFault, most_points}
+use Rattle.mf_geom.specs.Lawful.{HasLawfulLength, StaysInRange, IsRectilinearCycle, NeverReverses, IsFault}
 use Rattle.mf_geom.specs.Path.{segment_into, point_at, segment_at, IsInRange, IsRectilinear, IsReversal}
-use Rattle.mf_geom.specs.Turning.{turning}
 use Rattle.mf_geom.proofs.FirstFaults.{IsReversal-from_true, form_fault-few, form_fault-many, form_fault-sized, is_cycle-straight}
 use Rattle.mf_geom.proofs.FirstFaults.{is_not_rectilinear-false, is_not_rectilinear-true, is_out_of_range-false, is_out_of_range-true}
 use Rattle.mf_geom.proofs.FirstFaults.{is_reversal-true, never_reverses, no_form_fault, stays_in_range, turning_fault-onward}
@@ -31,9 +29,7 @@ back ps k = (is_reversal-true _ _, IsReversal-from_true _ _)
 -- ---- what is declared is computed
 
 straight_so_far : (ps : List Point) → StaysInRange ps → form_fault ps ≡ option_map NotRectilinear (first_not_rectilinear ps)
-straight_so_far ps range =
-    let inside : first_out_of_range ps ≡ None = first_place-none _ _ (λ i below. is_out_of_range-false _ (range.in_range i below)) in
-    form_fault-sized ps range.sized ∙ rw inside refl
+straight_so_far ps range = grind (arith, ints, first_place-none, is_out_of_range-false, form_fault-sized)
 
 pub fault-computed : (ps : List Point) (fault : CycleFault) → IsFault ps fault → option_or (form_fault ps) (turning_fault ps) ≡ Some fault
 unfolding IsFault
@@ -51,10 +47,7 @@ fault-computed ps (Backtracks i) (cycle, first) =
     let found : first_reversal ps ≡ Some i = first_place-first _ _ i (back ps) first in
     let none = no_form_fault ps cycle in
     rw (none, found) refl
-fault-computed ps TurningZero (never, zero_turns) =
-    let none = no_form_fault ps never.rectilinear in
-    let is = turning_fault-onward ps never in
-    rw (none, is, zero_turns) refl
+fault-computed ps TurningZero (never, zero_turns) = grind (arith, ints, no_form_fault, turning_fault-onward)
 
 -- ---- what is computed is declared
 
@@ -63,11 +56,7 @@ same_fault one other is = grind (arith)
 
 declared-turning : (ps : List Point) (fault : CycleFault) → NeverReverses ps → fault_from_turning ps ≡ Some fault → IsFault ps fault
 unfolding IsFault
-declared-turning ps fault never is =
-    elim (cases_Bool (int_eq (turning ps) (pos 0))) [
-      | inl none ↦ let same : fault ≡ TurningZero = same_fault _ _ (rw none at is) in rw same (never, grind (arith, ints))
-      | inr some ↦ absurd (grind (arith, ints))
-    ]
+declared-turning ps fault never is = grind (arith, ints, cases_Bool, same_fault)
 
 declared-vertices : (ps : List Point) (fault : CycleFault) (found : Option ℕ) → found ≡ first_reversal ps → IsRectilinearCycle ps
     → option_or (option_map Backtracks found) (fault_from_turning ps) ≡ Some fault → IsFault ps fault
@@ -96,15 +85,4 @@ declared-points ps fault (Some i) some sized is =
 
 pub fault-declared : (ps : List Point) (fault : CycleFault) → option_or (form_fault ps) (turning_fault ps) ≡ Some fault → IsFault ps fault
 unfolding IsFault
-fault-declared ps fault is =
-    elim (cases_lt (length ps) 2) [
-      | inl few ↦ let first = form_fault-few ps few in let same : fault ≡ TooFewPoints = same_fault _ _ (rw first at is) in rw same few
-      | inr least ↦
-          elim (cases_lt most_points (length ps)) [
-            | inl many ↦ let first = form_fault-many ps many in let same : fault ≡ TooManyPoints = same_fault _ _ (rw first at is) in rw same many
-            | inr greatest ↦
-                let sized : HasLawfulLength ps = record { least = omega arith; greatest = omega arith } in
-                let first = form_fault-sized ps sized in
-                declared-points ps fault (first_out_of_range ps) refl sized (rw first at is)
-          ]
-    ]
+fault-declared ps fault is = grind (arith, ints, cases_lt, form_fault-few, same_fault, form_fault-many, form_fault-sized, declared-points)

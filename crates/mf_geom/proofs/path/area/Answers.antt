@@ -1,8 +1,6 @@
-use Rattle.std.proofs.Common.{◌≡◌, ◌∙◌, ap, pos, ◌+ℤ◌, length, arith, rules, to_z, of_z, w64}
+use Rattle.std.proofs.Common.{◌≡◌, ◌+ℤ◌, arith, to_z, of_z, w64}
 use Rattle.std.proofs.lemmas.Int.{ints, to_z-of_z, quot_fits}
-use Rattle.std.specs.Int.RustNames.{int_div}
 use Rattle.mf_geom.specs.Area.{shoelace_at, area}
-use Rattle.mf_geom.specs.Sum.{sum_below}
 use Rattle.mf_geom.proofs.PartialSums.{IsSumTo-none, IsSumTo-more}
 use Rattle.mf_geom.proofs.path.area.Goals as goal
 
@@ -19,8 +17,4 @@ loop-segment-preserved c =
 
 pub returns : goal.returns
 unfolding area
-returns c =
-    let sum = to_z w64 c.loop-segment.doubled-bits in
-    let whole : c.loop-segment.segment ≡ length c.args.points.now = omega arith in
-    to_z-of_z w64 (int_div sum (pos 2)) (quot_fits w64 sum (pos 2) (search rules) (omega (arith, ints)))
-    ∙ ap (λ s. int_div s (pos 2)) (c.loop-segment.invariant.value ∙ ap (λ n. sum_below n (shoelace_at c.args.points.now)) whole)
+returns c = grind (arith, ints, to_z-of_z, quot_fits)

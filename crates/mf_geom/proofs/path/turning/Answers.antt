@@ -1,7 +1,5 @@
-use Rattle.std.proofs.Common.{◌≡◌, ◌∙◌, ap, pos, ◌+ℤ◌, length, arith, rules, to_z, of_z, w32}
+use Rattle.std.proofs.Common.{◌≡◌, ◌+ℤ◌, arith, to_z, of_z, w32}
 use Rattle.std.proofs.lemmas.Int.{ints, to_z-of_z, quot_fits}
-use Rattle.std.specs.Int.RustNames.{int_div}
-use Rattle.mf_geom.specs.Sum.{sum_below}
 use Rattle.mf_geom.specs.Turning.{turn_at, turning}
 use Rattle.mf_geom.proofs.PartialSums.{IsSumTo-none, IsSumTo-more}
 use Rattle.mf_geom.proofs.path.turning.Goals as goal
@@ -18,8 +16,4 @@ loop-vertex-preserved c =
 
 pub returns : goal.returns
 unfolding turning
-returns c =
-    let sum = to_z w32 c.loop-vertex.quarter_turns-bits in
-    let whole : c.loop-vertex.vertex ≡ length c.args.points.now = omega arith in
-    to_z-of_z w32 (int_div sum (pos 4)) (quot_fits w32 sum (pos 4) (search rules) (omega (arith, ints)))
-    ∙ ap (λ s. int_div s (pos 4)) (c.loop-vertex.invariant.value ∙ ap (λ n. sum_below n (turn_at c.args.points.now)) whole)
+returns c = grind (arith, ints, to_z-of_z, quot_fits)
