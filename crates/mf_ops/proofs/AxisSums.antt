@@ -103,25 +103,10 @@ abbrev among : ℕ → ℤ → ℤ → ℤ
 among n s q = unit_step q s -ℤ unit_step q (s +ℤ pos n)
 
 among-inside : (n : ℕ) (s q : ℤ) → s ≤ℤ q → q <ℤ (s +ℤ pos n) → among n s q ≡ pos 1
-among-inside n s q start end =
-    let reached = unit_step-reached q s start in
-    let beyond = unit_step-beyond q (s +ℤ pos n) end in
-    omega (arith, ints)
+among-inside n s q start end = grind (arith, ints, unit_step-reached, unit_step-beyond)
 
 among-outside : (n : ℕ) (s q : ℤ) → (s ≤ℤ q → q <ℤ (s +ℤ pos n) → ⊥) → among n s q ≡ pos 0
-among-outside n s q outside =
-    by_lt_z q s
-    (λ left.
-    let start = unit_step-beyond q s left in
-    let end = unit_step-beyond q (s +ℤ pos n) (omega (arith, ints)) in
-    omega (arith, ints))
-    (λ right.
-    by_lt_z q (s +ℤ pos n)
-    (λ inside. absurd (outside right inside))
-    (λ after.
-    let start = unit_step-reached q s right in
-    let end = unit_step-reached q (s +ℤ pos n) after in
-    omega (arith, ints)))
+among-outside n s q outside = grind (arith, ints, by_lt_z, unit_step-beyond, unit_step-reached)
 
 axis_sum-among : (n : ℕ) (s : ℤ) → least_coordinate ≤ℤ s → (s +ℤ pos n) ≤ℤ greatest_coordinate → axis_sum (among n s) ≡ pos n
 axis_sum-among n s start end =

@@ -8,7 +8,7 @@ use Rattle.std.proofs.lemmas.List.Folds.{Any-from_list_any}
 use Rattle.std.specs.List.{list_any}
 use Rattle.std.specs.Option.{option_map, option_or}
 use Rattle.mf_geom.specs.declared.check.Check.{Check}
-use Rattle.mf_geom.specs.declared.check.Check.TheVariants.{Off, On}
+use Rattle.mf_geom.specs.declared.check.Check.TheVariants.{On}
 use Rattle.mf_geom.specs.declared.cycle.CycleFault.{CycleFault}
 use Rattle.mf_geom.specs.Faults.{turning_fault}
 use Rattle.mf_geom.specs.Winding.{filling_weight, contour}
@@ -95,11 +95,7 @@ turns_or_fails op = inl (record { none = refl })
 from_pixels : (ds : List Dot) (op : Op) (found : Option OpFault) → ((f : CycleFault) → Some (Cycle f) ≢ found) → op_fault ds op ≡ found
     → TurnsLawfully op × (pixel_fault ds op ≡ found)
 unfolding TurnsOrFails
-from_pixels ds op found other is =
-    elim (turns_or_fails op) [
-      | inl turns ↦ (turns, sym (op_fault-pixels ds op turns) ∙ is)
-      | inr fails ↦ absurd (other fails.0 (sym (op_fault-cycle ds op (Cycle fails.0) fails.1) ∙ is))
-    ]
+from_pixels ds op found other is = grind (arith, ints, turns_or_fails, sym, op_fault-pixels, op_fault-cycle)
 
 pixels_not_turning : (out large : Bool) (f : CycleFault) → cond out (Some OutOfField) (cond large (Some WeightTooLarge) None) ≢ Some (Cycle f)
 pixels_not_turning true large f same = cc
@@ -127,13 +123,7 @@ turning_fault-refused ds ps w fault refused = refused_from ds ps w fault (turnin
 pub FillsWith-checked : (ps : List Point) (w : ℤ) (check : Check) → cycle_fault (Contour ps w check) ≡ None
     → FillsWith (Contour ps w check) ps (filling_weight check ps w)
 unfolding next_picture contour
-FillsWith-checked ps w check turns =
-    let op = Contour ps (filling_weight check ps w) Off in
-    record {
-      turns = λ ds fault. not_turning ds (Contour ps w check) fault (record { none = turns });
-      step = λ ds. refl;
-      fault = λ ds. op_fault-pixels ds (Contour ps w check) (record { none = turns }) ∙ sym (op_fault-pixels ds op (record { none = refl }));
-    }
+FillsWith-checked ps w check turns = grind (arith, ints, not_turning, op_fault-pixels, sym)
 
 -- ---- faults of pixels
 
@@ -152,10 +142,7 @@ op_fault-leaves ds op turns leaves_it = op_fault-pixels ds op turns ∙ (λ t. c
 
 -- a step that has the weights of a picture is not refused
 op_fault-from_weights : (ds : List Dot) (op : Op) (new : List Dot) → IsForWeights ds op → IsPicture new → HasWeights (step_at ds op) new → op_fault ds op ≡ None
-op_fault-from_weights ds op new stays picture has =
-    let is = next_picture-from_weights ds op new picture has in
-    let none = none_too_large _ new picture.dots in
-    op_fault-inside ds op stays ∙ (λ t. weight_fault (sym is t)) ∙ (λ t. cond (none t) (Some WeightTooLarge) None)
+op_fault-from_weights ds op new stays picture has = grind (arith, ints, next_picture-from_weights, none_too_large, op_fault-inside, sym)
 
 -- so it is the picture after the operation, which is not refused
 pub made-from_weights : (ds : List Dot) (op : Op) (new : List Dot) → IsForWeights ds op → IsPicture new → HasWeights (step_at ds op) new

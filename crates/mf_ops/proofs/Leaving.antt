@@ -13,7 +13,7 @@ use Rattle.mf_rows.specs.Bounds.{IsLeastBox}
 use Rattle.mf_rows.specs.declared.bounds.Box4.{Box4}
 use Rattle.mf_edges.specs.declared.stretch.Stretch.{Stretch}
 use Rattle.mf_rows.specs.Dots.{Dot, IsPicture, start_of_field}
-use Rattle.mf_edges.specs.Axes.{PlaceStaysInside, target_of}
+use Rattle.mf_edges.specs.Axes.{PlaceStaysInside}
 use Rattle.mf_rows.specs.Moves.{PixelsStayInside}
 use Rattle.mf_edges.proofs.Sources.{mul-le}
 use Rattle.mf_ops.specs.Moves.{Factors, IsColumnOrRow, scale_by, shift_by, stays_inside}
@@ -24,27 +24,17 @@ pub is_coordinate-true : (x : ℤ) → (is_coordinate x ≡ true) ↔ IsCoordina
 is_coordinate-true x = (λ passes. record { least = grind (arith, ints); greatest = grind (arith, ints) }, λ point. grind (arith, ints))
 
 pub stays_inside-true : (s : Stretch) (p : ℤ) → (stays_inside s p ≡ true) ↔ PlaceStaysInside s p
-stays_inside-true s p =
-    let start = is_coordinate-true (target_of s p) in
-    let end = is_coordinate-true (target_of s (p +ℤ pos 1)) in (
-      λ passes. let ends = and_parts _ _ passes in record { start = start.0 ends.0; end = end.0 ends.1 },
-      λ inside. and_from _ _ (start.1 inside.start) (end.1 inside.end),
-    )
+stays_inside-true s p = grind (arith, ints, is_coordinate-true, and_parts, and_from)
 
 -- whether a dot leaves the field where its column and its row are stretched
 abbrev leaves_by : Stretch → Stretch → Dot → Bool
 leaves_by columns rows d = not (stays_inside columns d.x && stays_inside rows d.y)
 
 none_leaves : (columns rows : Stretch) (ds : List Dot) → PixelsStayInside columns rows ds → list_any (leaves_by columns rows) ds ≡ false
-none_leaves columns rows ds inside =
-    list_any_none (leaves_by columns rows) ds
-    (λ k d lt. not_from_true _ (and_from _ _ ((stays_inside-true columns _).1 (inside.across k d lt)) ((stays_inside-true rows _).1 (inside.up k d lt))))
+none_leaves columns rows ds inside = grind (arith, ints, list_any_none, not_from_true, and_from, stays_inside-true)
 
 PixelsStayInside-none_leaves : (columns rows : Stretch) (ds : List Dot) → list_any (leaves_by columns rows) ds ≡ false → PixelsStayInside columns rows ds
-PixelsStayInside-none_leaves columns rows [] none = record {
-  across = All-nil (λ d. PlaceStaysInside columns d.x);
-  up = All-nil (λ d. PlaceStaysInside rows d.y);
-}
+PixelsStayInside-none_leaves columns rows [] none = grind (arith, ints, All-nil)
 PixelsStayInside-none_leaves columns rows (d ∷ ds) none =
     let parts = or_parts (leaves_by columns rows d) (list_any (leaves_by columns rows) ds) none in
     let tests = and_parts _ _ (not-false _ parts.0) in
@@ -74,20 +64,13 @@ mul-ge n a b le =
 -- so where two points stay in range, so do those between them
 IsCoordinate-between : (f o a p b : ℤ) → a ≤ℤ p → p ≤ℤ b → IsCoordinate ((a *ℤ f) +ℤ o) → IsCoordinate ((b *ℤ f) +ℤ o) → IsCoordinate ((p *ℤ f) +ℤ o)
 IsCoordinate-between (pos n) o a p b after before first last =
-    let above = mul-le a p (pos n) (omega (arith, ints)) after in
-    let below = mul-le p b (pos n) (omega (arith, ints)) before in
-    record { least = omega (arith, ints, first.least); greatest = omega (arith, ints, last.greatest) }
+    omega (arith, ints, mul-le a p (pos n) (omega (arith, ints)) after, mul-le p b (pos n) (omega (arith, ints)) before, first.least, last.greatest, after, before, first, last)
 IsCoordinate-between (negsuc n) o a p b after before first last =
-    let below = mul-ge n a p after in
-    let above = mul-ge n p b before in
-    record { least = omega (arith, ints, last.least); greatest = omega (arith, ints, first.greatest) }
+    omega (arith, ints, mul-ge n a p after, mul-ge n p b before, last.least, first.greatest, after, before, first, last)
 
 PlaceStaysInside-between : (s : Stretch) (a p b : ℤ) → a ≤ℤ p → p ≤ℤ b → PlaceStaysInside s a → PlaceStaysInside s b → PlaceStaysInside s p
 PlaceStaysInside-between s a p b after before first last =
-    record {
-      start = IsCoordinate-between s.factor s.offset a p b after before first.start last.start;
-      end = IsCoordinate-between s.factor s.offset (a +ℤ pos 1) (p +ℤ pos 1) (b +ℤ pos 1) (omega (arith, ints)) (omega (arith, ints)) first.end last.end;
-    }
+    omega (arith, ints, IsCoordinate-between s.factor s.offset a p b after before first.start last.start, IsCoordinate-between s.factor s.offset (a +ℤ pos 1) (p +ℤ pos 1) (b +ℤ pos 1) (omega (arith, ints)) (omega (arith, ints)) first.end last.end, first.start, last.start, first.end, last.end, after, before, first, last)
 
 -- what holds for the column, or row, of each dot holds for a side of the least box
 at_side : (P : ℤ → Type 0) (f : Dot → ℤ) (ds : List Dot) (side : ℤ) → All (λ d. P (f d)) ds → Any (λ d. f d ≡ side) ds → P side

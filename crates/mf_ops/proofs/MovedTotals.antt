@@ -46,11 +46,7 @@ abbrev stays : Stretch → ℤ → Bool
 stays s p = is_in_axis p && stays_inside s p
 
 is_in_axis-true : (p : ℤ) → is_in_axis p ≡ true → (least_coordinate ≤ℤ p) × (p ≤ℤ last_in_field)
-is_in_axis-true p inside =
-    let ends = and_parts (is_coordinate p) (is_coordinate (p +ℤ pos 1)) inside in
-    let left = (is_coordinate-true p).0 ends.0 in
-    let right = (is_coordinate-true (p +ℤ pos 1)).0 ends.1 in
-    (left.least, omega (arith, ints, right.greatest))
+is_in_axis-true p inside = grind (arith, ints, and_parts, is_coordinate-true)
 
 is_in_axis-from : (p : ℤ) → least_coordinate ≤ℤ p → p ≤ℤ last_in_field → is_in_axis p ≡ true
 is_in_axis-from p least greatest = grind (arith, ints)

@@ -6,6 +6,7 @@ use Rattle.mf_ops.specs.Step.{next_picture, op_fault}
 use Rattle.mf_ops.specs.declared.op.Op.{Op}
 use Rattle.mf_ops.proofs.Adding.{IsPicture-blank}
 use Rattle.mf_ops.proofs.Faults.{IsPicture-next_picture}
+use Rattle.std.proofs.Common.{arith}
 
 after_all-push : (ds : List Dot) (ops : List Op) (op : Op) → after_all ds (ops ++ op ∷ []) ≡ next_picture (after_all ds ops) op
 unfolding after_all
@@ -28,9 +29,7 @@ lawful_picture_after ops accepted = lawful_after_all [] ops IsPicture-blank acce
 accepted-push : (ds : List Dot) (ops : List Op) (op : Op) → AreAcceptedOn ds (ops ++ op ∷ []) → AreAcceptedOn ds ops × (op_fault (after_all ds ops) op ≡ None)
 unfolding after_all
 accepted-push ds [] op accepted = (tt, accepted.0)
-accepted-push ds (first ∷ ops) op accepted =
-    let rest = accepted-push (next_picture ds first) ops op accepted.1 in
-    ((accepted.0, rest.0), rest.1)
+accepted-push ds (first ∷ ops) op accepted = grind (arith, accepted-push (next_picture ds first) ops op accepted.1)
 
 push-accepted : (ds : List Dot) (ops : List Op) (op : Op) → AreAcceptedOn ds ops → op_fault (after_all ds ops) op ≡ None → AreAcceptedOn ds (ops ++ op ∷ [])
 unfolding after_all

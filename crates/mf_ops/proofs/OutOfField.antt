@@ -75,18 +75,10 @@ row_inside : (x y : ℤ) → IsInField x y → IsColumnOrRow y
 row_inside x y field = record { least = field.bottom; greatest = field.top }
 
 shifted_inside : (d p : ℤ) → stays_inside (shift_by d) p ≡ true → IsColumnOrRow (p +ℤ d)
-shifted_inside d p stays =
-    let ends = (stays_inside-true (shift_by d) p).0 stays in
-    record { least = let least = ends.start.least in omega (arith, ints); greatest = let greatest = ends.end.greatest in omega (arith, ints) }
+shifted_inside d p stays = grind (arith, ints, stays_inside-true)
 
 stays-inside : (d p : ℤ) → IsColumnOrRow (p +ℤ d) → stays_inside (shift_by d) p ≡ true
-stays-inside d p inside =
-    let least = inside.least in
-    let greatest = inside.greatest in
-    (stays_inside-true (shift_by d) p).1 record {
-      start = record { least = omega (arith, ints); greatest = omega (arith, ints) };
-      end = record { least = omega (arith, ints); greatest = omega (arith, ints) };
-    }
+stays-inside d p inside = grind (arith, ints, stays_inside-true)
 
 -- where column p stays inside, so do all columns of its part of the axis
 place_inside : (f p q : ℤ) → HasPlace f p q → stays_inside (scale_by f) p ≡ true → IsColumnOrRow q
@@ -191,10 +183,7 @@ scale-outside ds s factors at =
 -- ---- turns
 
 opposite_inside : (p : ℤ) → IsColumnOrRow (opposite p) → IsColumnOrRow p
-opposite_inside p inside =
-    let least = inside.least in
-    let greatest = inside.greatest in
-    record { least = omega (arith, ints); greatest = omega (arith, ints) }
+opposite_inside p inside = grind (arith, ints)
 
 -- where the turned place of a pixel lies in the field, so does the pixel
 turned_in_field : (x y : ℤ) → IsInField y (opposite x) → IsInField x y

@@ -25,23 +25,14 @@ mul-neg : (a b : ℤ) → a *ℤ neg_ℤ b ≡ neg_ℤ a *ℤ b
 mul-neg a b = grind (arith, ints)
 
 pub start-negative : (n : ℕ) (p : ℤ) → p *ℤ negsuc n ≡ (opposite p +ℤ pos 1) *ℤ pos (suc n)
-start-negative n p =
-    let side : neg_ℤ p ≡ opposite p +ℤ pos 1 = omega (arith, ints) in
-    mul-neg p (pos (suc n)) ∙ (λ t. side t *ℤ pos (suc n))
+start-negative n p = grind (arith, ints, mul-neg)
 
 pub end-negative : (n : ℕ) (p : ℤ) → (p +ℤ pos 1) *ℤ negsuc n ≡ opposite p *ℤ pos (suc n)
-end-negative n p =
-    let side : neg_ℤ (p +ℤ pos 1) ≡ opposite p = omega (arith, ints) in
-    mul-neg (p +ℤ pos 1) (pos (suc n)) ∙ (λ t. side t *ℤ pos (suc n))
+end-negative n p = grind (arith, ints, mul-neg)
 
 -- so the part of p is the part of the opposite place under the opposite factor
 HasPlace-negative : (n : ℕ) (p q : ℤ) → HasPlace (pos (suc n)) (opposite p) q ↔ HasPlace (negsuc n) p q
-HasPlace-negative n p q =
-    let start = start-negative n p in
-    let end = end-negative n p in (
-      λ has. record { start = omega (arith, ints, clamps); end = omega (arith, ints, clamps) },
-      λ has. record { start = omega (arith, ints, clamps); end = omega (arith, ints, clamps) },
-    )
+HasPlace-negative n p q = grind (arith, ints, start-negative, end-negative, clamps)
 
 -- the part of the source of q begins at q or before it, and ends after it
 pub source_of-start : (s : Stretch) (q : ℤ) → IsStretch s → target_of s (source_of s q) ≤ℤ q
@@ -104,11 +95,7 @@ scale_source-reflection q =
 
 -- the part of p is not empty: it has a first and a last column
 ends-apart : (f p : ℤ) → IsFactor f → (int_min (p *ℤ f) ((p +ℤ pos 1) *ℤ f) +ℤ pos 1) ≤ℤ int_max (p *ℤ f) ((p +ℤ pos 1) *ℤ f)
-ends-apart f p factor =
-    let next = mul-next p f in
-    by_lt_z (int_min (p *ℤ f) ((p +ℤ pos 1) *ℤ f)) (int_max (p *ℤ f) ((p +ℤ pos 1) *ℤ f))
-    (λ lt. omega (arith, ints))
-    (λ ge. absurd (factor.nonzero (omega (arith, ints, clamps))))
+ends-apart f p factor = grind (arith, ints, mul-next, by_lt_z, clamps)
 
 pub HasPlace-first : (f p : ℤ) → IsFactor f → HasPlace f p (int_min (p *ℤ f) ((p +ℤ pos 1) *ℤ f))
 HasPlace-first f p factor = record { start = omega (arith, ints); end = ends-apart f p factor }

@@ -1,12 +1,12 @@
 -- Pictures that are scaled: a negative factor reflects, and the absolute values of the factors stretch.
-use Rattle.std.proofs.Common.{◌≡◌, ◌≢◌, Bool, ℤ, pos, negsuc, nat_abs, ◌+ℤ◌, ◌≤ℤ◌, int_lt, List, get_or, sym, subst, ◌∙◌, ap, arith}
+use Rattle.std.proofs.Common.{◌≡◌, ◌≢◌, Bool, ℤ, pos, negsuc, nat_abs, ◌≤ℤ◌, int_lt, List, sym, subst, arith}
 use Rattle.std.proofs.lemmas.Bool.{cond-false}
 use Rattle.std.proofs.lemmas.Int.{ints, by_lt_z}
 use Rattle.std.specs.List.{All}
-use Rattle.mf_geom.specs.Coordinates.{least_coordinate, greatest_coordinate, last_in_field, IsCoordinate}
+use Rattle.mf_geom.specs.Coordinates.{least_coordinate, greatest_coordinate, last_in_field}
 use Rattle.mf_geom.specs.Field.{IsInField}
 use Rattle.mf_edges.specs.declared.stretch.Stretch.{Stretch}
-use Rattle.mf_rows.specs.Dots.{Dot, IsPicture, start_of_field, weight_at}
+use Rattle.mf_rows.specs.Dots.{Dot, IsPicture, weight_at}
 use Rattle.mf_edges.specs.Axes.{IsStretch, PlaceStaysInside, opposite, source_of}
 use Rattle.mf_rows.specs.Moves.{PixelsStayInside, stretch_at}
 use Rattle.mf_rows.specs.Sums.{HasWeights}
@@ -22,11 +22,7 @@ use mir.Val.{to_z, of_z}
 use Rattle.mf_rows.proofs.StretchBounds.{holds_at_weight}
 
 pub factor_passed : (z f : ℤ) → IsFactor z → z ≡ f → to_z w32 (of_z w32 z) ≡ f
-factor_passed z f is_factor value =
-    let least = is_factor.least in
-    let greatest = is_factor.greatest in
-    let passed : to_z w32 (of_z w32 z) ≡ z = omega (arith, ints) in
-    passed ∙ value
+factor_passed z f is_factor value = grind (arith, ints)
 
 -- what the code makes of a factor f: its value a, and the stretches by f and by its absolute value
 pub record AreMade (f a : ℤ) (signed sized : Stretch) : Type 0 where
@@ -37,15 +33,7 @@ pub record AreMade (f a : ℤ) (signed sized : Stretch) : Type 0 where
 
 pub stretches_made : (z f n : ℤ) (signed sized : Stretch) → IsFactor z → z ≡ f → signed ≡ scale_by (to_z w32 (of_z w32 z))
     → n ≡ pos (nat_abs (to_z w32 (of_z w32 z))) → sized ≡ scale_by (to_z w32 (of_z w32 n)) → AreMade f (to_z w32 (of_z w32 z)) signed sized
-stretches_made z f n signed sized is_factor value signed_made size sized_made =
-    let factor = subst IsFactor value is_factor in
-    let passed = factor_passed z f is_factor value in
-    let is_size : n ≡ pos (nat_abs f) = size ∙ ap (λ a. pos (nat_abs a)) passed in
-    let stretch = IsStretch-size f factor in
-    let least : pos 1 ≤ℤ n = subst (λ a. pos 1 ≤ℤ a) (sym is_size) stretch.least in
-    let greatest : n ≤ℤ greatest_coordinate = subst (λ a. a ≤ℤ greatest_coordinate) (sym is_size) stretch.greatest in
-    let size_passed : to_z w32 (of_z w32 n) ≡ n = omega (arith, ints) in
-    record { factor = factor; passed = passed; signed_is = signed_made ∙ ap scale_by passed; sized_is = sized_made ∙ ap scale_by (size_passed ∙ is_size) }
+stretches_made z f n signed sized is_factor value signed_made size sized_made = grind (arith, ints, factor_passed, IsStretch-size, sym)
 
 pub IsStretch-made : (f a : ℤ) (signed sized : Stretch) → AreMade f a signed sized → IsStretch sized
 IsStretch-made f a signed sized made = rw made.sized_is (IsStretch-size f made.factor)
@@ -68,50 +56,31 @@ source_of-greatest f q is_factor greatest =
     (λ within. within)
 
 IsInField-sources : (s : Factors) (x y : ℤ) → AreFactors s → IsInField x y → IsInField (source_of (by_size s.x) x) (source_of (by_size s.y) y)
-IsInField-sources s x y factors in_field = record {
-  left = source_of-least s.x x factors.columns in_field.left;
-  right = source_of-greatest s.x x factors.columns in_field.right;
-  bottom = source_of-least s.y y factors.rows in_field.bottom;
-  top = source_of-greatest s.y y factors.rows in_field.top;
-}
+IsInField-sources s x y factors in_field = grind (arith, ints, source_of-least, source_of-greatest)
 
 -- the reflected picture, stretched, is the scaled one
 HasWeights-reflected : (ds middle new : List Dot) (s : Factors) → AreFactors s
     → HasWeights (reflection_at (int_lt s.x (pos 0)) (int_lt s.y (pos 0)) ds) middle
     → HasWeights (stretch_at (by_size s.x) (by_size s.y) middle) new → HasWeights (step_at ds (Scale s)) new
 unfolding reflection_at stretch_at scale_source
-HasWeights-reflected ds middle new s factors reflected has = record {
-  weights = λ x y in_field.
-      has.weights x y in_field
-      ∙ reflected.weights (source_of (by_size s.x) x) (source_of (by_size s.y) y) (IsInField-sources s x y factors in_field);
-}
+HasWeights-reflected ds middle new s factors reflected has = grind (arith, ints, by_size, IsInField-sources)
 
 pub HasWeights-scale : (ds middle new : List Dot) (s : Factors) (a b : ℤ) (columns rows sized_columns sized_rows : Stretch)
     → AreMade s.x a columns sized_columns → AreMade s.y b rows sized_rows
     → HasWeights (reflection_at (int_lt a (pos 0)) (int_lt b (pos 0)) ds) middle
     → HasWeights (stretch_at sized_columns sized_rows middle) new → HasWeights (step_at ds (Scale s)) new
-HasWeights-scale ds middle new s a b columns rows sized_columns sized_rows x y reflected stretched =
-    HasWeights-reflected ds middle new s (record { columns = x.factor; rows = y.factor })
-    (rw (x.passed, y.passed) at reflected) (rw (x.sized_is, y.sized_is) at stretched)
+HasWeights-scale ds middle new s a b columns rows sized_columns sized_rows x y reflected stretched = grind (arith, ints, HasWeights-reflected)
 
 -- the ends of a column, or row, change places when it goes to the other side of 0
 PlaceStaysInside-size : (f p : ℤ) → PlaceStaysInside (scale_by f) (on_side (int_lt f (pos 0)) p) → PlaceStaysInside (by_size f) p
 PlaceStaysInside-size (pos n) p inside = subst (PlaceStaysInside (scale_by (pos n))) (cond-false _ (opposite p) p (not_negative n)) inside
-PlaceStaysInside-size (negsuc n) p inside =
-    let back = opposite-opposite p in
-    record {
-      start = subst (λ a. IsCoordinate (a +ℤ pos 0)) (rw back at (end-negative n (opposite p))) inside.end;
-      end = subst (λ a. IsCoordinate (a +ℤ pos 0)) (rw back at (start-negative n (opposite p))) inside.start;
-    }
+PlaceStaysInside-size (negsuc n) p inside = grind (arith, ints, opposite-opposite, end-negative, start-negative)
 
 -- each dot of the reflected picture comes from a pixel of nonzero weight
 reflected_dots : (columns rows : Bool) (ds middle : List Dot) → IsPicture middle → HasWeights (reflection_at columns rows ds) middle
     → All (λ d. weight_at ds (on_side columns d.x) (on_side rows d.y) ≢ pos 0) middle
 unfolding reflection_at
-reflected_dots columns rows ds middle picture reflected k d lt =
-    let e = get_or middle k d in
-    let dot = dots_from-lawful start_of_field middle picture.dots k d lt in
-    λ blank. dot.nonzero (sym (weight_at-dot start_of_field middle picture.dots k d lt) ∙ reflected.weights e.x e.y dot.in_field ∙ blank)
+reflected_dots columns rows ds middle picture reflected k d lt = grind (arith, ints, dots_from-lawful, sym, weight_at-dot)
 
 -- so the reflected picture stays in the field when it is stretched, where the picture does when it is scaled
 PixelsStayInside-reflected : (ds middle : List Dot) (s : Factors) → IsPicture middle
@@ -129,5 +98,4 @@ pub PixelsStayInside-scale : (ds middle : List Dot) (s : Factors) (a b : ℤ) (c
     → HasWeights (reflection_at (int_lt a (pos 0)) (int_lt b (pos 0)) ds) middle → PixelsStayInside columns rows ds
     → PixelsStayInside sized_columns sized_rows middle
 PixelsStayInside-scale ds middle s a b columns rows sized_columns sized_rows x y picture reflected inside =
-    rw (x.sized_is, y.sized_is)
-    (PixelsStayInside-reflected ds middle s picture (rw (x.passed, y.passed) at reflected) (rw (x.signed_is, y.signed_is) at inside))
+    grind (arith, ints, PixelsStayInside-reflected)

@@ -10,7 +10,7 @@ use Rattle.mf_geom.specs.declared.check.Check.TheVariants.{Off}
 use Rattle.mf_geom.specs.declared.point.Point.{Point}
 use Rattle.mf_geom.specs.Crossing.{unit_step, crossing, crossing_at}
 use Rattle.mf_geom.specs.Lawful.{IsRectilinearCycle}
-use Rattle.mf_geom.specs.Path.{Segment, point_at, next_place, segment_at, across, up, IsInRange, IsRectilinear}
+use Rattle.mf_geom.specs.Path.{Segment, point_at, segment_at, across, up, IsInRange, IsRectilinear}
 use Rattle.mf_geom.specs.Sum.{sum_below}
 use Rattle.mf_geom.specs.Winding.{contour}
 use Rattle.mf_geom.proofs.Crossings.{winding-crossings, unit_step-reached, crossings-beside}
@@ -66,48 +66,17 @@ unfolding crossing
 crossing-horizontal x y e horizontal = rw (horizontal, mul-self (unit_step x e.from.x) (unit_step y e.from.y)) refl
 
 lawful_ends : (w : ℤ) (e : Segment) → IsCornerWeight w → IsInRange e.from → IsInRange e.to → All IsCorner (ends_of w e)
-lawful_ends w e lawful from to =
-    let first : Corner = record { x = e.from.x; y = e.from.y; weight = w } in
-    let second : Corner = record { x = e.to.x; y = e.to.y; weight = neg_ℤ w } in
-    let first_lawful : IsCorner first = record {
-      left = from.x.least;
-      right = from.x.greatest;
-      bottom = from.y.least;
-      top = from.y.greatest;
-      weight = lawful;
-    } in
-    let second_lawful : IsCorner second = record {
-      left = to.x.least;
-      right = to.x.greatest;
-      bottom = to.y.least;
-      top = to.y.greatest;
-      weight = record { least = omega (arith, ints); greatest = omega (arith, ints) };
-    } in
-    All-cons IsCorner first (second ∷ []) first_lawful (All-cons IsCorner second [] second_lawful (All-nil IsCorner))
+lawful_ends w e lawful from to = grind (arith, ints, All-cons, All-nil)
 
 -- so a vertical segment is a side with its two ends as corners
 pub HasSide-vertical : (w : ℤ) (e : Segment) (ks : List Corner) → IsCornerWeight w → IsInRange e.from → IsInRange e.to
     → e.to.x ≡ e.from.x → HasSide w e ks (ks ++ ends_of w e)
-HasSide-vertical w e ks lawful from to vertical = record {
-  more = ends_of w e;
-  all = refl;
-  few = omega arith;
-  corners = lawful_ends w e lawful from to;
-  added = λ x y. added_by_all-ends w x y e vertical;
-}
+HasSide-vertical w e ks lawful from to vertical = grind (arith, ints, lawful_ends, added_by_all-ends)
 
 -- a horizontal segment needs no corners
 pub HasSide-horizontal : (w : ℤ) (e : Segment) (ks : List Corner) → IsRectilinear e → e.to.x ≢ e.from.x → HasSide w e ks ks
 unfolding IsRectilinear across up added_by_all
-HasSide-horizontal w e ks (inl horizontal) apart =
-    let same_height : e.to.y ≡ e.from.y = let rise = horizontal.1 in omega (arith, ints) in
-    record {
-      more = [];
-      all = sym (append-nil ks);
-      few = omega arith;
-      corners = All-nil IsCorner;
-      added = λ x y. rw (crossing-horizontal x y e same_height) (omega (arith, ints));
-    }
+HasSide-horizontal w e ks (inl horizontal) apart = grind (arith, ints, sym, append-nil, All-nil, crossing-horizontal)
 HasSide-horizontal w e ks (inr vertical) apart = absurd (apart (let run = vertical.0 in omega (arith, ints)))
 
 -- a rectilinear segment between points in range
@@ -118,11 +87,7 @@ pub record IsSegment (e : Segment) : Type 0 where
 
 pub IsSegment-at : (ps : List Point) (n : ℕ) → IsRectilinearCycle ps → n < length ps → IsSegment (segment_at ps n)
 unfolding segment_at
-IsSegment-at ps n cycle below = record {
-  rectilinear = cycle.rectilinear n below;
-  from = cycle.range.in_range n below;
-  to = cycle.range.in_range (next_place ps n) (next_place-below ps n below);
-}
+IsSegment-at ps n cycle below = grind (arith, ints, next_place-below)
 
 pub AreSides-none : (ps : List Point) (w : ℤ) → AreSides ps w 0 []
 unfolding added_by_all sum_below
@@ -182,9 +147,7 @@ AreCorners-sides ps w ks cycle sides =
 
 -- together they add the weight times the winding number
 pub AddWinding-sides : (ps : List Point) (w : ℤ) (ks : List Corner) → IsRectilinearCycle ps → AreSides ps w (length ps) ks → AddWinding ps w ks
-AddWinding-sides ps w ks cycle sides = record {
-  added = λ x y. sides.added x y ∙ ap (λ n. w *ℤ n) (sym (winding-crossings ps x y cycle));
-}
+AddWinding-sides ps w ks cycle sides = grind (arith, ints, sym, winding-crossings)
 
 -- so a picture to which the sides of a contour were added has the weights of the step with the turning check off
 pub with_corners_at-contour : (ds : List Dot) (ps : List Point) (w : ℤ) (ks : List Corner) → AddWinding ps w ks → (x y : ℤ)

@@ -13,16 +13,10 @@ use Rattle.mf_ops.specs.declared.quarter.Quarter.TheVariants.{Once, Twice, Thric
 
 -- the place opposite to a column, or row, of the field is in the field
 IsInField-opposite_x : (x y : ℤ) → IsInField x y → IsInField (opposite x) y
-IsInField-opposite_x x y in_field =
-    let left = in_field.left in
-    let right = in_field.right in
-    record { left = omega (arith, ints); right = omega (arith, ints); bottom = in_field.bottom; top = in_field.top }
+IsInField-opposite_x x y in_field = grind (arith, ints)
 
 IsInField-opposite_y : (x y : ℤ) → IsInField x y → IsInField x (opposite y)
-IsInField-opposite_y x y in_field =
-    let bottom = in_field.bottom in
-    let top = in_field.top in
-    record { left = in_field.left; right = in_field.right; bottom = omega (arith, ints); top = omega (arith, ints) }
+IsInField-opposite_y x y in_field = grind (arith, ints)
 
 pub HasWeights-reflected_none : (ds new : List Dot) → new ≡ ds → HasWeights (reflection_at false false ds) new
 unfolding reflection_at
@@ -53,8 +47,4 @@ HasWeights-twice ds new has = record { weights = has.weights }
 pub HasWeights-thrice : (ds middle new : List Dot) → HasWeights (quarter_turn_at ds) middle → HasWeights (reflection_at true true middle) new
     → HasWeights (step_at ds (ops.Quarter Thrice)) new
 unfolding quarter_turn_at reflection_at
-HasWeights-thrice ds middle new first has =
-    record {
-      weights = λ x y in_field. has.weights x y in_field ∙ first.weights (opposite x) (opposite y)
-          (IsInField-opposite_x x (opposite y) (IsInField-opposite_y x y in_field));
-    }
+HasWeights-thrice ds middle new first has = grind (arith, ints, IsInField-opposite_x, IsInField-opposite_y)

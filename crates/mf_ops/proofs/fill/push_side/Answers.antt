@@ -1,4 +1,4 @@
-use Rattle.std.proofs.Common.{◌≡◌, ◌≢◌, pos, neg_ℤ, ◌-ℤ◌, ◌∷◌, [], ◌++◌, ◌∙◌, sym, ap, append_assoc, arith, to_z, of_z, to_z-of_z, w32}
+use Rattle.std.proofs.Common.{◌≡◌, pos, neg_ℤ, ◌-ℤ◌, ◌∷◌, [], ◌++◌, ◌∙◌, sym, ap, append_assoc, arith, to_z, of_z, to_z-of_z, w32}
 use Rattle.std.proofs.lemmas.Int.{ints}
 use Rattle.mf_geom.specs.Path.{Segment}
 use Rattle.mf_rows.specs.declared.corner.Corner.{Corner}
@@ -27,8 +27,4 @@ returns-in_ok-push-2 c =
     rw both (HasSide-vertical c.args.weight segment old c.requires.weight c.requires.from c.requires.to vertical)
 
 pub returns-else-from-to : goal.returns-else-from-to
-returns-else-from-to c =
-    let from = c.args.from in
-    let to = c.args.to in
-    let apart : to.x ≢ from.x = λ same. c.if-from-to.false (ap (of_z w32) (sym same)) in
-    HasSide-horizontal c.args.weight (record { from = from; to = to }) c.args.corners.now.items c.requires.segment apart
+returns-else-from-to c = grind (arith, ints, sym, HasSide-horizontal)

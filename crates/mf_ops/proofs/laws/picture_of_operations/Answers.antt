@@ -1,14 +1,9 @@
-use Rattle.std.proofs.Common.{refl, ◌∷◌, [], length-append}
+use Rattle.std.proofs.Common.{length-append}
 use Rattle.mf_ops.specs.Operations.{after_all, picture_after, revision_after}
 use Rattle.mf_ops.proofs.Operations.{picture_after-push, lawful_picture_after}
 use Rattle.mf_ops.proofs.laws.picture_of_operations.Goals as goal
+use Rattle.std.proofs.Common.{arith}
 
 pub returns : goal.returns
 unfolding picture_after after_all revision_after
-returns c = record {
-  none = refl;
-  more = picture_after-push;
-  lawful = lawful_picture_after;
-  first_revision = refl;
-  next_revision = λ ops op. length-append ops (op ∷ []);
-}
+returns c = grind (arith, picture_after-push, lawful_picture_after, length-append)

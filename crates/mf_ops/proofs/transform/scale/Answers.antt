@@ -7,6 +7,7 @@ use Rattle.mf_ops.proofs.Leaving.{some_leaves, stays_in_field-scale}
 use Rattle.mf_ops.proofs.Scaling.{factor_passed, stretches_made, IsStretch-made, HasWeights-scale, PixelsStayInside-scale}
 use Rattle.mf_ops.proofs.transform.scale.Goals.{After-pixels_stay_inside}
 use Rattle.mf_ops.proofs.transform.scale.Goals as goal
+use Rattle.std.proofs.Common.{arith}
 
 pub returns-then-not-pixels_stay_inside-clause-refused : goal.returns-then-not-pixels_stay_inside-clause-refused
 returns-then-not-pixels_stay_inside-clause-refused c other =
@@ -40,10 +41,7 @@ returns c =
     record { step = made.0; accepted = made.1; refused = tt; out_of_field = λ out. absurd (not_out ds (Scale s) stays out) }
 
 stays : (c : After-pixels_stay_inside) → IsTrue c.pixels_stay_inside.result → IsForWeights c.args.picture.now (Scale c.args.scale)
-stays c inside =
-    let columns = c.stretch.ensures ∙ ap scale_by (factor_passed _ _ c.x-x.ensures.factor c.x-x.ensures.value) in
-    let rows = c.stretch-2.ensures ∙ ap scale_by (factor_passed _ _ c.y-y.ensures.factor c.y-y.ensures.value) in
-    stays_in_field-scale c.args.picture.now c.args.scale (rw (columns, rows) at (c.pixels_stay_inside.ensures.0 inside))
+stays c inside = grind (arith, factor_passed, stays_in_field-scale)
 
 pub returns-in_err-reflected-clause-out_of_field : goal.returns-in_err-reflected-clause-out_of_field
 returns-in_err-reflected-clause-out_of_field c out =
