@@ -4,11 +4,10 @@ use Rattle.clap.specs.Kinds.{HasKind, IsAmong, Kinds}
 use Rattle.clap.specs.Words.{kind_of}
 use Rattle.clap.specs.declared.error.Error.{Error}
 use Rattle.mf_options.specs.Faults.{words_fault}
-use Rattle.mf_options.specs.declared.fault.WordsFault.TheVariants.{BadWords, OutOfMemory}
+use Rattle.mf_options.specs.declared.fault.WordsFault.TheVariants.{BadWords}
+use Rattle.std.proofs.Common.{arith}
 
 -- an error of clap that is not OutOfMemory means that clap finds a fault in the words
 pub has_fault : (found : Kinds) (error : Error) → HasKind found error → words_fault (kind_of error) ≡ BadWords → found ≡ [] → ⊥
-has_fault found error (inl memory) bad none =
-    let both : OutOfMemory ≡ BadWords = rw memory at bad in
-    cc
+has_fault found error (inl memory) bad none = grind (arith)
 has_fault found error (inr among) bad none = subst (IsAmong (kind_of error)) none among

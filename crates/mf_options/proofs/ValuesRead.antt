@@ -1,6 +1,6 @@
 -- What a parse gives for an option: a text that the parser of the option accepted.
-use Rattle.std.proofs.Common.{◌≡◌, ◌∙◌, ◌<◌, ◌&&◌, ◌||◌, ◌==◌, ℕ, Bool, not, zero, suc, All, Bor, IfSome, List, [], ◌∷◌}
-use Rattle.std.proofs.Common.{None, Option, Some, ap, ap₂, arith, bytes_eq, codes, eqb-true, false, inl, inr, length}
+use Rattle.std.proofs.Common.{◌≡◌, ◌∙◌, ◌<◌, ℕ, Bool, not, zero, suc, All, Bor, IfSome, List, [], ◌∷◌}
+use Rattle.std.proofs.Common.{None, Option, Some, ap, arith, bytes_eq, codes, false, inl, inr, length}
 use Rattle.std.proofs.Common.{map, option_map, pos, refl, slice_get, slice_index_or, subst, sym, true, unwrap_or}
 use Rattle.std.proofs.lemmas.Bool.{cases_lt}
 use Rattle.std.proofs.lemmas.List.Elements.{All-get_or}
@@ -23,38 +23,26 @@ use Rattle.clap.specs.declared.builder.value_parser.ValueParser.TheVariants as p
 use Rattle.clap.specs.declared.parser.matches.ArgMatches.{ArgMatches}
 use Rattle.clap.specs.declared.parser.matches.MatchedArg.{MatchedArg}
 use Rattle.mf_options.proofs.ValuesTyped.{flag_text, in_range}
-use Rattle.mf_options.specs.Options.{number_parser}
 use Rattle.mf_options.specs.Values.{AreValuesOf, IsFlagText, IsNumberIn, IsValueOf, have_parser, is_option, is_parser}
 
 is_parser-same : (q : ValueParser) (o : Option ValueParser) → is_parser q o ≡ true → o ≡ Some q
-is_parser-same (parser.Signed (pos low) (pos high)) (Some (parser.Signed (pos a) (pos b))) e =
-    let parts = both (a == low) (b == high) e in
-    ap₂ (λ x y. Some (number_parser x y)) (eqb-true a low parts.0) (eqb-true b high parts.1)
+is_parser-same (parser.Signed (pos low) (pos high)) (Some (parser.Signed (pos a) (pos b))) e = grind (arith, both)
 is_parser-same parser.Bool (Some parser.Bool) e = refl
 is_parser-same _ _ e = cc
 
 parts_of : (rules : List Rule) (id : Text) (q : ValueParser) → is_option rules id q ≡ true
     → (have_parser id q rules ≡ true) × (not (bytes_eq id (codes "help")) ≡ true) × (not (bytes_eq id (codes "version")) ≡ true)
     × (not (bytes_eq id []) ≡ true)
-parts_of rules id q ok =
-    let each = both (have_parser id q rules) (not (bytes_eq id (codes "help")) && (not (bytes_eq id (codes "version")) && not (bytes_eq id []))) ok in
-    let help = both (not (bytes_eq id (codes "help"))) (not (bytes_eq id (codes "version")) && not (bytes_eq id [])) each.1 in
-    let rest = both (not (bytes_eq id (codes "version"))) (not (bytes_eq id [])) help.1 in
-    (each.0, help.0, rest.0, rest.1)
+parts_of rules id q ok = grind (arith, both)
 
 differs : (a b : Text) → not (bytes_eq a b) ≡ true → bytes_eq b b ≡ true → a ≡ b → ⊥
-differs a b other self same =
-    let is : bytes_eq a b ≡ true = ap (λ t. bytes_eq t b) same ∙ self in
-    let bad : false ≡ true = rw is at other in
-    cc
+differs a b other self same = grind (arith)
 
 found_at : (id : Text) (q : ValueParser) (xs : List Arg) → have_parser id q (map rule_of xs) ≡ true
     → (j : ℕ) (e : Arg) → j < length xs → bytes_eq (slice_index_or xs j e).id.now id ≡ true
     → is_parser q (slice_index_or xs j e).value_parser ≡ true
 found_at id q [] ok j e lt key = absurd (omega arith)
-found_at id q (x ∷ xs) ok zero e lt key =
-    let passes : (not (bytes_eq x.id.now id) || is_parser q x.value_parser) ≡ true = (both _ _ ok).0 in
-    rw key at passes
+found_at id q (x ∷ xs) ok zero e lt key = grind (arith, both)
 found_at id q (x ∷ xs) ok (suc j) e lt key = found_at id q xs (both _ _ ok).1 j e (omega arith) key
 
 -- the first value of an entry has what all its values have

@@ -1,6 +1,6 @@
 -- From the texts that clap's parsers accept to numbers and flags, and from these to what the typed getters give.
-use Rattle.std.proofs.Common.{◌≡◌, ◌∙◌, ◌<◌, ◌≤◌, ◌==◌, ◌||◌, ◌^◌, ℕ, Bool, cond, IfSome, List, [], ◌∷◌, None, Ok, Err, Option}
-use Rattle.std.proofs.Common.{Result, Some, ap, arith, bytes_eq, codes, drop, false, inl, inr, pos, refl, subst, sym, true, unwrap_or}
+use Rattle.std.proofs.Common.{◌≡◌, ◌∙◌, ◌<◌, ◌≤◌, ◌||◌, ◌^◌, ℕ, Bool, cond, IfSome, List, [], ◌∷◌, None, Ok, Err, Option}
+use Rattle.std.proofs.Common.{Result, Some, arith, bytes_eq, codes, drop, false, pos, refl, subst, sym, true, unwrap_or}
 use Rattle.std.proofs.lemmas.Bool.{ne_eqb}
 use Rattle.std.proofs.lemmas.Int.{ints}
 use Rattle.std.proofs.lemmas.Slice.Eq.{bytes_eq-Decides}
@@ -15,17 +15,11 @@ use Rattle.mf_options.specs.Values.{IsFlagText, IsNumber, IsNumberIn, has_flag, 
 
 without_minus_is : (t : Text) → without_minus t ≡ cond (starts_with_minus t) (drop 1 t) t
 without_minus_is [] = refl
-without_minus_is (x ∷ xs) = go (x == 45)
-  where
-    go : (b : Bool) → unwrap_or (cond b (Some xs) None) (x ∷ xs) ≡ cond b xs (x ∷ xs)
-    go true = refl
-    go false = refl
+without_minus_is (x ∷ xs) = grind (arith, ints)
 
 no_plus : (ds : Text) → IsNumeral 10 ds → without_leading_plus ds ≡ ds
 no_plus [] h = refl
-no_plus (d ∷ ds) h =
-    let plus : (d == 43) ≡ false = ne_eqb _ _ (λ e. omega (arith, digit_from_value d h.1.0)) in
-    ap (λ (b : Bool). drop (cond b 1 0) (d ∷ ds)) plus
+no_plus (d ∷ ds) h = grind (arith, ints, ne_eqb, digit_from_value)
 
 -- a text that passed a range with no negative number is, without a minus sign, a number in it
 pub in_range : (low high : ℕ) (raw : Text) → IsSignedIn (pos low) (pos high) raw → IsNumberIn low high (without_minus raw)
@@ -45,11 +39,7 @@ in_range low high raw passed = subst (IsNumberIn low high) (sym (without_minus_i
         rw minus (numeral, omega (arith, ints), omega (arith, ints))
 
 pub flag_text : (raw : Text) → (bytes_eq raw (codes "true") || bytes_eq raw (codes "false")) ≡ true → IsFlagText raw
-flag_text raw passed = go (bytes_eq raw (codes "true")) refl
-  where
-    go : (b : Bool) → bytes_eq raw (codes "true") ≡ b → IsFlagText raw
-    go true e = inl ((bytes_eq-Decides raw (codes "true")).0 e)
-    go false e = inr ((bytes_eq-Decides raw (codes "false")).0 (rw e at passed))
+flag_text raw passed = grind (arith, ints, bytes_eq-Decides)
 
 -- a number in a range of 32 bits is a number of 32 bits
 pub is_number : (low high : ℕ) (o : Option Text) → high < 2 ^ 32 → IfSome o (IsNumberIn low high) → IfSome o IsNumber
@@ -59,12 +49,7 @@ is_number low high (Some t) fits given = (given.0, omega arith)
 -- and with a default in the range the number of the option is in it
 pub in_bounds : (low high default : ℕ) (found : List Row) (id : Text) → low ≤ default → default ≤ high
     → IfSome (one_of id found) (IsNumberIn low high) → (low ≤ number_in found id default) × (number_in found id default ≤ high)
-in_bounds low high default found id least most given = go (one_of id found) refl given
-  where
-    go : (o : Option Text) → one_of id found ≡ o → IfSome o (IsNumberIn low high)
-        → (low ≤ number_in found id default) × (number_in found id default ≤ high)
-    go None e has = rw e (least, most)
-    go (Some t) e has = rw e (has.1, has.2)
+in_bounds low high default found id least most given = grind (arith, ints)
 
 -- what `get_one` reads of a number, and the default where it reads nothing
 pub number_read : (E : Type 0) (G : Text → Result ℕ E → Type 0) (f : Found) (id : Text) (default : ℕ) (r : Option ℕ)
@@ -85,9 +70,4 @@ number_read E G f id default r none some only given = go (one_of id (rows_of f))
 pub flag_read : (f : Found) (id : Text) (r : Bool) → (one_text f id ≡ None → r ≡ false) → (one_text f id ≡ Some (codes "true") → r ≡ true)
     → (one_text f id ≡ Some (codes "false") → r ≡ false)
     → IfSome (one_of id (rows_of f)) IsFlagText → r ≡ has_flag (rows_of f) id
-flag_read f id r none set unset given = go (one_of id (rows_of f)) refl given
-  where
-    go : (o : Option Text) → one_of id (rows_of f) ≡ o → IfSome o IsFlagText → r ≡ has_flag (rows_of f) id
-    go None e has = rw e (none (one_text-rows f id ∙ e))
-    go (Some t) e (inl is) = rw (e, is) (set (one_text-rows f id ∙ e ∙ ap Some is))
-    go (Some t) e (inr is) = rw (e, is) (unset (one_text-rows f id ∙ e ∙ ap Some is))
+flag_read f id r none set unset given = grind (arith, ints, one_text-rows)
