@@ -134,11 +134,7 @@ edges_rise low (e ∷ es) zero d from lt = omega (arith, ints, (edges_from-at (e
 edges_rise low (e ∷ es) (suc k) d from lt = edges_rise (e.x +ℤ pos 1) es k d from.2 (omega arith)
 
 not_lower : (a b : ℤ) → b ≤ℤ a → is_lt (int_cmp a b) ≡ false
-not_lower a b le =
-    by_ranked _ _ _ (int_cmp a b) (int_ranked a b (int_cmp a b) refl)
-    (λ less under. absurd (omega (arith, ints, under)))
-    (λ equal same. ap is_lt equal)
-    (λ greater over. ap is_lt greater)
+not_lower a b le = grind (arith, ints, by_ranked, int_ranked)
 
 columns_sorted : (es : List Edge) → AreOpenEdges es → IsSortedBy (λ e f. is_lt (int_cmp e.x f.x)) es
 columns_sorted es edges k d le lt =

@@ -1,5 +1,5 @@
 -- The total weight of a row, column by column.
-use Rattle.std.proofs.Common.{◌≡◌, ℕ, zero, suc, ℤ, pos, ◌+ℤ◌, ◌-ℤ◌, ◌*ℤ◌, ◌≤ℤ◌, true, false, cond, List, [], ◌∷◌, refl, ◌∙◌, arith}
+use Rattle.std.proofs.Common.{◌≡◌, ℕ, zero, suc, ℤ, pos, ◌+ℤ◌, ◌-ℤ◌, ◌*ℤ◌, ◌≤ℤ◌, true, cond, List, [], ◌∷◌, refl, ◌∙◌, arith}
 use Rattle.std.specs.Int.RustNames.{int_le}
 use Rattle.std.proofs.lemmas.Bool.{cond-true, cond-false}
 use Rattle.std.proofs.lemmas.Int.{ints, by_lt_z}
@@ -15,10 +15,7 @@ use Rattle.mf_edges.specs.Totals.{edges_total}
 columns_before : (x w : ℤ) (n : ℕ) → (least_coordinate +ℤ pos n) ≤ℤ x → sum_below n (λ i. cond (int_le x (least_coordinate +ℤ pos i)) w (pos 0)) ≡ pos 0
 unfolding sum_below
 columns_before x w zero after = refl
-columns_before x w (suc n) after =
-    let left : int_le x (least_coordinate +ℤ pos n) ≡ false = grind (arith, ints, after) in
-    let own = cond-false (int_le x (least_coordinate +ℤ pos n)) w (pos 0) left in
-    omega (arith, ints, own, columns_before x w n (omega (arith, ints, after)))
+columns_before x w (suc n) after = grind (arith, ints, cond-false, columns_before x w n (omega (arith, ints, after)))
 
 -- and elsewhere its weight to each column from its own on
 columns_from : (x w : ℤ) (n : ℕ) → least_coordinate ≤ℤ x → x ≤ℤ (least_coordinate +ℤ pos n)

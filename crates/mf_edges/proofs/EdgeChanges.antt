@@ -8,7 +8,6 @@ use Rattle.mf_geom.specs.Coordinates.{least_coordinate, greatest_coordinate, IsC
 use Rattle.mf_edges.specs.declared.edge.Edge.{Edge}
 use Rattle.mf_edges.specs.declared.row_change.RowChange.TheVariants.{Mirror, Columns}
 use Rattle.mf_edges.specs.declared.stretch.Stretch.{Stretch}
-use Rattle.mf_edges.specs.LawfulWeights.{IsLawfulWeight}
 use Rattle.mf_edges.specs.Edges.{weight_in, IsEdge, AreEdgesFrom, AreEdges}
 use Rattle.mf_edges.specs.Axes.{opposite, target_of, source_of, IsStretch}
 use Rattle.mf_edges.specs.Merging.{IsChange}
@@ -21,20 +20,12 @@ use Rattle.mf_edges.proofs.Sources.{target_of-lt, source_of-reached, source_of-f
 -- an edge that comes after others
 edge_after : (low : ℤ) (before : List Edge) (e : Edge) (after : List Edge) → AreEdgesFrom low (before ++ e ∷ after) → IsEdge e × (low ≤ℤ e.x)
 edge_after low [] e after edges = (edges.0, edges.1)
-edge_after low (d ∷ before) e after edges =
-    let next = edge_after (d.x +ℤ pos 1) before e after edges.2 in
-    let start : low ≤ℤ d.x = edges.1 in
-    (next.0, omega (arith, ints, next.1))
+edge_after low (d ∷ before) e after edges = grind (arith, ints, edge_after (d.x +ℤ pos 1) before e after edges.2)
 
 -- an edge changes the weight at its column by its own weight
 weight_changes : (low : ℤ) (before : List Edge) (e : Edge) (after : List Edge)
     → AreEdgesFrom low (before ++ e ∷ after) → weight_in (before ++ e ∷ after) e.x ≡ weight_in (before ++ e ∷ after) (e.x -ℤ pos 1) +ℤ e.weight
-weight_changes low [] e after edges =
-    let here = weight_in-left e after e.x (omega (arith, ints)) in
-    let none_here = weight_in-before (e.x +ℤ pos 1) after e.x edges.2 (omega (arith, ints)) in
-    let left = weight_in-right e after (e.x -ℤ pos 1) (omega (arith, ints)) in
-    let none_left = weight_in-before (e.x +ℤ pos 1) after (e.x -ℤ pos 1) edges.2 (omega (arith, ints)) in
-    omega (arith, ints)
+weight_changes low [] e after edges = grind (arith, ints, weight_in-left, weight_in-before, weight_in-right)
 weight_changes low (d ∷ before) e after edges =
     let next = edge_after (d.x +ℤ pos 1) before e after edges.2 in
     let here = weight_in-left d (before ++ e ∷ after) e.x (omega (arith, ints, next.1)) in
@@ -59,11 +50,7 @@ flipped-before low column (e ∷ es) edges before =
     All-push (λ e. e.x <ℤ column) (all_flipped es) (flipped e) (flipped-before (e.x +ℤ pos 1) column es edges.2 (omega (arith, ints))) (omega (arith, ints))
 
 flipped-edge : (e : Edge) → IsEdge e → IsEdge (flipped e)
-flipped-edge e edge = record {
-  left = omega (arith, ints, edge.right);
-  right = omega (arith, ints, edge.left);
-  nonzero = λ none. edge.nonzero (omega (arith, ints));
-}
+flipped-edge e edge = grind (arith, ints)
 
 flipped-sorted : (low : ℤ) (es : List Edge) → AreEdgesFrom low es → AreEdgesFrom least_coordinate (all_flipped es)
 flipped-sorted low [] edges = tt
@@ -78,16 +65,7 @@ flipped-sorted low (e ∷ es) edges =
 -- column
 flipped-weight : (e : Edge) (x : ℤ) → weight_in (flipped e ∷ []) x +ℤ e.weight ≡ weight_in (e ∷ []) (opposite x)
 unfolding weight_in
-flipped-weight e x =
-    by_lt_z x (neg_ℤ e.x)
-    (λ lt.
-    let image = weight_in-right (flipped e) [] x lt in
-    let own = weight_in-left e [] (opposite x) (omega (arith, ints)) in
-    omega (arith, ints))
-    (λ ge.
-    let image = weight_in-left (flipped e) [] x ge in
-    let own = weight_in-right e [] (opposite x) (omega (arith, ints)) in
-    omega (arith, ints))
+flipped-weight e x = grind (arith, ints, by_lt_z, weight_in-right, weight_in-left)
 
 flipped-weights : (low : ℤ) (es : List Edge) (x : ℤ) → AreEdgesFrom low es
     → weight_in (all_flipped es) x +ℤ weight_in es greatest_coordinate ≡ weight_in es (opposite x)
@@ -119,11 +97,7 @@ module _ (es before left : List Edge) (e : Edge) (new : List Edge) (last : left 
 
   -- its weight is the difference of two lawful weights
   pub last_weight : AreEdges es → IsChange e.weight
-  last_weight edges =
-      let change = weight_changes least_coordinate before e so_far.passed (subst (AreEdgesFrom least_coordinate) here edges.sorted) in
-      let old : IsLawfulWeight (weight_in (before ++ e ∷ so_far.passed) (e.x -ℤ pos 1)) = rw here at (edges.lawful (e.x -ℤ pos 1)) in
-      let new : IsLawfulWeight (weight_in (before ++ e ∷ so_far.passed) e.x) = rw here at (edges.lawful e.x) in
-      record { least = omega (arith, ints); greatest = omega (arith, ints) }
+  last_weight edges = grind (arith, ints, weight_changes, here)
 
   pub flipped_more : AreFlippedSoFar es before (new ++ flipped e ∷ [])
   flipped_more = record { passed = e ∷ so_far.passed; all = here; images = ap (λ t. t ++ flipped e ∷ []) so_far.images }
@@ -156,15 +130,7 @@ stretched-weights : (s : Stretch) (es : List Edge) (x : ℤ) → IsStretch s →
 unfolding weight_in
 stretched-weights s [] x stretch = refl
 stretched-weights s (e ∷ es) x stretch =
-    let others = stretched-weights s es x stretch in
-    by_lt_z x (target_of s e.x)
-    (λ right.
-    let own_right : source_of s x <ℤ e.x =
-    by_lt_z (source_of s x) e.x (λ lt. lt) (λ le. let reached = source_of-reached s e.x x stretch le in absurd (omega (arith, ints))) in
-    weight_in-right (stretched_edge s e) (map (stretched_edge s) es) x right ∙ (others ∙ sym (weight_in-right e es (source_of s x) own_right)))
-    (λ left.
-    weight_in-left (stretched_edge s e) (map (stretched_edge s) es) x left
-    ∙ (ap (λ w. e.weight +ℤ w) others ∙ sym (weight_in-left e es (source_of s x) (source_of-from s e.x x stretch left))))
+    grind (arith, ints, by_lt_z, source_of-reached, weight_in-right, sym, weight_in-left, source_of-from, stretched-weights s es x stretch)
 
 -- the points at or to the right of a column are, when stretched, at or to the right of another
 stretched-sorted : (s : Stretch) (low new : ℤ) (es : List Edge) → IsStretch s
@@ -194,14 +160,7 @@ stretched-closed s low (e ∷ es) edges inside =
 pub stretched_of : (s : Stretch) (es : List Edge) → AreEdges es → IsStretch s
     → All (λ e. IsCoordinate (target_of s e.x)) es → AreChanged (Columns s) es (map (stretched_edge s) es)
 unfolding image_in
-stretched_of s es row stretch inside = record {
-  edges = record {
-    sorted = stretched-sorted s least_coordinate least_coordinate es stretch (λ x right in_range. in_range.least) row.sorted inside;
-    lawful = λ x. rw (stretched-weights s es x stretch) (row.lawful (source_of s x));
-    closed = stretched-closed s least_coordinate es row.sorted inside ∙ row.closed;
-  };
-  weights = record { weights = λ x. stretched-weights s es x stretch };
-}
+stretched_of s es row stretch inside = grind (arith, ints, stretched-sorted, stretched-weights, stretched-closed)
 
 -- ---- the numbers that the code computes
 

@@ -51,11 +51,7 @@ mapped_read m es mapped i d weight image inside so_far = subst (λ rest. IsMappe
 -- where the rest adds nothing, the new edges have the mapped weight of the row
 mapped_where_none : (m : WeightMap) (es mapped rest : List Edge) (weight image : ℤ)
     → IsMappedSoFar m es (mapped, image) (rest, weight) → (x : ℤ) → weight_in rest x ≡ pos 0 → weight_in mapped x ≡ mapped_weight m (weight_in es x)
-mapped_where_none m es mapped rest weight image so_far x none =
-    by_lt_z x so_far.low (so_far.weights x) (λ after.
-    let sum = so_far.sum x after in
-    let weight_is : weight ≡ weight_in es x = omega (arith, ints) in
-    so_far.running x after ∙ (so_far.image_is ∙ ap (mapped_weight m) weight_is))
+mapped_where_none m es mapped rest weight image so_far x none = grind (arith, ints, by_lt_z)
 
 module _ (m : WeightMap) (es mapped : List Edge) (e : Edge) (rest : List Edge) (weight image : ℤ)
     (so_far : IsMappedSoFar m es (mapped, image) (e ∷ rest, weight)) where

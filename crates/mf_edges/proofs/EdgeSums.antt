@@ -3,7 +3,6 @@ use Rattle.std.proofs.Common.{◌≡◌, ◌≢◌, ℕ, Bool, true, false, cond
 use Rattle.std.proofs.Common.{to_z, of_z, w32, List, [], ◌∷◌, ◌++◌, get_or, take, drop, refl, ap, sym, subst, ◌∙◌, arith}
 use Rattle.std.specs.List.{All}
 use Rattle.std.specs.Int.RustNames.{int_le}
-use Rattle.std.specs.Ordering.{int_eq}
 use Rattle.std.proofs.lemmas.Bool.{cond-true, cond-false, cond_both}
 use Rattle.std.proofs.lemmas.Bool.Decides.{Decides-int_eq, not_from_Decides}
 use Rattle.std.proofs.lemmas.Int.{ints, by_lt_z}
@@ -66,13 +65,7 @@ begins_after (e ∷ es) x sorted apart =
     (sorted.0, by_lt_z x e.x (λ lt. omega (arith, ints)) (λ le. absurd (apart (omega (arith, ints)))), sorted.2)
 
 pub split_after : (es : List Edge) (x : ℤ) → AreEdgesLeft x es → (BeginAt x es → ⊥) → IsSplitAt es x (pos 0) es
-split_after es x left apart = record {
-  weights = record { weights = λ c. sym (with_edge_in-none es x c) };
-  difference = record { least = omega (arith, ints); greatest = omega (arith, ints) };
-  left = record { sorted = begins_after es x left.sorted apart; differences = left.differences };
-  no_longer = omega arith;
-  shorter = λ here. absurd (apart here);
-}
+split_after es x left apart = grind (arith, ints, sym, with_edge_in-none, begins_after)
 
 -- a column at which an edge may be, at or to the right of column low
 pub record IsColumnFrom (low x : ℤ) : Type 0 where
@@ -87,11 +80,7 @@ zero_lawful = record { least = omega (arith, ints); greatest = omega (arith, int
 
 -- the edges of a row are also changes, of weights that were 0
 pub changes_of_edges : (es : List Edge) → AreEdges es → AreChanges es
-changes_of_edges es edges = record {
-  sorted = edges.sorted;
-  changes = λ x. let lawful = edges.lawful x in record { least = omega (arith, ints, lawful.least); greatest = omega (arith, ints, lawful.greatest) };
-  closed = edges.closed;
-}
+changes_of_edges es edges = grind (arith, ints)
 
 -- each of their edges is the difference of two changes
 pub changes_left : (es : List Edge) → AreChanges es → AreEdgesLeft least_coordinate es
@@ -116,17 +105,11 @@ more_fits v w left right = omega (arith, ints, left.least, left.greatest, right.
 -- one more edge at the end of the sum, unless its weight is 0
 pub by_push : (P : List Edge → Type 0) (sum : List Edge) (x w : ℤ) → (w ≡ pos 0 → P sum)
     → (w ≢ pos 0 → P (sum ++ record { x = x; weight = w } ∷ [])) → P (sum ++ unless_zero (record { x = x; weight = w }))
-by_push P sum x w none some =
-    cond_both (int_eq w (pos 0)) [] (record { x = x; weight = w } ∷ []) (λ es. P (sum ++ es))
-    (λ test. rw (append-nil sum) (none ((Decides-int_eq w (pos 0)).0 test)))
-    (λ test. some (not_from_Decides (int_eq w (pos 0)) (Decides-int_eq w (pos 0)) test))
+by_push P sum x w none some = grind (arith, ints, cond_both, append-nil, Decides-int_eq, not_from_Decides)
 
 pub weight_in-push : (sum : List Edge) (x w c : ℤ) → weight_in (sum ++ unless_zero (record { x = x; weight = w })) c ≡ with_edge_in sum x w c
 unfolding weight_in with_edge_in
-weight_in-push sum x w c =
-    by_push (λ es. weight_in es c ≡ with_edge_in sum x w c) sum x w
-    (λ zero. rw zero (sym (with_edge_in-none sum x c)))
-    (λ _. weight_in-append sum (record { x = x; weight = w } ∷ []) c ∙ omega (arith, ints))
+weight_in-push sum x w c = grind (arith, ints, by_push, sym, with_edge_in-none, weight_in-append)
 
 pub sorted_push : (sum : List Edge) (low x w : ℤ) → AreEdgesFrom least_coordinate sum → All (λ e. e.x <ℤ low) sum
     → IsColumnFrom low x → AreEdgesFrom least_coordinate (sum ++ unless_zero (record { x = x; weight = w }))
@@ -242,7 +225,4 @@ module _ {f : ℤ → ℤ} {new es changes fs : List Edge} {e : Edge} {n : ℕ} 
 pub sum_all : {whole_left whole_right new es : List Edge} → IsSumSoFar (weight_in_both whole_left whole_right) new es []
     → IsEdgeSum whole_left whole_right (new ++ es)
 unfolding weight_in weight_in_both
-sum_all {new = new} {es = es} so_far = record {
-  sorted = edges_from-append least_coordinate so_far.low new es so_far.reach so_far.sorted so_far.below so_far.left.sorted;
-  weights = record { weights = λ x. let old = so_far.weights x in let joined = weight_in-append new es x in omega (arith, ints) };
-}
+sum_all {new = new} {es = es} so_far = grind (arith, ints, edges_from-append, weight_in-append)

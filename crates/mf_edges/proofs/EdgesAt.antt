@@ -44,16 +44,7 @@ weight_in-take_after low (e ∷ es) (suc at) d x from lt after =
 pub step_at_edge : (low : ℤ) (es : List Edge) (at : ℕ) (d : Edge) → AreEdgesFrom low es → at < length es
     → weight_in es (get_or es at d).x ≡ weight_in es ((get_or es at d).x -ℤ pos 1) +ℤ (get_or es at d).weight
 step_at_edge low [] at d from lt = absurd (omega (arith, lt))
-step_at_edge low (e ∷ es) zero d from lt =
-    let after : e.x <ℤ (e.x +ℤ pos 1) = omega (arith, ints) in
-    omega (
-      arith,
-      ints,
-      weight_in-left e es e.x (omega (arith, ints)),
-      weight_in-right e es (e.x -ℤ pos 1) (omega (arith, ints)),
-      weight_in-before (e.x +ℤ pos 1) es e.x from.2 after,
-      weight_in-before (e.x +ℤ pos 1) es (e.x -ℤ pos 1) from.2 (omega (arith, ints)),
-    )
+step_at_edge low (e ∷ es) zero d from lt = grind (arith, ints, weight_in-left, weight_in-right, weight_in-before)
 step_at_edge low (e ∷ es) (suc at) d from lt =
     let here = get_or es at d in
     let right = (edges_from-at (e.x +ℤ pos 1) es at d from.2 (omega arith)).1 in

@@ -42,11 +42,7 @@ weight_in-before low (e ∷ es) x edges before =
 pub weight_in-after : (low : ℤ) (es : List Edge) (x : ℤ) → AreEdgesFrom low es → greatest_coordinate ≤ℤ x → weight_in es x ≡ weight_in es greatest_coordinate
 unfolding weight_in
 weight_in-after low [] x edges after = refl
-weight_in-after low (e ∷ es) x edges after =
-    let last = edges.0.right in
-    weight_in-left e es x (omega (arith, ints))
-    ∙ ap (λ w. e.weight +ℤ w) (weight_in-after (e.x +ℤ pos 1) es x edges.2 after)
-    ∙ sym (weight_in-left e es greatest_coordinate last)
+weight_in-after low (e ∷ es) x edges after = grind (arith, ints, weight_in-left, sym, weight_in-after (e.x +ℤ pos 1) es x edges.2 after)
 
 pub edges_from-lower : (low high : ℤ) (es : List Edge) → low ≤ℤ high → AreEdgesFrom high es → AreEdgesFrom low es
 edges_from-lower low high [] le edges = tt
@@ -77,9 +73,4 @@ weight_in-parts n es x = ap (λ es. weight_in es x) (sym (take-append-drop n es)
 
 -- outside the columns of the field a row has weight 0
 pub weight_in-outside : (es : List Edge) (x : ℤ) → AreEdges es → (least_coordinate ≤ℤ x → x ≤ℤ last_in_field → ⊥) → weight_in es x ≡ pos 0
-weight_in-outside es x edges outside =
-    by_lt_z x least_coordinate
-    (λ left. weight_in-before least_coordinate es x edges.sorted left)
-    (λ no_left. by_lt_z last_in_field x
-    (λ right. weight_in-after least_coordinate es x edges.sorted (omega (arith, ints)) ∙ edges.closed)
-    (λ no_right. absurd (outside no_left no_right)))
+weight_in-outside es x edges outside = grind (arith, ints, by_lt_z, weight_in-before, weight_in-after)

@@ -1,13 +1,13 @@
 -- The reach of edges, and of the sum of two rows.
-use Rattle.std.proofs.Common.{◌≡◌, ◌<◌, ◌≤◌, ◌+◌, cond, nat_abs, ℕ, ℤ, get_or, take, length, to_z}
-use Rattle.std.proofs.Common.{of_z, w32, pos, ◌+ℤ◌, ◌-ℤ◌, ◌≤ℤ◌, List, refl, sym, ap, subst, ◌∙◌, arith}
-use Rattle.std.specs.Ordering.{int_cmp, is_lt, ord_max}
+use Rattle.std.proofs.Common.{◌≡◌, ◌<◌, ◌≤◌, ◌+◌, nat_abs, ℕ, ℤ, get_or, take, length, to_z}
+use Rattle.std.proofs.Common.{of_z, w32, pos, ◌+ℤ◌, ◌-ℤ◌, ◌≤ℤ◌, List, refl, sym, ap, ◌∙◌, arith}
+use Rattle.std.specs.Ordering.{int_cmp, ord_max}
 use Rattle.std.proofs.lemmas.Cmp.{by_ranked, int_ranked}
 use Rattle.std.proofs.lemmas.Int.{ints, by_lt_z}
 use Rattle.std.proofs.lemmas.List.{take_all}
 use Rattle.mf_geom.specs.Coordinates.{least_coordinate, greatest_coordinate}
 use Rattle.mf_edges.specs.declared.edge.Edge.{Edge}
-use Rattle.mf_edges.specs.LawfulWeights.{IsLawfulWeight, least_weight, greatest_weight}
+use Rattle.mf_edges.specs.LawfulWeights.{IsLawfulWeight, greatest_weight}
 use Rattle.mf_edges.specs.Edges.{weight_in, AreEdges}
 use Rattle.mf_edges.specs.Merging.{AreChanges, IsChange, greatest_change}
 use Rattle.mf_edges.specs.Reaches.{IsLeastReach, StaysInReach}
@@ -17,11 +17,7 @@ use Rattle.mf_edges.proofs.EdgesLemmas.{weight_in-before}
 
 -- the greater of two numbers is one of them
 by_greater : (P : ℤ → Type 0) (a b : ℤ) → (b ≤ℤ a → P a) → (a ≤ℤ b → P b) → P (ord_max int_cmp a b)
-by_greater P a b first second =
-    by_ranked _ _ _ (int_cmp b a) (int_ranked b a (int_cmp b a) refl)
-    (λ less under. subst P (sym (ap (λ o. cond (is_lt o) a b) less)) (first (omega (arith, ints, under))))
-    (λ equal same. subst P (sym (ap (λ o. cond (is_lt o) a b) equal)) (second (omega (arith, ints, same))))
-    (λ greater over. subst P (sym (ap (λ o. cond (is_lt o) a b) greater)) (second (omega (arith, ints, over))))
+by_greater P a b first second = grind (arith, ints, by_ranked, int_ranked, sym)
 
 pub record IsGreater (a b greater bound : ℤ) : Type 0 where
   pub left : a ≤ℤ greater
@@ -29,10 +25,7 @@ pub record IsGreater (a b greater bound : ℤ) : Type 0 where
   pub most : greater ≤ℤ bound
 
 pub ord_max_is : (a b most : ℤ) → a ≤ℤ most → b ≤ℤ most → IsGreater a b (ord_max int_cmp a b) most
-ord_max_is a b most below_a below_b =
-    by_greater (λ greater. IsGreater a b greater most) a b
-    (λ le. record { left = omega (arith, ints); right = le; most = below_a })
-    (λ le. record { left = le; right = omega (arith, ints); most = below_b })
+ord_max_is a b most below_a below_b = grind (arith, ints, by_greater)
 
 -- ---- the least reach of edges, edge by edge
 
@@ -73,22 +66,10 @@ module _ (es : List Edge) (count : ℕ) (d : Edge) (w reach : ℤ) (changes : Ar
 
   at_edge : weight_in es e.x ≡ w +ℤ e.weight
   at_edge =
-      let step = step_at_edge least_coordinate es count d changes.sorted inside in
-      let old = weight_in-take_after least_coordinate es count d e.x changes.sorted inside (omega (arith, ints)) in
-      let same = before e.x (omega (arith, ints)) in
-      omega (arith, ints)
+      omega (arith, ints, step_at_edge least_coordinate es count d changes.sorted inside, weight_in-take_after least_coordinate es count d e.x changes.sorted inside (omega (arith, ints)), before e.x (omega (arith, ints)))
 
   pub changes_at : AreChangesAt w e.weight reach
-  changes_at =
-      let old = weight_in-take_after least_coordinate es count d e.x changes.sorted inside (omega (arith, ints)) in
-      let same = before e.x (omega (arith, ints)) in
-      let reached = changes.changes so_far.x in
-      let here = so_far.here in
-      record {
-        before = subst IsChange (sym old ∙ same) (changes.changes (e.x -ℤ pos 1));
-        after = subst IsChange at_edge (changes.changes e.x);
-        reached = record { least = omega (arith, ints); greatest = omega (arith, ints) };
-      }
+  changes_at = grind (arith, ints, weight_in-take_after, before, sym, at_edge)
 
   grown : (next : ℤ) → reach ≤ℤ next → pos (nat_abs (w +ℤ e.weight)) ≤ℤ next → (x : ℤ) → pos (nat_abs (weight_in es x)) ≡ next
       → IsReachSoFar es (count + 1) (w +ℤ e.weight) next
@@ -130,10 +111,7 @@ pub reach_is : (reach : ℤ) (es : List Edge) → StaysInReach reach es → to_z
 reach_is reach es stays = let bounds = reach_bounds reach es stays in omega (arith, ints)
 
 pub least_reach_bounds : (reach : ℤ) (es : List Edge) → AreChanges es → IsLeastReach reach es → (pos 0 ≤ℤ reach) × (reach ≤ℤ greatest_change)
-least_reach_bounds reach es changes least =
-    let weight = changes.changes least.x in
-    let here = least.here in
-    (omega (arith, ints), omega (arith, ints))
+least_reach_bounds reach es changes least = grind (arith, ints)
 
 pub least_reach_is : (reach : ℤ) (es : List Edge) → AreChanges es → IsLeastReach reach es → to_z w32 (of_z w32 reach) ≡ reach
 least_reach_is reach es changes least = let bounds = least_reach_bounds reach es changes least in omega (arith, ints)
@@ -144,54 +122,28 @@ least_is_reach reach es least most = record { most = most; least = least.least; 
 
 -- that of a row always is
 pub reach_of_row : (reach : ℤ) (es : List Edge) → AreEdges es → IsLeastReach reach es → StaysInReach reach es
-reach_of_row reach es edges least =
-    let lawful = edges.lawful least.x in
-    let here = least.here in
-    least_is_reach reach es least (omega (arith, ints))
+reach_of_row reach es edges least = grind (arith, ints, least_is_reach)
 
 -- ---- the sum of two rows
 
 -- no weight is neither lawful nor unlawful
 lawful_unless : (w : ℤ) → ((IsLawfulWeight w → ⊥) → ⊥) → IsLawfulWeight w
-lawful_unless w lawful =
-    by_lt_z w least_weight
-    (λ below. absurd (lawful (λ is. omega (arith, ints, is.least, below))))
-    (λ least. by_lt_z greatest_weight w
-    (λ over. absurd (lawful (λ is. omega (arith, ints, is.greatest, over))))
-    (λ greatest. record { least = least; greatest = greatest }))
+lawful_unless w lawful = grind (arith, ints, by_lt_z)
 
 module _ (es fs sum : List Edge) (is_sum : IsEdgeSum es fs sum) where
   -- it is changes
   pub sum_is_changes : AreEdges es → AreEdges fs → AreChanges sum
   unfolding weight_in_both
-  sum_is_changes left right = record {
-    sorted = is_sum.sorted;
-    changes = λ x.
-        let all = is_sum.weights.weights x in
-        let first = left.lawful x in
-        let second = right.lawful x in
-        record { least = omega (arith, ints); greatest = omega (arith, ints) };
-    closed = is_sum.weights.weights greatest_coordinate ∙ omega (arith, ints, left.closed, right.closed);
-  }
+  sum_is_changes left right = grind (arith, ints)
 
   -- where its weights are lawful, it is the edges of a row
   sum_is_row : AreEdges es → AreChanges fs → ((x : ℤ) → IsLawfulWeight (weight_in_both es fs x)) → AreEdges sum
   unfolding weight_in_both
-  sum_is_row left right lawful = record {
-    sorted = is_sum.sorted;
-    lawful = λ x. subst IsLawfulWeight (sym (is_sum.weights.weights x)) (lawful x);
-    closed = is_sum.weights.weights greatest_coordinate ∙ omega (arith, ints, left.closed, right.closed);
-  }
+  sum_is_row left right lawful = grind (arith, ints, sym)
 
   -- which they are where they stay in reach
   pub row_in_reach : (reach : ℤ) → AreEdges es → AreChanges fs → StaysInReach reach sum → AreEdges sum
-  row_in_reach reach left right stays =
-      sum_is_row left right (λ x.
-      let all = is_sum.weights.weights x in
-      let least = stays.least x in
-      let greatest = stays.greatest x in
-      let most = stays.most in
-      record { least = omega (arith, ints); greatest = omega (arith, ints) })
+  row_in_reach reach left right stays = grind (arith, ints, sum_is_row)
 
   -- and where no column is unlawful
   pub row_unless_unlawful : AreEdges es → AreChanges fs → (IsUnlawfulColumn (weight_in_both es fs) → ⊥) → AreEdges sum

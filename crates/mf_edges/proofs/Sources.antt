@@ -34,18 +34,13 @@ target_of-next s p = omega (arith, ints, mul-next p s.factor)
 
 pub target_of-lt : (s : Stretch) (a b : ℤ) → IsStretch s → a <ℤ b → target_of s a <ℤ target_of s b
 target_of-lt s a b stretch lt =
-    let least = stretch.least in
-    let next = target_of-next s a in
-    let after = target_of-le s (a +ℤ pos 1) b stretch (omega (arith, ints)) in
-    omega (arith, ints)
+    omega (arith, ints, target_of-next s a, target_of-le s (a +ℤ pos 1) b stretch (omega (arith, ints)), stretch.least, stretch)
 
 -- the column that becomes q is at or to the right of p exactly where the stretch takes p to q or further left
 pub source_of-reached : (s : Stretch) (p q : ℤ) → IsStretch s → p ≤ℤ source_of s q → target_of s p ≤ℤ q
 unfolding source_of
 source_of-reached s p q stretch le =
-    let within = quotient-within (q -ℤ s.offset) s.factor stretch.least in
-    let product = mul-le p (source_of s q) s.factor (omega (arith, ints, stretch.least)) le in
-    omega (arith, ints)
+    omega (arith, ints, quotient-within (q -ℤ s.offset) s.factor stretch.least, mul-le p (source_of s q) s.factor (omega (arith, ints, stretch.least)) le, stretch.least, stretch, le)
 
 pub source_of-from : (s : Stretch) (p q : ℤ) → IsStretch s → target_of s p ≤ℤ q → p ≤ℤ source_of s q
 unfolding source_of

@@ -18,10 +18,7 @@ end_of_edges = greatest_coordinate +ℤ pos 1
 -- a row has at most one edge at each column
 length-edges : (low : ℤ) (es : List Edge) → AreEdgesFrom low es → low ≤ℤ end_of_edges → (low +ℤ pos (length es)) ≤ℤ end_of_edges
 length-edges low [] from room = omega (arith, ints)
-length-edges low (e ∷ es) from room =
-    let right = from.0.right in
-    let others = length-edges (e.x +ℤ pos 1) es from.2 (omega (arith, ints)) in
-    omega (arith, ints, from.1)
+length-edges low (e ∷ es) from room = grind (arith, ints, length-edges (e.x +ℤ pos 1) es from.2 (omega (arith, ints)))
 
 -- the most that an edge can add to the total weight
 abbrev pub greatest_part : ℕ

@@ -1,4 +1,4 @@
-use Rattle.std.proofs.Common.{◌≡◌, Ok, Err, get_or, to_z, of_z, to_z-of_z, w32, pos, subst, arith, rules}
+use Rattle.std.proofs.Common.{Ok, Err, get_or, to_z, of_z, to_z-of_z, w32, pos, subst, arith, rules}
 use Rattle.std.specs.List.Sorted.{IsBinarySearchResult}
 use Rattle.std.specs.Ordering.{int_cmp}
 use Rattle.std.proofs.lemmas.Int.{ints}
@@ -38,9 +38,7 @@ returns-in_ok-insert-in-Err-clause-weights c =
     (inserted_weights c.args.edges.now.items c.in-Err.at c.args.x c.args.weight)
 
 pub returns-else-weight-ne0-clause-weights : goal.returns-else-weight-ne0-clause-weights
-returns-else-weight-ne0-clause-weights c =
-    let w : c.args.weight ≡ pos 0 = omega (arith, ints, c.if-weight-ne0.false) in
-    rw w (nothing_added c.args.edges.now.items c.args.x)
+returns-else-weight-ne0-clause-weights c = grind (arith, ints, nothing_added)
 
 pub returns-in_err-insert-in-Err-clause-absent : goal.returns-in_err-insert-in-Err-clause-absent
 returns-in_err-insert-in-Err-clause-absent c =

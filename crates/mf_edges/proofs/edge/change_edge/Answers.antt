@@ -4,9 +4,7 @@ use Rattle.mf_edges.proofs.AddedEdges.{edge_is_small, removed_sorted, removed_we
 use Rattle.mf_edges.proofs.edge.change_edge.Goals as goal
 
 pub overflow_add-changed : goal.overflow_add-changed
-overflow_add-changed c =
-    let small = edge_is_small c.args.edges.now.items c.args.at c.index-edge.result.now c.requires.edges (search rules) c.index-edge.ensures in
-    omega (arith, ints, small, c.requires.weight)
+overflow_add-changed c = grind (arith, ints, edge_is_small)
 
 pub returns-then-changed-eq0-clause-sorted : goal.returns-then-changed-eq0-clause-sorted
 returns-then-changed-eq0-clause-sorted c = rw c.remove.ensures.items (removed_sorted c.args.edges.now.items c.args.at c.requires.edges)

@@ -11,10 +11,7 @@ unfolding weight_in
 loop-edge-init c = refl
 
 pub returns-then-x-edge : goal.returns-then-x-edge
-returns-then-x-edge c =
-    let x_is = to_z-of_z c.ranges.x in
-    rw x_is at c.loop-edge.invariant
-    ∙ weight_in-take _ c.args.edges.now _ (record { x = pos 0; weight = pos 0 }) c.args.x c.requires.sorted c.loop-edge-test.true (grind (arith, ints))
+returns-then-x-edge c = grind (arith, ints, weight_in-take)
 
 -- the weight before an edge that is passed, and the one after it, are weights of the row
 next : (c : goal.After-weight-1) → let e : Edge = get_or c.args.edges.now c.loop-edge.edge-index (record { x = pos 0; weight = pos 0 }) in

@@ -4,14 +4,7 @@ use Rattle.mf_edges.proofs.EdgeChanges.{flipped_none, last_edge, last_weight, fl
 use Rattle.mf_edges.proofs.edge_change.mirrored_edges.Goals as goal
 
 pub loop-edge-init : goal.loop-edge-init
-loop-edge-init c =
-    rw (
-      c.in_ok-reserve.ensures.items,
-      c.new-mirrored.ensures.items,
-      c.into_iter-edge-iterator.ensures.into_iter_gives,
-      c.rev-edge-items.ensures.source,
-      c.iter.ensures.rest,
-    ) (flipped_none c.args.edges.now)
+loop-edge-init c = grind (arith, ints, flipped_none)
 
 pub overflow_sub-edge : goal.overflow_sub-edge
 overflow_sub-edge c =

@@ -16,9 +16,7 @@ count_left_of-requires c = left_sorted c.loop-change.invariant.1
 
 -- the next change comes after the edges that are kept
 next : (c : After-count_left_of) → IsNextChange c.in-Some.change.now c.loop-change.left.now c.count_left_of.result
-next c =
-    let x_is : to_z w32 (of_z w32 c.in-Some.change.now.x) ≡ c.in-Some.change.now.x = omega (arith, ints) in
-    record { below = rw x_is at c.count_left_of.ensures.left; from = rw x_is at c.count_left_of.ensures.others }
+next c = grind (arith, ints)
 
 pub split_at-edge-requires : goal.split_at-edge-requires
 split_at-edge-requires c =
@@ -33,9 +31,7 @@ overflow_add-edge c =
     omega (arith, ints)
 
 pub returns-in_err-push_unless_zero-clause-kept : goal.returns-in_err-push_unless_zero-clause-kept
-returns-in_err-push_unless_zero-clause-kept c =
-    let fault = err_from_is_err_and c.from_residual-in_err-push_unless_zero.result c.from_residual-in_err-push_unless_zero.ensures.1 in
-    rw (fault.1, c.in_err-push_unless_zero.ensures.unchanged, c.in_ok-push_edges.ensures.pushed) (still_more c.loop-change.invariant.0 _)
+returns-in_err-push_unless_zero-clause-kept c = grind (arith, ints, err_from_is_err_and, still_more)
 
 pub loop-change-preserved : goal.loop-change-preserved
 loop-change-preserved c =
