@@ -47,8 +47,7 @@ pub at_least : (low high : ℤ) (bs : List (Arc Band Global)) → RiseWithin low
     → All (λ b. low ≤ℤ number_of b) bs
 at_least low high [] rise = All-nil (λ b. low ≤ℤ number_of b)
 at_least low high (b ∷ bs) rise =
-    All-cons (λ c. low ≤ℤ number_of c) b bs rise.0
-    (at_least low high bs (rise-wider (number_of b +ℤ pos 1) high low high (numbers_of bs) (omega (arith, ints, rise.0)) (omega (arith, ints)) rise.1))
+    grind (arith, ints, All-cons, rise-wider, at_least low high bs (rise-wider (number_of b +ℤ pos 1) high low high (numbers_of bs) (omega (arith, ints, rise.0)) (omega (arith, ints)) rise.1))
 
 -- so all after the first are greater
 greater_after : (n high : ℤ) (bs : List (Arc Band Global)) → RiseWithin (n +ℤ pos 1) high (numbers_of bs)
@@ -75,17 +74,13 @@ rise-up_to low high n (b ∷ bs) rise le up_to =
 rise-after : (low high n : ℤ) (bs : List (Arc Band Global)) → RiseWithin low high (numbers_of bs) → (n +ℤ pos 1) ≤ℤ high
     → All (λ b. n <ℤ number_of b) bs → RiseWithin (n +ℤ pos 1) high (numbers_of bs)
 rise-after low high n [] rise le after = le
-rise-after low high n (b ∷ bs) rise le after =
-    let first : n <ℤ number_of b = All-head (λ c. n <ℤ number_of c) b bs after in
-    (omega (arith, ints, first), rise.1)
+rise-after low high n (b ∷ bs) rise le after = grind (arith, ints, All-head)
 
 -- ---- bands that are split
 
 module _ {n : ℤ} {bs first rest : List (Arc Band Global)} (split : IsSplitAtBand n bs first rest) where
   parts : (low high : ℤ) → RiseWithin low high (numbers_of bs) → RiseWithin low high (numbers_of first ++ numbers_of rest)
-  parts low high rise =
-      subst (RiseWithin low high) (map-append number_of first rest)
-      (subst (λ bs. RiseWithin low high (numbers_of bs)) split.all rise)
+  parts low high rise = grind (arith, ints, map-append)
 
   pub first_rise : HaveRisingNumbers bs → HaveRisingNumbers first
   first_rise rise = rise-front (pos 0) BAND_COUNT (numbers_of first) (numbers_of rest) (parts _ _ rise)
@@ -97,9 +92,7 @@ module _ {n : ℤ} {bs first rest : List (Arc Band Global)} (split : IsSplitAtBa
   first_up_to low rise le = rise-up_to low BAND_COUNT n first (rise-front low BAND_COUNT (numbers_of first) (numbers_of rest) (parts _ _ rise)) le split.up_to
 
   pub rest_from : (low : ℤ) → RiseFrom low bs → n <ℤ BAND_COUNT → RiseFrom (n +ℤ pos 1) rest
-  rest_from low rise lt =
-      rise-after low BAND_COUNT n rest (rise-back low BAND_COUNT (numbers_of first) (numbers_of rest) (parts _ _ rise))
-      (omega (arith, ints, lt)) split.after
+  rest_from low rise lt = grind (arith, ints, rise-after, rise-back, parts)
 
   pub only_first : RiseFrom n bs → IsOnlyBand n first
   only_first rise = first_up_to n rise (omega (arith, ints))
@@ -114,21 +107,10 @@ others_from low {n} {bs} {before} {others} split rise lt =
 -- the first band has number n, or none has
 pub split_at_own : (n : ℤ) (bs : List (Arc Band Global)) (b : Arc Band Global) (rest : List (Arc Band Global)) → bs ≡ b ∷ rest → RiseFrom n bs
     → number_of b ≡ n → IsSplitAtBand n bs (b ∷ []) rest
-split_at_own n bs b rest is rise own =
-    let rises : RiseFrom n (b ∷ rest) = subst (RiseFrom n) is rise in
-    record {
-      all = is;
-      up_to = All-cons (λ c. number_of c ≤ℤ n) b [] (omega (arith, ints, own))
-          (All-nil (λ c. number_of c ≤ℤ n));
-      after = subst (λ m. All (λ c. m <ℤ number_of c) rest) own (greater_after (number_of b) BAND_COUNT rest rises.1);
-    }
+split_at_own n bs b rest is rise own = grind (arith, ints, All-cons, All-nil, greater_after)
 
 pub split_none : (n : ℤ) (bs : List (Arc Band Global)) → bs ≡ [] → IsSplitAtBand n bs [] bs
-split_none n bs none = record {
-  all = refl;
-  up_to = All-nil (λ b. number_of b ≤ℤ n);
-  after = subst (All (λ b. n <ℤ number_of b)) (sym none) (All-nil (λ b. n <ℤ number_of b));
-}
+split_none n bs none = grind (arith, ints, All-nil, sym)
 
 pub split_before_other : (n : ℤ) (bs : List (Arc Band Global)) (b : Arc Band Global) (rest : List (Arc Band Global)) → bs ≡ b ∷ rest → RiseFrom n bs
     → number_of b ≢ n → IsSplitAtBand n bs [] bs

@@ -6,7 +6,6 @@ use Rattle.std.proofs.lemmas.List.Elements.{All-head, All-append, All-weaker}
 use Rattle.mf_geom.specs.Coordinates.{last_in_field}
 use Rattle.mf_rows.specs.Bands.{AreBelow}
 use Rattle.mf_rows.specs.BandSums.{lowest_of, AreUpTo, AreAfter, AreSplitAtBand, HasSum}
-use Rattle.mf_edges.specs.LawfulWeights.{IsLawfulWeight}
 use Rattle.mf_rows.specs.EdgeRows.{EdgeRow, AreRowsFrom, AreRows, weight_in_rows}
 use Rattle.mf_rows.specs.Sums.{weight_in_all, IsUnlawfulSomewhere}
 use Rattle.mf_rows.proofs.EdgeRowsLemmas.{weight_in_rows-append, weight_in_rows-above, weight_in_rows-below}
@@ -17,23 +16,11 @@ use Rattle.mf_rows.proofs.RowSums.{IsRowSumSoFar}
 
 pub has_sum-right : (before rs ss after : List EdgeRow) → AreRows ss → rs ≡ [] → after ≡ before ++ ss → HasSum before rs ss after
 unfolding weight_in_all weight_in_rows
-has_sum-right before rs ss after rows none all = record {
-  more = ss;
-  all = all;
-  rows = rows;
-  weights = rw none (record { weights = λ x y. omega (arith, ints) });
-  within = record { above = λ y left right. right; below = λ y left right. right };
-}
+has_sum-right before rs ss after rows none all = grind (arith, ints)
 
 pub has_sum-left : (before rs ss after : List EdgeRow) → AreRows rs → ss ≡ [] → after ≡ before ++ rs → HasSum before rs ss after
 unfolding weight_in_all weight_in_rows
-has_sum-left before rs ss after rows none all = record {
-  more = rs;
-  all = all;
-  rows = rows;
-  weights = rw none (record { weights = λ x y. omega (arith, ints) });
-  within = record { above = λ y left right. left; below = λ y left right. left };
-}
+has_sum-left before rs ss after rows none all = grind (arith, ints)
 
 -- ---- rows that are split
 
@@ -48,10 +35,7 @@ rows_of_rest split rows = record { rows = rows_from-back last_in_field _ _ (subs
 -- the rows from the lower of two heights on
 rows_from-both : (top y : ℤ) (rs : List EdgeRow) → AreRowsFrom top rs → AreBelow y rs → AreRowsFrom (int_min top (y -ℤ pos 1)) rs
 rows_from-both top y [] rows below = tt
-rows_from-both top y (r ∷ rs) rows below =
-    let lower : r.y <ℤ y = All-head (λ r. r.y <ℤ y) r rs below in
-    let in_reach : r.y ≤ℤ top = rows.1 in
-    (rows.0, omega (arith, ints, clamps), rows.2)
+rows_from-both top y (r ∷ rs) rows below = grind (arith, ints, All-head, clamps)
 
 module _ {f : ℤ → ℤ → ℤ} {sum rs ss : List EdgeRow} (so_far : IsRowSumSoFar f sum rs ss) (n : ℤ)
     (first_left rest_left first_right rest_right : List EdgeRow)
@@ -67,9 +51,7 @@ module _ {f : ℤ → ℤ → ℤ} {sum rs ss : List EdgeRow} (so_far : IsRowSum
       rows_from-below so_far.top y first_left (rows_from-front so_far.top first_left rest_left from_top_left) lt
 
   below_right : (y : ℤ) → so_far.top <ℤ y → AreBelow y first_right
-  below_right y lt =
-      rows_from-below so_far.top y first_right
-      (rows_from-front so_far.top first_right rest_right from_top_right) lt
+  below_right y lt = grind (arith, ints, rows_from-below, rows_from-front, from_top_right)
 
   weight_in_all-parts : (x y : ℤ) → weight_in_all rs ss x y
       ≡ weight_in_all first_left first_right x y +ℤ weight_in_all rest_left rest_right x y
@@ -108,17 +90,7 @@ module _ {f : ℤ → ℤ → ℤ} {sum rs ss : List EdgeRow} (so_far : IsRowSum
 
   pub unlawful_in_step : IsUnlawfulSomewhere (weight_in_all first_left first_right)
       → IsUnlawfulSomewhere f
-  unlawful_in_step unlawful =
-      let x = unlawful.x in
-      let y = unlawful.y in
-      let some : weight_in_all first_left first_right x y ≢ pos 0 =
-      λ blank. unlawful.unlawful (record { least = omega (arith, ints); greatest = omega (arith, ints) }) in
-      record {
-        x = x;
-        y = y;
-        in_field = unlawful.in_field;
-        unlawful = λ lawful. unlawful.unlawful (subst IsLawfulWeight (weight_in_all-step x y some) lawful);
-      }
+  unlawful_in_step unlawful = grind (arith, ints, weight_in_all-step)
 
   pub sum_more_step : (after : List EdgeRow) → HasSum sum first_left first_right after
       → IsRowSumSoFar f after rest_left rest_right
@@ -129,9 +101,7 @@ module _ {f : ℤ → ℤ → ℤ} {sum rs ss : List EdgeRow} (so_far : IsRowSum
       rw step.all (record {
         top = top;
         in_field = omega (arith, ints, lower, so_far.in_field);
-        rows = rows_from-append last_in_field sum step.more so_far.rows step.rows.rows
-            (All-weaker (λ r. so_far.top <ℤ r.y) (λ r. AreBelow r.y step.more)
-            (λ r lt. step.within.below r.y (below_left r.y lt) (below_right r.y lt)) sum so_far.above);
+        rows = grind (arith, ints, rows_from-append, All-weaker, below_left, below_right);
         above = All-append (λ r. top <ℤ r.y) sum step.more
             (All-weaker (λ r. so_far.top <ℤ r.y) (λ r. top <ℤ r.y) (λ r lt. omega (arith, ints, lower)) sum so_far.above)
             (All-weaker (λ r. (lowest_of n -ℤ pos 1) <ℤ r.y) (λ r. top <ℤ r.y) (λ r lt. omega (arith, ints, lower_than_band)) step.more

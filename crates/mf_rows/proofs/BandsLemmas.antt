@@ -28,11 +28,7 @@ All-front P (r ∷ rs) ss all = All-cons P r rs (All-head P r (rs ++ ss) all) (A
 pub weight_between : (above rs below : List EdgeRow) (x y : ℤ) → AreAbove y above → AreBelow y below
     → weight_in_rows (above ++ (rs ++ below)) x y ≡ weight_in_rows rs x y
 weight_between above rs below x y higher lower =
-    let all = weight_in_rows-append above (rs ++ below) x y in
-    let others = weight_in_rows-append rs below x y in
-    let none_above = weight_in_rows-above above x y higher in
-    let none_below = weight_in_rows-below below x y lower in
-    omega (arith, ints)
+    omega (arith, ints, weight_in_rows-append above (rs ++ below) x y, weight_in_rows-append rs below x y, weight_in_rows-above above x y higher, weight_in_rows-below below x y lower, higher, lower)
 
 -- the first row that is not above row y is row y, or there is no row y
 row_here : (y : ℤ) (above : List EdgeRow) (r : EdgeRow) (below : List EdgeRow) → AreRows (above ++ r ∷ below)
@@ -43,32 +39,18 @@ row_here y above r below lawful higher here =
     record {
       edges = from_here.0.edges;
       weights = λ x.
-          let all = weight_in_rows-append above (r ∷ below) x y in
-          let none_above = weight_in_rows-above above x y higher in
-          let others = weight_in_rows-here r below x y here in
-          let none_below = weight_in_rows-below below x y lower in
-          omega (arith, ints);
+          omega (arith, ints, weight_in_rows-append above (r ∷ below) x y, weight_in_rows-above above x y higher, weight_in_rows-here r below x y here, weight_in_rows-below below x y lower);
     }
 
 no_row_here : (y : ℤ) (above : List EdgeRow) (r : EdgeRow) (below : List EdgeRow) → AreRows (above ++ r ∷ below)
     → AreAbove y above → r.y <ℤ y → HasNoRow (above ++ r ∷ below) y
 no_row_here y above r below lawful higher after =
-    let from_here = rows_from-back last_in_field above (r ∷ below) lawful.rows in
-    let lower = rows_from-below r.y y (r ∷ below) (from_here.0, omega (arith, ints), from_here.2) after in
-    record {
-      weights = λ x.
-          let all = weight_in_rows-append above (r ∷ below) x y in
-          let none_above = weight_in_rows-above above x y higher in
-          let none_below = weight_in_rows-below (r ∷ below) x y lower in
-          omega (arith, ints);
-    }
+    grind (arith, ints, rows_from-back, rows_from-below, weight_in_rows-append, weight_in_rows-above, weight_in_rows-below)
 
 -- rows that are split at row y: those above it, and the others
 module _ (y : ℤ) (rs above others : List EdgeRow) (all : rs ≡ above ++ others) (higher : AreAbove y above) where
   pub absent_row_all : others ≡ [] → HasNoRow rs y
-  absent_row_all none =
-      let none_left : rs ≡ above = all ∙ ap (λ ss. above ++ ss) none ∙ append-nil above in
-      record { weights = λ x. ap (λ ss. weight_in_rows ss x y) none_left ∙ weight_in_rows-above above x y higher }
+  absent_row_all none = grind (arith, ints, append-nil, weight_in_rows-above)
 
   module _ (r : EdgeRow) (below : List EdgeRow) (first : others ≡ r ∷ below) (lawful : AreRows rs) where
     with_first : rs ≡ above ++ r ∷ below

@@ -1,5 +1,5 @@
 -- The edges of two rows together.
-use Rattle.std.proofs.Common.{◌≡◌, cond, ℤ, pos, ◌+ℤ◌, ◌≤ℤ◌, ◌<ℤ◌, int_le, List, [], ◌∷◌, ◌++◌, refl, sym, ap, subst, ◌∙◌, arith}
+use Rattle.std.proofs.Common.{◌≡◌, cond, ℤ, pos, ◌+ℤ◌, ◌≤ℤ◌, ◌<ℤ◌, int_le, List, [], ◌∷◌, ◌++◌, refl, sym, ap, ◌∙◌, arith}
 use Rattle.std.specs.List.{All}
 use Rattle.std.specs.Ordering.{int_eq}
 use Rattle.std.proofs.lemmas.Bool.{cond_both}
@@ -36,10 +36,7 @@ module _ (e f : Edge) (fs : List Edge) where
   -- an edge is before the first one, after it or at its column
   pub by_place : (P : List Edge → Type 0) → (e.x <ℤ f.x → P (e ∷ f ∷ fs)) → (f.x <ℤ e.x → P (f ∷ with_edge e fs)) → (e.x ≡ f.x → P (joined e f ++ fs))
       → P (with_edge e (f ∷ fs))
-  by_place P before after here =
-      by_lt_z e.x f.x (λ lt. subst P (sym (with_edge-before lt)) (before lt))
-      (λ le. by_lt_z f.x e.x (λ gt. subst P (sym (with_edge-after gt)) (after gt))
-      (λ ge. let same : e.x ≡ f.x = omega (arith, ints) in subst P (sym (with_edge-here same)) (here same)))
+  by_place P before after here = grind (arith, ints, by_lt_z, sym, with_edge-before, with_edge-after, with_edge-here)
 
 -- edges at one column add up, also where they cancel
 weight_in-joined : (e f : Edge) (c : ℤ) → e.x ≡ f.x → weight_in (joined e f) c ≡ weight_in (e ∷ []) c +ℤ weight_in (f ∷ []) c
@@ -95,18 +92,14 @@ pub edges_from-both : (low : ℤ) (es fs : List Edge) → AreEdgesFrom low es �
 unfolding edges_of_both
 edges_from-both low [] fs left right = right
 edges_from-both low (e ∷ es) fs left right =
-    let start : low ≤ℤ e.x = left.1 in
-    edges_from-with low e (edges_of_both es fs) left.0 start
-    (edges_from-both low es fs (edges_from-lower low (e.x +ℤ pos 1) es (omega (arith, ints)) left.2) right)
+    grind (arith, ints, edges_from-with, edges_from-lower, edges_from-both low es fs (edges_from-lower low (e.x +ℤ pos 1) es (omega (arith, ints)) left.2) right)
 
 -- where all edges of the left row are after the first of the right one, that is the first of both
 pub both-right : (f : Edge) (es fs : List Edge) → AreEdgesFrom (f.x +ℤ pos 1) es → edges_of_both es (f ∷ fs) ≡ f ∷ edges_of_both es fs
 unfolding edges_of_both
 both-right f [] fs left = refl
 both-right f (e ∷ es) fs left =
-    let start : (f.x +ℤ pos 1) ≤ℤ e.x = left.1 in
-    ap (with_edge e) (both-right f es fs (edges_from-lower (f.x +ℤ pos 1) (e.x +ℤ pos 1) es (omega (arith, ints)) left.2))
-    ∙ with_edge-after e f (edges_of_both es fs) (omega (arith, ints))
+    grind (arith, ints, edges_from-lower, with_edge-after, both-right f es fs (edges_from-lower (f.x +ℤ pos 1) (e.x +ℤ pos 1) es (omega (arith, ints)) left.2))
 
 -- at a column both rows may be cut
 pub both-append : (x : ℤ) (es fs gs hs : List Edge) → All (λ e. e.x <ℤ x) es → All (λ e. e.x <ℤ x) fs

@@ -1,13 +1,13 @@
 -- Two lists of rows together.
 use Rattle.std.proofs.Common.{◌≡◌, ℤ, pos, ◌+ℤ◌, ◌-ℤ◌, ◌≤ℤ◌, ◌<ℤ◌}
-use Rattle.std.proofs.Common.{int_lt, Bool, true, false, List, [], ◌∷◌, ◌++◌, length, Option, Some, None, if◌then◌else◌, refl, sym, ap, subst, ◌∙◌, arith}
+use Rattle.std.proofs.Common.{Bool, true, false, List, [], ◌∷◌, ◌++◌, length, Option, Some, None, if◌then◌else◌, refl, sym, subst, ◌∙◌, arith}
 use Rattle.std.specs.Iterator.{YieldsFirstBy}
 use Rattle.std.specs.List.{All}
 use Rattle.std.specs.Ordering.{int_eq}
 use Rattle.std.proofs.lemmas.Bool.{cond_both}
 use Rattle.std.proofs.lemmas.Int.{ints, by_lt_z}
 use Rattle.std.proofs.lemmas.List.Elements.{All-head, All-tail, All-cons, All-nil, All-append}
-use Rattle.mf_geom.specs.Coordinates.{least_coordinate, greatest_coordinate, last_in_field}
+use Rattle.mf_geom.specs.Coordinates.{least_coordinate, last_in_field}
 use Rattle.mf_edges.specs.declared.edge.Edge.{Edge}
 use Rattle.mf_edges.specs.LawfulWeights.{IsLawfulWeight}
 use Rattle.mf_edges.specs.Edges.{weight_in, AreEdges}
@@ -34,18 +34,12 @@ use Rattle.mf_rows.proofs.RowSums.{by_same}
 pub with_row-cases : (P : List EdgeRow → Type 0) (r s : EdgeRow) (ss : List EdgeRow) → (s.y <ℤ r.y → P (r ∷ s ∷ ss))
     → (r.y <ℤ s.y → P (s ∷ with_row r ss)) → (s.y ≡ r.y → P (unless_blank (row_of_both r s) ++ ss)) → P (with_row r (s ∷ ss))
 unfolding with_row
-with_row-cases P r s ss before after same =
-    let merged = unless_blank (row_of_both r s) ++ ss in
-    cond_both (int_lt s.y r.y) (r ∷ s ∷ ss) (if int_lt r.y s.y then s ∷ with_row r ss else merged) P (λ lower. before (omega (arith, ints, lower)))
-    (λ not_lower. cond_both (int_lt r.y s.y) (s ∷ with_row r ss) merged P (λ higher. after (omega (arith, ints, higher)))
-    (λ not_higher. same (omega (arith, ints, not_lower, not_higher))))
+with_row-cases P r s ss before after same = grind (arith, ints, cond_both)
 
 with_row-above : (r : EdgeRow) (ss : List EdgeRow) → AreBelow r.y ss → with_row r ss ≡ r ∷ ss
 unfolding with_row
 with_row-above r [] below = refl
-with_row-above r (s ∷ ss) below =
-    let lower : s.y <ℤ r.y = All-head (λ s. s.y <ℤ r.y) s ss below in
-    grind (arith, ints)
+with_row-above r (s ∷ ss) below = grind (arith, ints, All-head)
 
 with_row-below : (r s : EdgeRow) (ss : List EdgeRow) → r.y <ℤ s.y → with_row r (s ∷ ss) ≡ s ∷ with_row r ss
 unfolding with_row
@@ -87,11 +81,7 @@ All-with_row P r (s ∷ ss) own others =
 -- the rows remain lawful where their weights do
 edges-of_both : (es fs : List Edge) → AreEdges es → AreEdges fs → ((x : ℤ) → IsLawfulWeight (weight_in es x +ℤ weight_in fs x))
     → AreEdges (edges_of_both es fs)
-edges-of_both es fs left right lawful = record {
-  sorted = edges_from-both least_coordinate es fs left.sorted right.sorted;
-  lawful = λ x. rw (weight_in-both es fs x) (lawful x);
-  closed = rw (weight_in-both es fs greatest_coordinate, left.closed, right.closed) refl;
-}
+edges-of_both es fs left right lawful = grind (arith, ints, edges_from-both, weight_in-both)
 
 merged_rows_from : (top y : ℤ) (es : List Edge) (ss : List EdgeRow) → least_coordinate ≤ℤ y → y ≤ℤ last_in_field → y ≤ℤ top → AreEdges es
     → AreRowsFrom (y -ℤ pos 1) ss → AreRowsFrom top (unless_blank (record { y = y; edges = es }) ++ ss)
@@ -124,9 +114,7 @@ rows_from-with_row top r (s ∷ ss) row le rows lawful =
 pub weight_in_rows-both : (rs ss : List EdgeRow) (x y : ℤ) → weight_in_rows (rows_of_both rs ss) x y ≡ weight_in_rows rs x y +ℤ weight_in_rows ss x y
 unfolding weight_in_rows rows_of_both
 weight_in_rows-both [] ss x y = omega (arith, ints)
-weight_in_rows-both (r ∷ rs) ss x y =
-    let first = weight_in_rows-with_row r (rows_of_both rs ss) x y in
-    omega (arith, ints, first, weight_in_rows-both rs ss x y)
+weight_in_rows-both (r ∷ rs) ss x y = omega (arith, ints, weight_in_rows-with_row r (rows_of_both rs ss) x y, weight_in_rows-both rs ss x y)
 
 pub All-both : (P : ℤ → Type 0) (rs ss : List EdgeRow) → All (λ r. P r.y) rs → All (λ r. P r.y) ss → All (λ r. P r.y) (rows_of_both rs ss)
 unfolding rows_of_both
@@ -183,9 +171,7 @@ rows_both-same r s rs ss same own =
 none_from : (top : ℤ) (rs : List EdgeRow) → AreRowsFrom top rs → rows_of_both rs [] ≡ rs
 unfolding rows_of_both
 none_from top [] rows = refl
-none_from top (r ∷ rs) rows =
-    let below = rows_from-below (r.y -ℤ pos 1) r.y rs rows.2 (omega (arith, ints)) in
-    rows_both-above r rs [] below (All-nil (λ s. s.y <ℤ r.y)) ∙ ap (λ ss. r ∷ ss) (none_from (r.y -ℤ pos 1) rs rows.2)
+none_from top (r ∷ rs) rows = grind (arith, ints, rows_from-below, rows_both-above, All-nil, none_from (r.y -ℤ pos 1) rs rows.2)
 
 -- no row is added to the others
 pub rows_both-none : (rs : List EdgeRow) → AreRows rs → rows_of_both rs [] ≡ rs
@@ -224,11 +210,7 @@ first_of_older rs ss ts s left above is = rw is (rows_both-below s rs ts (rows-b
 
 pub first_of_both : (rs ss ts us : List EdgeRow) (r s : EdgeRow) → AreRows rs → (BeginsAbove rs ss → ⊥) → (BeginsAbove ss rs → ⊥)
     → rs ≡ r ∷ ts → ss ≡ s ∷ us → rows_of_both rs ss ≡ unless_blank (row_of_both r s) ++ rows_of_both ts us
-first_of_both rs ss ts us r s left not_above not_below is also =
-    let lower = subst (λ rs. BeginsAbove rs (s ∷ us) → ⊥) is (subst (λ ss. BeginsAbove rs ss → ⊥) also not_above) in
-    let higher = subst (λ ss. BeginsAbove ss (r ∷ ts) → ⊥) also (subst (λ rs. BeginsAbove ss rs → ⊥) is not_below) in
-    let same : s.y ≡ r.y = by_lt_z s.y r.y (λ lt. absurd (lower lt)) (λ ge. by_lt_z r.y s.y (λ gt. absurd (higher gt)) (λ le. omega (arith, ints))) in
-    rw (is, also) (rows_both-same r s ts us same (rows-after r ts (rw is at left)))
+first_of_both rs ss ts us r s left not_above not_below is also = grind (arith, ints, by_lt_z, rows_both-same, rows-after)
 
 pub none_of_rows : (rs ss : List EdgeRow) → BeginsAbove rs ss → rs ≡ [] → rows_of_both rs ss ≡ []
 unfolding rows_of_both

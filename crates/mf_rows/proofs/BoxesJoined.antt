@@ -26,20 +26,10 @@ pub either_max : (P : ℤ → Type 0) (x y : ℤ) → P x → P y → P (int_max
 either_max P x y at_x at_y = cond_both (int_lt y x) x y P (λ _. at_x) (λ _. at_y)
 
 within_first : (a b : Box4) (d : Dot) → IsDotIn a d → IsDotIn (box_round_both a b) d
-within_first a b d inside = record {
-  left = omega (arith, ints, clamps, inside.left);
-  right = omega (arith, ints, clamps, inside.right);
-  bottom = omega (arith, ints, clamps, inside.bottom);
-  top = omega (arith, ints, clamps, inside.top);
-}
+within_first a b d inside = grind (arith, ints, clamps)
 
 within_second : (a b : Box4) (d : Dot) → IsDotIn b d → IsDotIn (box_round_both a b) d
-within_second a b d inside = record {
-  left = omega (arith, ints, clamps, inside.left);
-  right = omega (arith, ints, clamps, inside.right);
-  bottom = omega (arith, ints, clamps, inside.bottom);
-  top = omega (arith, ints, clamps, inside.top);
-}
+within_second a b d inside = grind (arith, ints, clamps)
 
 pub least_box_of_both : (ds es : List Dot) (a b : Box4) → IsLeastBox ds a → IsLeastBox es b → IsLeastBox (ds ++ es) (box_round_both a b)
 least_box_of_both ds es a b first second =

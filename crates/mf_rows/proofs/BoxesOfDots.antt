@@ -60,16 +60,7 @@ same_least_box ds a b one other =
     λ i. record { min_x = left i; max_x = right i; min_y = bottom i; max_y = top i }
 
 least_box_of_dot : (d : Dot) → IsLeastBox (d ∷ []) (box_of_dot d)
-least_box_of_dot d =
-    record {
-      within = All-cons (IsDotIn (box_of_dot d)) d []
-          (record { left = omega (arith, ints); right = omega (arith, ints); bottom = omega (arith, ints); top = omega (arith, ints) })
-          (All-nil (IsDotIn (box_of_dot d)));
-      left = (0, d, omega arith, refl, refl);
-      right = (0, d, omega arith, refl, refl);
-      bottom = (0, d, omega arith, refl, refl);
-      top = (0, d, omega arith, refl, refl);
-    }
+least_box_of_dot d = grind (arith, ints, All-cons, All-nil)
 
 -- the box of some dots is their least box
 pub least_box_of_dots : (d : Dot) (ds : List Dot) → IsLeastBox (d ∷ ds) (box_of_dots d ds)

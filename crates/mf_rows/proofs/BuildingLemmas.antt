@@ -46,10 +46,7 @@ above_all rs row y above below =
 
 -- a row below all others may follow them
 rows-push : (rs : List EdgeRow) (row : EdgeRow) → AreRows rs → AreAbove row.y rs → IsEdgeRow row → AreRows (rs ++ row ∷ [])
-rows-push rs row rows above lawful = record {
-  rows = rows_from-append last_in_field rs (row ∷ []) rows.rows (lawful, lawful.top, tt)
-      (All-weaker (λ r. row.y <ℤ r.y) (λ r. AreBelow r.y (row ∷ [])) (λ r lower. All-cons (λ s. s.y <ℤ r.y) row [] lower (All-nil (λ s. s.y <ℤ r.y))) rs above);
-}
+rows-push rs row rows above lawful = grind (arith, ints, rows_from-append, All-weaker, All-cons, All-nil)
 
 -- the last row adds its weights to its own row alone
 weight-in_last : (rs : List EdgeRow) (row : EdgeRow) (x y : ℤ) → row.y ≡ y
@@ -63,9 +60,7 @@ weight-in_others rs row x y elsewhere = omega (arith, ints, weight_in_rows-appen
 
 -- where it is below the others, its row has no other weights
 weight-in_own : (rs : List EdgeRow) (row : EdgeRow) (x y : ℤ) → AreAbove row.y rs → row.y ≡ y → weight_in_rows (rs ++ row ∷ []) x y ≡ weight_in row.edges x
-weight-in_own rs row x y above here =
-    let none = weight_in_rows-above rs x y (subst (λ v. AreAbove v rs) here above) in
-    omega (arith, ints, weight-in_last rs row x y here)
+weight-in_own rs row x y above here = grind (arith, ints, weight_in_rows-above, weight-in_last)
 
 -- ---- runs after rows
 
@@ -165,18 +160,12 @@ pushed all rs old new r lawful fits rows above row has weights =
     let run = fits.run in
     let below : AreAbove new.y rs = subst (λ y. AreAbove y rs) (sym has.row) above in
     let own : IsEdgeRow new = record { bottom = rw has.row run.bottom; top = rw has.row run.top; some = some_edge old new r run has; edges = has.edges } in
-    let outside : (x y : ℤ) → (IsOnRun r x y → ⊥) → weight_in_rows (rs ++ new ∷ []) x y ≡ weight_in_rows (rs ++ old ∷ []) x y = λ x y off.
-    by_same r.y y
-    (λ here. weight-in_last rs new x y (has.row ∙ here)
-    ∙ ap (λ w. weight_in_rows rs x y +ℤ w) (has.outside x (λ from to. off (record { row = here; left = from; right = to })))
-    ∙ sym (weight-in_last rs old x y (row ∙ here)))
-    (λ apart. weight-in_others rs new x y (λ same. apart (sym has.row ∙ same)) ∙ sym (weight-in_others rs old x y (λ same. apart (sym row ∙ same)))) in
+    let outside : (x y : ℤ) → (IsOnRun r x y → ⊥) → weight_in_rows (rs ++ new ∷ []) x y ≡ weight_in_rows (rs ++ old ∷ []) x y =
+        grind (arith, ints, by_same, weight-in_last, sym, weight-in_others) in
     record {
       rows = rows-push rs new rows below own;
       picture = sym (picture_of_rows-from_weights (ds ++ dots_of r) (rs ++ new ∷ []) (picture-push ds r (lawful_picture_of_rows all lawful) fits) (record {
-        weights = λ x y inside. by_on_run r x y
-            (λ on. weight_at-on_run ds r x y fits on ∙ sym (weight-in_own rs new x y below (has.row ∙ on.row) ∙ has.inside x on.left on.right))
-            (λ off. weight_at-off_run ds r x y off ∙ weight_at-picture_of_rows all x y lawful ∙ weights x y ∙ sym (outside x y off));
+        weights = λ x y inside. grind (arith, ints, by_on_run, weight_at-on_run, sym, weight-in_own, weight_at-off_run, weight_at-picture_of_rows);
       }));
     }
 
@@ -229,8 +218,4 @@ pub record IsNextRow (all closed : List EdgeRow) (row : OpenRow) (left : List Ed
 
 pub next_row : (all closed : List EdgeRow) (rows : List OpenRow) (k : ℕ) (row : OpenRow) → AreRows all → k < length rows → row ≡ get_or rows k row
     → closed ++ open_rows (drop k rows) ≡ all → IsNextRow all closed row (open_rows (drop (k + 1) rows))
-next_row all closed rows k row lawful inside read so_far =
-    let left = open_rows (drop (k + 1) rows) in
-    let rest : closed ++ open_row row ∷ left ≡ all =
-    ap (λ r. closed ++ open_row r ∷ left) read ∙ ap (λ left. closed ++ open_rows left) (sym (drop_more rows k row inside)) ∙ so_far in
-    record { own = (rows_from-back last_in_field closed (open_row row ∷ left) (rw rest lawful.rows)).0; rest = rest }
+next_row all closed rows k row lawful inside read so_far = grind (arith, ints, sym, drop_more, rows_from-back)

@@ -39,9 +39,7 @@ within_more i j k l first last hs n h inside item so_far here =
 
 pub within_all : (i j l : ℕ) → j ≤ l → (hs : List Head) (n : ℕ) → length hs ≤ n
     → All (λ g. LiesBetween i j g.place) (take n hs) → All (λ g. LiesBetween i l g.place) hs
-within_all i j l last hs n all so_far =
-    All-weaker (λ g. LiesBetween i j g.place) (λ g. LiesBetween i l g.place) (λ g. within_wider i j i l (omega arith) last g.place) hs
-    (subst (All (λ g. LiesBetween i j g.place)) (take_all n hs all) so_far)
+within_all i j l last hs n all so_far = grind (arith, All-weaker, within_wider, take_all)
 
 -- ---- a part of a part
 
@@ -50,10 +48,7 @@ between_part es i j k l first order last =
     let count : (l - i) - (k - i) ≡ l - k = omega arith in
     let both : j - i ≡ (k - i) + (j - k) = omega arith in
     let start : i + (k - i) ≡ k = omega arith in
-    let inner : drop (k - i) (take (j - i) (drop i es)) ≡ take (j - k) (drop k es) =
-    ap (λ n. drop (k - i) (take n (drop i es))) both
-    ∙ drop-take (k - i) (j - k) (drop i es)
-    ∙ ap (λ fs. take (j - k) fs) (drop-drop (k - i) i es ∙ ap (λ n. drop n es) start) in
+    let inner : drop (k - i) (take (j - i) (drop i es)) ≡ take (j - k) (drop k es) = grind (arith, drop-take, drop-drop) in
     ap (λ n. take n (drop (k - i) (take (j - i) (drop i es)))) count
     ∙ ap (λ fs. take (l - k) fs) inner
     ∙ take-take (l - k) (j - k) (drop k es) (omega arith)
@@ -88,19 +83,11 @@ module _ (rows : RowSlice) (i : ℕ) (ds : List Edge) (j : ℕ) (copied : IsCopi
       ∙ between_part es i copied.end k l first order last
 
   pub place_movable : (p : Place) → IsThere es p → LiesBetween i copied.end p → IsMovable i j p
-  place_movable (place.Among k l) there within =
-      let order = there.order in
-      (within.0, order, omega (arith, within.0, within.1, copied.fits))
+  place_movable (place.Among k l) there within = grind (arith)
   place_movable (place.Own own) there within = tt
 
   place_moved : (p q : Place) → IsThere es p → LiesBetween i copied.end p → IsMoved i j p q → IsPlaceOf ds q (edges_at es p)
-  place_moved (place.Among k l) q there within moved =
-      let order = there.order in
-      let range = copied.there.within in
-      subst (λ r. IsPlaceOf ds r (edges_between es k l)) (sym moved) (record {
-        there = record { order = omega (arith, within.0); within = omega (arith, within.0, within.1) };
-        edges = edges_moved k l within.0 order within.1;
-      })
+  place_moved (place.Among k l) q there within moved = grind (arith, sym, edges_moved)
   place_moved (place.Own own) (place.Among k l) there within moved = absurd moved
   place_moved (place.Own own) (place.Own other) there within moved = record { there = tt; edges = ap (λ v. v.items) moved }
 
@@ -137,20 +124,4 @@ moved_all es ds before after hs n all so_far = so_far.rows ∙ ap (λ (gs : List
 pub copied_after : (rows : RowSlice) (fs ds : List Edge) (i end : ℕ) → IsRange rows.edges.now i end
     → All (λ h. LiesBetween i end h.place) rows.heads.now → ds ≡ fs ++ edges_between rows.edges.now i end → length ds < 2 ^ 64
     → IsCopied rows i ds (length fs)
-copied_after rows fs ds i end range within all fits =
-    let part : List Edge = edges_between rows.edges.now i end in
-    let order = range.order in
-    let inside = range.within in
-    let count : length part ≡ end - i = length-between rows.edges.now i end inside in
-    let long : length ds ≡ length fs + length part = ap (λ (gs : List Edge). length gs) all ∙ length-append fs part in
-    record {
-      end = end;
-      within = within;
-      there = record { order = omega arith; within = omega arith };
-      fits = omega arith;
-      same =
-          ap (λ n. take n (drop (length fs) ds)) (omega arith)
-          ∙ ap (λ (gs : List Edge). take (end - i) (drop (length fs) gs)) all
-          ∙ ap (λ (gs : List Edge). take (end - i) gs) (drop-append_seam fs part)
-          ∙ take_all (end - i) part (omega arith);
-    }
+copied_after rows fs ds i end range within all fits = grind (arith, length-between, length-append, drop-append_seam, take_all)

@@ -48,10 +48,7 @@ added_as_sums (k ∷ ks) x y =
     omega (arith, ints, added_as_sums ks x y, difference (added_by k x y), greater, less)
 
 pub added_by_permuted : (ks ls : List Corner) (x y : ℤ) → IsPermutation ks ls → added_by_all ls x y ≡ added_by_all ks x y
-added_by_permuted ks ls x y moved =
-    let greater = sum_by-IsPermutation (λ k. plus (added_by k x y)) ks ls moved in
-    let less = sum_by-IsPermutation (λ k. minus (added_by k x y)) ks ls moved in
-    omega (arith, ints, added_as_sums ks x y, added_as_sums ls x y, greater, less)
+added_by_permuted ks ls x y moved = grind (arith, ints, sum_by-IsPermutation, plus, minus, added_as_sums)
 
 pub corners_permuted : (ks ls : List Corner) → IsPermutation ks ls → AreCorners ks → AreCorners ls
 corners_permuted ks ls moved corners = record {
@@ -68,11 +65,7 @@ AreFalling top [] = Unit {0}
 AreFalling top (k ∷ ks) = (k.y ≤ℤ top) × AreFalling k.y ks
 
 not_above : (a b : ℤ) → is_lt (int_cmp a b) ≡ false → b ≤ℤ a
-not_above a b not_less =
-    by_ranked _ _ _ (int_cmp a b) (int_ranked a b (int_cmp a b) refl)
-    (λ less under. absurd (grind (arith, less, not_less)))
-    (λ equal same. omega (arith, ints, same))
-    (λ greater over. omega (arith, ints, over))
+not_above a b not_less = grind (arith, ints, by_ranked, int_ranked)
 
 falling_by_index : (top : ℤ) (ks : List Corner) → first_height_of ks ≤ℤ top
     → ((i : ℕ) (d : Corner) → suc i < length ks → (get_or ks (suc i) d).y ≤ℤ (get_or ks i d).y) → AreFalling top ks
@@ -147,26 +140,13 @@ pub record IsSwept (all left : List Corner) (es : List Edge) (rs : List EdgeRow)
 
 pub swept_none : (all : List Corner) → AreCorners all → AreFalling greatest_coordinate all → IsSwept all all [] []
 unfolding weight_in weight_in_rows
-swept_none all corners falling = record {
-  given = corners;
-  corners = corners.corners;
-  falling = falling;
-  rows = record { rows = tt; reach = All-nil (λ r. first_height_of all ≤ℤ r.y) };
-  above = λ x y inside above. sym (added_above_first greatest_coordinate all x y falling above);
-  below = λ x y below. omega (arith, ints);
-  sorted = tt;
-  least = λ x. omega (arith, ints, corners.few);
-  greatest = λ x. omega (arith, ints, corners.few);
-}
+swept_none all corners falling = grind (arith, ints, All-nil, sym, added_above_first)
 
 pub swept_all : (all : List Corner) (es : List Edge) (rs : List EdgeRow) → IsSwept all [] es rs → AreRows rs × HaveFieldWeights (added_by_all all) rs
 swept_all all es rs swept = (record { rows = swept.rows.rows }, record { weights = λ x y inside. swept.above x y inside inside.bottom })
 
 pub swept_edges : (all left : List Corner) (es : List Edge) (rs : List EdgeRow) → IsSwept all left es rs → AreOpenEdges es
-swept_edges all left es rs swept = record {
-  sorted = swept.sorted;
-  lawful = λ x. record { least = omega (arith, ints, swept.least x); greatest = omega (arith, ints, swept.greatest x) };
-}
+swept_edges all left es rs swept = grind (arith, ints)
 
 pub corner_weight_is_lawful : (w : ℤ) → IsCornerWeight w → IsLawfulWeight w
 corner_weight_is_lawful w weight = record { least = omega (arith, ints, weight.least); greatest = omega (arith, ints, weight.greatest) }

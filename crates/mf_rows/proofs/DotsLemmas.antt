@@ -1,5 +1,5 @@
 -- Dots in reading order, and the weight at a pixel.
-use Rattle.std.proofs.Common.{◌≡◌, ◌≢◌, ℕ, zero, suc, ◌<◌, ◌&&◌, ℤ, pos, ◌+ℤ◌, ◌≤ℤ◌, ◌<ℤ◌, List, [], ◌∷◌, ◌++◌, length, get_or, refl, ◌∙◌, arith}
+use Rattle.std.proofs.Common.{◌≡◌, ◌≢◌, ℕ, zero, suc, ◌<◌, ℤ, pos, ◌+ℤ◌, ◌≤ℤ◌, ◌<ℤ◌, List, [], ◌∷◌, ◌++◌, length, get_or, refl, ◌∙◌, arith}
 use Rattle.std.specs.List.{All}
 use Rattle.std.specs.Ordering.{int_eq}
 use Rattle.std.proofs.lemmas.Bool.{cond-true, cond-false, and_parts, and_from, false_from_ne_true}
@@ -24,10 +24,7 @@ weight_at-here d ds x y here =
 -- any other pixel's weight is that among the other dots
 pub weight_at-elsewhere : (d : Dot) (ds : List Dot) (x y : ℤ) → (IsAt d x y → ⊥) → weight_at (d ∷ ds) x y ≡ weight_at ds x y
 unfolding weight_at
-weight_at-elsewhere d ds x y elsewhere =
-    cond-false _ d.weight (weight_at ds x y) (false_from_ne_true (int_eq d.x x && int_eq d.y y) (λ test.
-    let parts = and_parts (int_eq d.x x) (int_eq d.y y) test in
-    elsewhere (record { column = (Decides-int_eq d.x x).0 parts.0; row = (Decides-int_eq d.y y).0 parts.1 })))
+weight_at-elsewhere d ds x y elsewhere = grind (arith, ints, cond-false, false_from_ne_true, and_parts, Decides-int_eq)
 
 -- another place is another pixel
 pub not_at : (d : Dot) (x y : ℤ) → place d.x d.y ≢ place x y → IsAt d x y → ⊥
@@ -95,8 +92,7 @@ weight_at-all_in_field : (ds : List Dot) (x y : ℤ) → All IsDot ds → (IsInF
 unfolding weight_at
 weight_at-all_in_field [] x y lawful outside = refl
 weight_at-all_in_field (d ∷ ds) x y lawful outside =
-    weight_at-elsewhere d ds x y (λ here. outside (rw (← here.column, ← here.row) (All-head IsDot d ds lawful).in_field))
-    ∙ weight_at-all_in_field ds x y (All-tail IsDot d ds lawful) outside
+    grind (arith, ints, weight_at-elsewhere, All-head, All-tail, weight_at-all_in_field ds x y (All-tail IsDot d ds lawful) outside)
 
 -- a picture has weight 0 outside the field
 pub weight_at-outside : (ds : List Dot) (x y : ℤ) → IsPicture ds → (IsInField x y → ⊥) → weight_at ds x y ≡ pos 0

@@ -1,5 +1,5 @@
 -- The edges of rows, and those of the runs of a picture.
-use Rattle.std.proofs.Common.{◌≡◌, ℕ, zero, suc, ◌+◌, ◌*◌, ◌≤◌, ℤ, pos, ◌+ℤ◌, ◌-ℤ◌, ◌<ℤ◌, List, [], ◌∷◌, ◌++◌, length, Fits, w64, refl, subst, arith}
+use Rattle.std.proofs.Common.{◌≡◌, ℕ, zero, suc, ◌+◌, ◌*◌, ◌≤◌, ℤ, pos, ◌+ℤ◌, ◌-ℤ◌, ◌<ℤ◌, List, [], ◌∷◌, ◌++◌, length, Fits, w64, refl, arith}
 use Rattle.std.specs.Int.RustNames.{unsigned_abs}
 use Rattle.std.specs.Ordering.{int_eq}
 use Rattle.std.proofs.lemmas.Bool.{cond_both}
@@ -27,9 +27,7 @@ use Rattle.mf_rows.proofs.RowRuns.{runs_of-picture_of_rows}
 edges-fit : (low : ℤ) (n : ℕ) (es : List Edge) → AreEdgesFrom low es → greatest_coordinate <ℤ (low +ℤ pos n) → length es ≤ n
 edges-fit low n [] edges room = omega arith
 edges-fit low zero (e ∷ es) edges room = absurd (omega (arith, ints, edges.1, edges.0.right))
-edges-fit low (suc n) (e ∷ es) edges room =
-    let others = edges-fit (e.x +ℤ pos 1) n es edges.2 (omega (arith, ints, edges.1)) in
-    omega (arith, others)
+edges-fit low (suc n) (e ∷ es) edges room = grind (arith, ints, edges-fit (e.x +ℤ pos 1) n es edges.2 (omega (arith, ints, edges.1)))
 
 -- the heights of rows fall, so there are at most as many as heights are left
 rows-fit : (top : ℤ) (n : ℕ) (rs : List EdgeRow) → AreRowsFrom top rs → top <ℤ (least_coordinate +ℤ pos n) → edges_in_rows rs ≤ n * (field_size + 1)
@@ -56,9 +54,7 @@ count-start rs = record { value = omega arith }
 pub count-next : (all before rest : List EdgeRow) (r : EdgeRow) (count : ℕ) → before ≡ (r ∷ rest) → IsCountSoFar all before count
     → IsCountSoFar all rest (count + length r.edges)
 unfolding edges_in_rows
-count-next all before rest r count step so_far =
-    let value = subst (λ rs. count + edges_in_rows rs ≡ edges_in_rows all) step so_far.value in
-    record { value = omega (arith, value) }
+count-next all before rest r count step so_far = grind (arith, ints)
 
 -- so the number never exceeds that of all of them, and fits
 pub count-fits : (all rest : List EdgeRow) (count : ℕ) → AreRows all → IsCountSoFar all rest count → Fits w64 count
@@ -66,9 +62,7 @@ count-fits all rest count rows so_far = omega (arith, so_far.value, few-edges al
 
 pub count-all : (all rest : List EdgeRow) (count : ℕ) → rest ≡ [] → IsCountSoFar all rest count → count ≡ edges_in_rows all
 unfolding edges_in_rows
-count-all all rest count none so_far =
-    let value = subst (λ rs. count + edges_in_rows rs ≡ edges_in_rows all) none so_far.value in
-    omega (arith, value)
+count-all all rest count none so_far = grind (arith, ints)
 
 -- ---- two lists of rows together have no more edges than both
 
@@ -78,9 +72,7 @@ length-unless_zero e = cond_both (int_eq e.weight (pos 0)) [] (e ∷ []) (λ es.
 length-with : (e : Edge) (fs : List Edge) → length (with_edge e fs) ≤ 1 + length fs
 unfolding with_edge
 length-with e [] = omega arith
-length-with e (f ∷ fs) =
-    by_place e f fs (λ es. length es ≤ 1 + length (f ∷ fs)) (λ _. omega arith) (λ _. omega (arith, length-with e fs))
-    (λ _. omega (arith, length-append (joined e f) fs, length-unless_zero (record { x = e.x; weight = e.weight +ℤ f.weight })))
+length-with e (f ∷ fs) = grind (arith, ints, by_place, length-append, joined, length-unless_zero, length-with e fs)
 
 length-both : (es fs : List Edge) → length (edges_of_both es fs) ≤ length es + length fs
 unfolding edges_of_both
@@ -96,10 +88,7 @@ edges_in_rows-unless_blank y (e ∷ es) ss = refl
 edges_in_rows-with_row : (r : EdgeRow) (ss : List EdgeRow) → edges_in_rows (with_row r ss) ≤ length r.edges + edges_in_rows ss
 unfolding edges_in_rows with_row
 edges_in_rows-with_row r [] = omega arith
-edges_in_rows-with_row r (s ∷ ss) =
-    with_row-cases (λ rs. edges_in_rows rs ≤ length r.edges + edges_in_rows (s ∷ ss)) r s ss (λ _. omega arith)
-    (λ _. omega (arith, edges_in_rows-with_row r ss))
-    (λ _. omega (arith, edges_in_rows-unless_blank r.y (edges_of_both r.edges s.edges) ss, length-both r.edges s.edges))
+edges_in_rows-with_row r (s ∷ ss) = grind (arith, ints, with_row-cases, edges_in_rows-unless_blank, length-both, edges_in_rows-with_row r ss)
 
 edges_in_rows-both : (rs ss : List EdgeRow) → edges_in_rows (rows_of_both rs ss) ≤ edges_in_rows rs + edges_in_rows ss
 unfolding edges_in_rows rows_of_both
@@ -164,8 +153,4 @@ pub record IsCountOfBoth (rs ss : List EdgeRow) (a b : ℕ) : Type 0 where
   pub edges : edge_count (runs_of (picture_of_rows (rows_of_both rs ss))) ≤ a + b
 
 pub count-of_both : (rs ss : List EdgeRow) (a b : ℕ) → AreRowsOfBoth rs ss → a ≡ edges_in_rows ss → b ≡ edges_in_rows rs → IsCountOfBoth rs ss a b
-count-of_both rs ss a b rows older newest = record {
-  fits = omega (arith, few-edges rs rows.left, few-edges ss rows.right, older, newest);
-  edges = rw (runs_of-picture_of_rows (rows_of_both rs ss) rows.both)
-      (omega (arith, edges-of_rows last_in_field (rows_of_both rs ss) rows.both.rows, edges_in_rows-both rs ss, older, newest));
-}
+count-of_both rs ss a b rows older newest = grind (arith, ints, few-edges, runs_of-picture_of_rows, edges-of_rows, edges_in_rows-both)

@@ -33,9 +33,7 @@ weight_in_rows-here r rs x y here =
 
 pub weight_in_rows-elsewhere : (r : EdgeRow) (rs : List EdgeRow) (x y : ℤ) → r.y ≢ y → weight_in_rows (r ∷ rs) x y ≡ weight_in_rows rs x y
 unfolding weight_in_rows
-weight_in_rows-elsewhere r rs x y elsewhere =
-    let other = false_from_ne_true (int_eq r.y y) (λ test. elsewhere ((Decides-int_eq r.y y).0 test)) in
-    omega (arith, ints, cond-false (int_eq r.y y) (weight_in r.edges x) (pos 0) other)
+weight_in_rows-elsewhere r rs x y elsewhere = grind (arith, ints, false_from_ne_true, Decides-int_eq, cond-false)
 
 -- where there is no row the weight is 0
 pub weight_in_rows-none : (rs : List EdgeRow) (x y : ℤ) → All (λ r. r.y ≢ y) rs → weight_in_rows rs x y ≡ pos 0
@@ -70,16 +68,12 @@ rows_from-front top (r ∷ rs) ss rows = (rows.0, rows.1, rows_from-front (r.y -
 
 pub rows_from-back : (top : ℤ) (rs ss : List EdgeRow) → AreRowsFrom top (rs ++ ss) → AreRowsFrom top ss
 rows_from-back top [] ss rows = rows
-rows_from-back top (r ∷ rs) ss rows =
-    let start : r.y ≤ℤ top = rows.1 in
-    rows_from-higher top (r.y -ℤ pos 1) ss (omega (arith, ints)) (rows_from-back (r.y -ℤ pos 1) rs ss rows.2)
+rows_from-back top (r ∷ rs) ss rows = grind (arith, ints, rows_from-higher, rows_from-back (r.y -ℤ pos 1) rs ss rows.2)
 
 -- lawful rows that are below a row may follow it
 pub rows_from-cut : (top y : ℤ) (rs : List EdgeRow) → AreRowsFrom top rs → AreBelow y rs → AreRowsFrom (y -ℤ pos 1) rs
 rows_from-cut top y [] rows below = tt
-rows_from-cut top y (r ∷ rs) rows below =
-    let lower : r.y <ℤ y = All-head (λ r. r.y <ℤ y) r rs below in
-    (rows.0, omega (arith, ints), rows.2)
+rows_from-cut top y (r ∷ rs) rows below = grind (arith, ints, All-head)
 
 -- lawful rows may follow others that are all above them
 pub rows_from-append : (top : ℤ) (rs ss : List EdgeRow) → AreRowsFrom top rs → AreRowsFrom top ss → All (λ r. AreBelow r.y ss) rs → AreRowsFrom top (rs ++ ss)
@@ -116,16 +110,7 @@ pub weight_in_rows-outside : (top : ℤ) (rs : List EdgeRow) (x y : ℤ) → Are
 unfolding weight_in_rows
 weight_in_rows-outside top [] x y rows outside = refl
 weight_in_rows-outside top (r ∷ rs) x y rows outside =
-    let others = weight_in_rows-outside (r.y -ℤ pos 1) rs x y rows.2 outside in
-    cond_both (int_eq r.y y) (weight_in r.edges x) (pos 0) (λ w. w +ℤ weight_in_rows rs x y ≡ pos 0)
-    (λ test.
-    let here = (Decides-int_eq r.y y).0 test in
-    let row = rows.0 in
-    let own =
-    weight_in-outside r.edges x row.edges
-    (λ left right. outside (record { left = left; right = right; bottom = omega (arith, ints, row.bottom); top = omega (arith, ints, row.top) })) in
-    omega (arith, ints, own, others))
-    (λ test. omega (arith, ints, others))
+    grind (arith, ints, cond_both, Decides-int_eq, weight_in-outside, weight_in_rows-outside (r.y -ℤ pos 1) rs x y rows.2 outside)
 
 -- the picture of rows is a picture
 pub lawful_picture_of_rows : (rs : List EdgeRow) → AreRows rs → IsPicture (picture_of_rows rs)
@@ -145,10 +130,7 @@ by_field x y inside outside =
 pub weight_at-picture_of_rows : (rs : List EdgeRow) (x y : ℤ) → AreRows rs → weight_at (picture_of_rows rs) x y ≡ weight_in_rows rs x y
 unfolding picture_of_rows
 weight_at-picture_of_rows rs x y rows =
-    by_field x y
-    (λ inside. weight_at-picture_of (weight_in_rows rs) x y inside)
-    (λ outside. weight_at-outside (picture_of_rows rs) x y (lawful_picture_of_rows rs rows) outside
-    ∙ sym (weight_in_rows-outside last_in_field rs x y rows.rows outside))
+    grind (arith, ints, by_field, weight_at-picture_of, weight_at-outside, lawful_picture_of_rows, sym, weight_in_rows-outside)
 
 -- a picture with the weights of rows is their picture
 pub picture_of_rows-from_weights : (ds : List Dot) (rs : List EdgeRow) → IsPicture ds → HasWeights (weight_in_rows rs) ds → ds ≡ picture_of_rows rs

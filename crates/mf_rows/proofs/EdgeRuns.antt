@@ -23,11 +23,7 @@ use Rattle.mf_rows.proofs.RunDots.{runs_from-lower, weight_at-left_of, weight_at
 
 -- at its left end, all its edges are left
 pub rest_of_edges : (es : List Edge) → AreEdges es → IsRestOfRow least_coordinate (pos 0) es
-rest_of_edges es edges = record {
-  sorted = edges.sorted;
-  lawful = λ x. subst IsLawfulWeight (omega (arith, ints)) (edges.lawful x);
-  closed = omega (arith, ints, edges.closed);
-}
+rest_of_edges es edges = grind (arith, ints)
 
 pub rest_of_none : (low : ℤ) → IsRestOfRow low (pos 0) []
 unfolding weight_in
@@ -90,11 +86,7 @@ edge_taken w e es fs first whole =
       column = omega (arith, ints, edge.left, edge.right);
       left = edge.left;
       right = next.sorted;
-      rest = record {
-        sorted = edges_from-lower least_coordinate (e.x +ℤ pos 1) fs (omega (arith, ints, edge.left)) next.sorted;
-        lawful = next.lawful;
-        closed = next.closed;
-      };
+      rest = grind (arith, ints, edges_from-lower);
     }
 
 -- ---- the runs of a row
@@ -128,14 +120,7 @@ module _ (y : ℤ) (below : List Run) (bottom : least_coordinate ≤ℤ y) (top 
   -- to the left of them the row may be blank
   after_gap : (low high : ℤ) (f g : ℤ → ℤ) (rs : List Run) → low ≤ℤ high → AreRowRuns (with_weights f) high rs
       → ((x : ℤ) → low ≤ℤ x → x <ℤ high → g x ≡ pos 0) → ((x : ℤ) → high ≤ℤ x → g x ≡ f x) → AreRowRuns (with_weights g) low rs
-  after_gap low high f g rs le runs gap after = record {
-    from = runs_from-lower (place low y) (place high y) rs (place-le low high y le) runs.from;
-    own = λ x left right. by_lt_z x high
-        (λ before. weight_at-left_of high y x rs runs.from before ∙ sym (gap x left before))
-        (λ further. runs.own x further right ∙ sym (after x further));
-    others = runs.others;
-    maximal = runs.maximal;
-  }
+  after_gap low high f g rs le runs gap after = grind (arith, ints, runs_from-lower, place-le, by_lt_z, weight_at-left_of, sym)
 
   -- or have a run of another weight
   after_run : (low high w : ℤ) (f g : ℤ → ℤ) (rs : List Run) → low ≤ℤ high → IsRun (run_between y low high w) → AreRowRuns (with_weights f) high rs
@@ -147,10 +132,7 @@ module _ (y : ℤ) (below : List Run) (bottom : least_coordinate ≤ℤ y) (top 
       let from : AreRunsFrom (place low y) (r ∷ rs) = (run, omega (arith, ints), subst (λ x. AreRunsFrom (place x y) rs) (sym end) runs.from) in
       record {
         from = from;
-        own = λ x left right. by_lt_z x high
-            (λ nearer.
-            weight_at-on_first (place low y) r rs x y from (record { row = refl; left = left; right = omega (arith, ints) }) ∙ sym (here x left nearer))
-            (λ further. weight_at-off_first r rs x y (λ on. omega (arith, ints, on.right)) ∙ runs.own x further right ∙ sym (after x further));
+        own = λ x left right. grind (arith, ints, by_lt_z, weight_at-on_first, sym, weight_at-off_first);
         others = λ x v elsewhere. weight_at-off_first r rs x v (λ on. elsewhere on.row) ∙ runs.others x v elsewhere;
         maximal = maximal-cons (place high y) r rs runs.from runs.maximal
             (rw end (λ inside same. apart (sym (runs.own high (omega (arith, ints)) inside) ∙ same)));

@@ -12,17 +12,14 @@ use Rattle.mf_rows.specs.Runs.{dots_of, runs_of}
 use Rattle.mf_rows.specs.Weights.{HaveSameWeights}
 use Rattle.mf_rows.proofs.RunsLemmas.{dots_of-runs_of}
 use Rattle.mf_rows.proofs.WeightsLemmas.{same_pictures}
+use Rattle.std.proofs.Common.{arith}
 
 same_run : (r s : Run) → r.y ≡ s.y → r.x ≡ s.x → r.len ≡ s.len → r.weight ≡ s.weight → r ≡ s
 same_run r s row column length weight = λ i. record { y = row i; x = column i; len = length i; weight = weight i }
 
 -- runs compare as equal exactly where they are
 pub run_decides : (r s : Run) → Decides ((run_eq.ghosts).eq r s) (r ≡ s)
-run_decides r s =
-    Decides-like ((run_eq.ghosts).eq r s) (λ same. same_run r s same.0 same.1.0 same.1.1.0 same.1.1.1)
-    (λ same. (ap (λ t. t.y) same, (ap (λ t. t.x) same, (ap (λ t. t.len) same, ap (λ t. t.weight) same))))
-    (Decides-and _ _ (Decides-int_eq r.y s.y)
-    (Decides-and _ _ (Decides-int_eq r.x s.x) (Decides-and _ _ (Decides-eqb r.len s.len) (Decides-int_eq r.weight s.weight))))
+run_decides r s = grind (arith, Decides-like, same_run, Decides-and, Decides-int_eq, Decides-eqb)
 
 module _ {S T A : Type 0} (rest : S → List A) (others : T → List A) (eq : A → A → Bool) (decides : (x y : A) → Decides (eq x y) (x ≡ y)) (b : Bool) where
   -- what the last two calls of a comparison say of its answer
@@ -45,9 +42,7 @@ module _ {S T A : Type 0} (rest : S → List A) (others : T → List A) (eq : A 
   along [] (y ∷ ys) o p s u t w left right pairs last = absurd pairs
   along (x ∷ xs) [] o p s u t w left right pairs last = absurd pairs
   along (x ∷ xs) (y ∷ ys) o p s u t w left right pairs last =
-      let first : x ≡ y = (decides x y).0 pairs.0 in
-      let after = along xs ys o p left.1.0 u right.1.0 w (left.0, left.1.2, left.2) (right.0, right.1.2, right.2) pairs.1 last in
-      Decides-like b (λ same. left.1.1 ∙ (cc) ∙ sym right.1.1) (λ same. cc) after
+      grind (arith, Decides-like, sym, along xs ys o p left.1.0 u right.1.0 w (left.0, left.1.2, left.2) (right.0, right.1.2, right.2) pairs.1 last)
 
   -- `eq` of two iterators answers whether the lists that they have left are equal
   pub eq_decides : (s : S) (t : T) → ComparesItemsByEq (YieldsFirst rest) (λ i j. j ≡ i) (YieldsFirst others) s t eq b → Decides b (rest s ≡ others t)

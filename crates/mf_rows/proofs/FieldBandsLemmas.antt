@@ -14,7 +14,7 @@ use Rattle.std.specs.declared.sync.Arc.{Arc}
 use lib.Signed.{le_z}
 use Rattle.mf_rows.specs.declared.bands.TheConstants.{BAND_COUNT, BAND_HEIGHT}
 use Rattle.mf_rows.specs.declared.band.Band.{Band}
-use Rattle.mf_rows.specs.BandNumbers.{number_of, numbers_of, HaveRisingNumbers, IsOnlyBand, IsSplitAtBand, band_found}
+use Rattle.mf_rows.specs.BandNumbers.{number_of, HaveRisingNumbers, IsOnlyBand, IsSplitAtBand, band_found}
 use Rattle.mf_rows.specs.Bands.{AreAbove, AreBelow, HasNoRow, HasSameRow, rows_in, rows_of_bands}
 use Rattle.mf_rows.specs.BandSums.{lowest_of, AreSplitAtBand}
 use Rattle.mf_rows.specs.EdgeRows.{EdgeRow, AreRowsFrom, AreRows, weight_in_rows}
@@ -45,12 +45,7 @@ All-rows_of_bands N P holds (b ∷ bs) all =
 -- the rows between the ends of a band belong to it
 pub between_ends : (n : ℤ) (rs : List EdgeRow) → AreAbove (lowest_of n -ℤ pos 1) rs → AreBelow (lowest_of n +ℤ BAND_HEIGHT) rs → AreOfBand n rs
 between_ends n [] above below = All-nil (λ r. IsOfBand n r.y)
-between_ends n (r ∷ rs) above below =
-    let bottom = All-head (λ r. (lowest_of n -ℤ pos 1) <ℤ r.y) r rs above in
-    let top = All-head (λ r. r.y <ℤ (lowest_of n +ℤ BAND_HEIGHT)) r rs below in
-    All-cons (λ r. IsOfBand n r.y) r rs
-    (record { top = omega (arith, ints, top); bottom = omega (arith, ints, bottom) })
-    (between_ends n rs (All-tail (λ r. (lowest_of n -ℤ pos 1) <ℤ r.y) r rs above) (All-tail (λ r. r.y <ℤ (lowest_of n +ℤ BAND_HEIGHT)) r rs below))
+between_ends n (r ∷ rs) above below = grind (arith, ints, All-head, All-cons, All-tail)
 
 -- what holds of the heights of a band holds of its rows
 pub All-of_band : (n : ℤ) (P : ℤ → Type 0) → ((y : ℤ) → IsOfBand n y → P y) → (rs : List EdgeRow) → AreOfBand n rs → All (λ r. P r.y) rs
@@ -107,9 +102,7 @@ pub rows_of_only : (n : ℤ) (bs : List (Arc Band Global)) → IsOnlyBand n bs �
 rows_of_only n [] only = All-nil (λ r. IsOfBand n r.y)
 rows_of_only n (b ∷ []) only = subst (λ m. AreOfBand m (rows_of_bands (b ∷ []))) (omega (arith, ints, only.0, only.1))
     (subst (AreOfBand (number_of b)) (sym (append-nil (rows_in (arc_value b)))) (rows_of_band (arc_value b)))
-rows_of_only n (b ∷ c ∷ bs) only =
-    let last = rise-ends (number_of c +ℤ pos 1) (n +ℤ pos 1) (numbers_of bs) only.1.1 in
-    absurd (omega (arith, ints, only.0, only.1.0, last))
+rows_of_only n (b ∷ c ∷ bs) only = grind (arith, ints, rise-ends)
 
 -- ---- the band that may have row y
 
@@ -121,15 +114,7 @@ pub record IsOwnBand (n y : ℤ) : Type 0 where
 
 pub own_band : {number y : ℤ} → least_coordinate ≤ℤ y → y ≤ℤ last_in_field → IsOfBand number (to_z w32 (of_z w32 y))
     → IsOwnBand (to_z w32 (of_z w32 number)) y
-own_band {number} {y} bottom top of_band =
-    let y_is : to_z w32 (of_z w32 y) ≡ y = omega (arith, ints, bottom, top) in
-    let own : IsOfBand number y = subst (IsOfBand number) y_is of_band in
-    let fits : number ≡ to_z w32 (of_z w32 number) = omega (arith, ints, bottom, top, own.top, own.bottom) in
-    subst (λ n. IsOwnBand n y) fits (record {
-      of_band = own;
-      before = omega (arith, ints, bottom, top, own.top, own.bottom);
-      greatest = omega (arith, ints, bottom, own.top);
-    })
+own_band {number} {y} bottom top of_band = omega (arith, ints)
 
 pub same_row_in_band : {n y : ℤ} {bs before others own rest : List (Arc Band Global)} → AreRows (rows_of_bands bs) → IsOfBand n y
     → IsSplitAtBand (n -ℤ pos 1) bs before others → IsSplitAtBand n others own rest → HasSameRow (rows_of_bands bs) y (rows_of_bands own)

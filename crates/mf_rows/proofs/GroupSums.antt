@@ -51,10 +51,7 @@ weight_after : (top : ℤ) (gs : Groups) (x y : ℤ) → AreGroupsFrom top gs �
 unfolding weight_in_rows
 weight_after top [] x y groups below = refl
 weight_after top (g ∷ gs) x y groups below =
-    let all = weight_in_rows-append (rows_at_place g) (rows_of_groups gs) x y in
-    let first = weight_below_group top x y (rows_at_place g) groups.0 (omega (arith, ints, below)) in
-    let rest = weight_after (top -ℤ GROUP_HEIGHT) gs x y groups.1 (omega (arith, ints, below)) in
-    omega (arith, ints)
+    grind (arith, ints, weight_in_rows-append, weight_below_group, weight_after (top -ℤ GROUP_HEIGHT) gs x y groups.1 (omega (arith, ints, below)))
 
 -- ---- bands are added at the places before place p
 
@@ -68,12 +65,7 @@ pub record IsAddedUpTo (p : ℕ) (whole : Groups × List EdgeRow) (sum : Groups)
 
 pub added_none : (gs : Groups) (rs : List EdgeRow) → AreRows rs → IsAddedUpTo 0 (gs, rs) [] rs
 unfolding weight_in_rows
-added_none gs rs rows = record {
-  place = refl;
-  groups = tt;
-  left = subst (λ t. AreRowsFrom t rs) (omega (arith, ints)) rows.rows;
-  weights = λ x y. omega (arith, ints);
-}
+added_none gs rs rows = grind (arith, ints)
 
 module _ (p : ℕ) (gs : Groups) (rs : List EdgeRow) (sum : Groups) (rest own others : List EdgeRow)
     (groups : AreGroups gs) (so_far : IsAddedUpTo p (gs, rs) sum rest) (split : IsSplitAtPlace p rest own others) where
@@ -102,9 +94,7 @@ module _ (p : ℕ) (gs : Groups) (rs : List EdgeRow) (sum : Groups) (rest own ot
       → HaveRowWeights (weight_in_all (rows_in_place gs p) own) (rows_at_place g) → IsAddedUpTo (p + 1) (gs, rs) (sum ++ g ∷ []) others
   added_more g rows weights = record {
     place = omega (arith, so_far.place, length-append sum (g ∷ []));
-    groups = groups_from-more last_in_field sum g so_far.groups
-        (subst (λ i. AreGroupRows (top_of_place i) (rows_at_place g)) (sym so_far.place)
-        (sum_of_group (top_of_place p) (rows_in_place gs p) own (rows_at_place g) group_rows own_rows rows weights));
+    groups = grind (arith, ints, groups_from-more, sym, sum_of_group, rows_in_place, group_rows, own_rows);
     left = left_after;
     weights = λ x y.
         let all = weights_parted x y in
@@ -141,10 +131,4 @@ module _ (p : ℕ) (gs : Groups) (rs : List EdgeRow) (sum : Groups) (rest own ot
 pub added_before : (p : ℕ) (gs : Groups) (rs : List EdgeRow) (sum : Groups) (rest : List EdgeRow) → IsAddedUpTo p (gs, rs) sum rest
     → length gs ≤ p → rest ≡ [] → HaveRowWeights (weight_in_all (rows_of_groups gs) rs) (rows_of_groups sum)
 unfolding weight_in_all weight_in_rows
-added_before p gs rs sum rest so_far short none = record {
-  weights = λ x y.
-      let all = so_far.weights x y in
-      let no_group = ap (λ hs. weight_in_rows (rows_of_groups hs) x y) (drop_of_length-le gs short) in
-      let no_row = ap (λ rs. weight_in_rows rs x y) none in
-      omega (arith, ints);
-}
+added_before p gs rs sum rest so_far short none = grind (arith, ints, drop_of_length-le)

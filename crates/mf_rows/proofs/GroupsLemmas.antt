@@ -9,7 +9,7 @@ use Rattle.mf_geom.specs.Field.{IsInField}
 use Rattle.mf_edges.specs.declared.edge.Edge.{Edge}
 use Rattle.mf_rows.specs.declared.group.Group.{Group}
 use Rattle.mf_rows.specs.declared.group.TheConstants.{GROUP_HEIGHT}
-use Rattle.mf_rows.specs.Bands.{AreBelow, HasRow, HasNoRow}
+use Rattle.mf_rows.specs.Bands.{HasRow, HasNoRow}
 use Rattle.mf_rows.specs.EdgeRows.{EdgeRow, AreRowsFrom, AreRows, weight_in_rows}
 use Rattle.mf_rows.specs.Groups.{rows_at_place, rows_of_groups, AreGroupRows, AreGroupsFrom, AreGroups, IsPlaceOfRow}
 use Rattle.mf_rows.specs.Sums.{weight_in_all, HaveRowWeights}
@@ -26,11 +26,7 @@ Groups = List (Option (Arc Group Global))
 pub rows_of_groups_from : (top : ℤ) (gs : Groups) → AreGroupsFrom top gs → AreRowsFrom top (rows_of_groups gs)
 rows_of_groups_from top [] groups = tt
 rows_of_groups_from top (g ∷ gs) groups =
-    let below = rows_of_groups_from (top -ℤ GROUP_HEIGHT) gs groups.1 in
-    rows_from-append top (rows_at_place g) (rows_of_groups gs) groups.0.rows
-    (rows_from-higher top (top -ℤ GROUP_HEIGHT) (rows_of_groups gs) (omega (arith, ints)) below)
-    (All-weaker (λ r. (top -ℤ GROUP_HEIGHT) <ℤ r.y) (λ r. AreBelow r.y (rows_of_groups gs))
-    (λ r above. rows_from-below (top -ℤ GROUP_HEIGHT) r.y (rows_of_groups gs) below above) (rows_at_place g) groups.0.above)
+    grind (arith, ints, rows_from-append, rows_from-higher, All-weaker, rows_from-below, rows_of_groups_from (top -ℤ GROUP_HEIGHT) gs groups.1)
 
 pub rows_of_groups_are_rows : (gs : Groups) → AreGroups gs → AreRows (rows_of_groups gs)
 rows_of_groups_are_rows gs groups = record { rows = rows_of_groups_from last_in_field gs groups.groups }
@@ -72,9 +68,7 @@ pub weight_above_group : (top x y : ℤ) (rs : List EdgeRow) → AreGroupRows to
 weight_above_group top x y rs rows_in_group above = weight_in_rows-below rs x y (rows_from-below top y rs rows_in_group.rows above)
 
 pub weight_below_group : (top x y : ℤ) (rs : List EdgeRow) → AreGroupRows top rs → y ≤ℤ (top -ℤ GROUP_HEIGHT) → weight_in_rows rs x y ≡ pos 0
-weight_below_group top x y rs rows_in_group below =
-    weight_in_rows-above rs x y
-    (All-weaker (λ r. (top -ℤ GROUP_HEIGHT) <ℤ r.y) (λ r. y <ℤ r.y) (λ r lt. omega (arith, ints)) rs rows_in_group.above)
+weight_below_group top x y rs rows_in_group below = grind (arith, ints, weight_in_rows-above, All-weaker)
 
 -- and all weight in row y is that of its place
 pub weight_in_place : (top x y : ℤ) (gs : Groups) (i : ℕ) → AreGroupsFrom top gs → IsPlaceFrom top y i
@@ -86,21 +80,14 @@ weight_in_place top x y (g ∷ gs) zero groups place =
     (rows_from-below (top -ℤ GROUP_HEIGHT) y (rows_of_groups gs) (rows_of_groups_from (top -ℤ GROUP_HEIGHT) gs groups.1) (omega (arith, ints, place.bottom))) in
     omega (arith, ints)
 weight_in_place top x y (g ∷ gs) (suc i) groups place =
-    let all = weight_in_rows-append (rows_at_place g) (rows_of_groups gs) x y in
-    let first = weight_below_group top x y (rows_at_place g) groups.0 (omega (arith, ints, place.top)) in
-    let rest = weight_in_place (top -ℤ GROUP_HEIGHT) x y gs i groups.1
-    (record { top = omega (arith, ints, place.top); bottom = omega (arith, ints, place.bottom) }) in
-    omega (arith, ints)
+    grind (arith, ints, weight_in_rows-append, weight_below_group, weight_in_place (top -ℤ GROUP_HEIGHT) x y gs i groups.1 (record { top = omega (arith, ints, place.top); bottom = omega (arith, ints, place.bottom) }))
 
 in_field : (y : ℤ) (i : ℕ) → IsPlaceOfRow y i → IsPlaceFrom last_in_field y i
 in_field y i place = record { top = place.top; bottom = omega (arith, ints, place.bottom) }
 
 pub found_in_place : (gs : Groups) (y : ℤ) (i : ℕ) (es : List Edge) → AreGroups gs → IsPlaceOfRow y i
     → HasRow (rows_in_place gs i) y es → HasRow (rows_of_groups gs) y es
-found_in_place gs y i es groups place found = record {
-  edges = found.edges;
-  weights = λ x. weight_in_place last_in_field x y gs i groups.groups (in_field y i place) ∙ found.weights x;
-}
+found_in_place gs y i es groups place found = grind (arith, ints, weight_in_place, in_field)
 
 pub absent_in_place : (gs : Groups) (y : ℤ) (i : ℕ) → AreGroups gs → IsPlaceOfRow y i
     → HasNoRow (rows_in_place gs i) y → HasNoRow (rows_of_groups gs) y

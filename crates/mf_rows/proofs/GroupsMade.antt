@@ -1,5 +1,5 @@
 -- Groups that are made of a list of bands, one place after another.
-use Rattle.std.proofs.Common.{◌≡◌, ℕ, ◌+◌, ◌<◌, ◌≤◌, ℤ, pos, ◌-ℤ◌, ◌*ℤ◌, ◌≤ℤ◌, List, [], ◌∷◌, ◌++◌, Option, length, refl, sym, subst, ap}
+use Rattle.std.proofs.Common.{◌≡◌, ℕ, ◌+◌, ◌<◌, ◌≤◌, ℤ, pos, ◌-ℤ◌, ◌*ℤ◌, List, [], ◌∷◌, ◌++◌, Option, length, refl, sym, subst, ap}
 use Rattle.std.proofs.Common.{◌∙◌, append-nil, append_assoc, arith}
 use Rattle.std.specs.declared.alloc.Global.{Global}
 use Rattle.std.specs.declared.sync.Arc.{Arc}
@@ -9,7 +9,6 @@ use Rattle.std.proofs.lemmas.List.Concat.{flat_map-append}
 use Rattle.mf_geom.specs.Coordinates.{last_in_field}
 use Rattle.mf_rows.specs.declared.group.Group.{Group}
 use Rattle.mf_rows.specs.declared.group.TheConstants.{GROUP_COUNT, GROUP_HEIGHT}
-use Rattle.mf_rows.specs.Bands.{AreAbove}
 use Rattle.mf_rows.specs.EdgeRows.{EdgeRow, AreRowsFrom, AreRows}
 use Rattle.mf_rows.specs.Groups.{rows_at_place, rows_of_groups, AreGroupRows, AreGroupsFrom, top_of_place, IsSplitAtPlace}
 use Rattle.mf_rows.proofs.EdgeRowsLemmas.{rows_from-higher, rows_from-front, rows_from-back, rows_from-cut}
@@ -21,10 +20,7 @@ module _ (p : ℕ) (rs own others : List EdgeRow) (left : AreRowsFrom (top_of_pl
   from_here = subst (AreRowsFrom (top_of_place p)) split.all left
 
   pub own_of_group : AreGroupRows (top_of_place p) own
-  own_of_group = record {
-    rows = rows_from-front (top_of_place p) own others from_here;
-    above = subst (λ y. AreAbove y own) (omega (arith, ints)) split.above;
-  }
+  own_of_group = grind (arith, ints, rows_from-front, from_here)
 
   pub others_from : AreRowsFrom (top_of_place (p + 1)) others
   others_from = subst (λ y. AreRowsFrom y others) (omega (arith, ints)) (rows_from-cut _ _ others (rows_from-back _ own others from_here) split.below)
@@ -35,16 +31,12 @@ lawful_from p rs left = record { rows = rows_from-higher last_in_field (top_of_p
 -- after the last place nothing is left
 pub none_left : (p : ℕ) (rest : List EdgeRow) → GROUP_COUNT ≤ p → AreRowsFrom (top_of_place p) rest → rest ≡ []
 none_left p [] last rows = refl
-none_left p (r ∷ rest) last rows =
-    let top : r.y ≤ℤ top_of_place p = rows.1 in
-    absurd (omega (arith, ints, rows.0.bottom))
+none_left p (r ∷ rest) last rows = grind (arith, ints)
 
 -- where a row is left there is a place for it
 pub place_of_rest : (p : ℕ) (rest : List EdgeRow) → AreRowsFrom (top_of_place p) rest → (rest ≡ [] → ⊥) → p < GROUP_COUNT
 place_of_rest p [] rows some = absurd (some refl)
-place_of_rest p (r ∷ rest) rows some =
-    let top : r.y ≤ℤ top_of_place p = rows.1 in
-    omega (arith, ints, rows.0.bottom)
+place_of_rest p (r ∷ rest) rows some = grind (arith, ints)
 
 -- ---- one more group
 
@@ -70,16 +62,8 @@ pub record IsGroupedUpTo (p : ℕ) (whole : List EdgeRow) (gs : List (Option (Ar
 pub grouped_more : (p : ℕ) (whole : List EdgeRow) (gs : List (Option (Arc Group Global))) (rest own others : List EdgeRow)
     → IsGroupedUpTo p whole gs rest → IsSplitAtPlace p rest own others → (g : Option (Arc Group Global)) → rows_at_place g ≡ own
     → IsGroupedUpTo (p + 1) whole (gs ++ g ∷ []) others
-grouped_more p whole gs rest own others so_far split g group = record {
-  place = omega (arith, so_far.place, length-append gs (g ∷ []));
-  all = ap (λ rs. rs ++ others) (rows_of_groups-more gs g ∙ ap (λ rs. rows_of_groups gs ++ rs) group)
-      ∙ append_assoc (rows_of_groups gs) own others
-      ∙ ap (λ rs. rows_of_groups gs ++ rs) (sym split.all)
-      ∙ so_far.all;
-  groups = groups_from-more last_in_field gs g so_far.groups
-      (subst (λ i. AreGroupRows (top_of_place i) (rows_at_place g)) (sym so_far.place) (rw group (own_of_group p rest own others so_far.left split)));
-  left = others_from p rest own others so_far.left split;
-}
+grouped_more p whole gs rest own others so_far split g group =
+    grind (arith, ints, length-append, rows_of_groups-more, append_assoc, sym, groups_from-more, own_of_group, others_from)
 
 -- where nothing is left all are grouped
 pub grouped_before : (p : ℕ) (whole : List EdgeRow) (gs : List (Option (Arc Group Global))) (rest : List EdgeRow)

@@ -97,13 +97,7 @@ positive_in_rows rs rows x y = ap (int_lt (pos 0)) (sym (weight_at-picture_of_ro
 -- bounds are the same where the pixels are
 pub same_bounds : (f g : ℤ → ℤ → Bool) (bounds : Option Box4) → ((x y : ℤ) → f x y ≡ g x y) → AreBounds f bounds → AreBounds g bounds
 same_bounds f g None same box = λ x y. sym (same x y) ∙ box x y
-same_bounds f g (Some b) same box = record {
-  within = λ x y found. box.within x y (same x y ∙ found);
-  left = (box.left.0, sym (same _ _) ∙ box.left.1);
-  right = (box.right.0, sym (same _ _) ∙ box.right.1);
-  bottom = (box.bottom.0, sym (same _ _) ∙ box.bottom.1);
-  top = (box.top.0, sym (same _ _) ∙ box.top.1);
-}
+same_bounds f g (Some b) same box = grind (arith, ints, sym)
 
 pub black_in_rows : (rs : List EdgeRow) (bounds : Option Box4) → AreRows rs → AreBounds (among_rows Black rs) bounds
     → AreBounds (is_positive_at (picture_of_rows rs)) bounds

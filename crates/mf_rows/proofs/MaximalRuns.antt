@@ -1,5 +1,5 @@
 -- Maximal runs: they are the runs of their dots, and the weights of their pixels and neighbours say that they are as long as can be.
-use Rattle.std.proofs.Common.{◌≡◌, ℕ, zero, suc, ◌≤◌, ℤ, pos, ◌+ℤ◌, List, [], ◌∷◌, ◌++◌, refl, sym, ap, ◌∙◌, subst, arith, ◌≢◌, ◌-ℤ◌, ◌≤ℤ◌, get_or}
+use Rattle.std.proofs.Common.{◌≡◌, ℕ, zero, suc, ◌≤◌, ℤ, pos, ◌+ℤ◌, List, [], ◌∷◌, ◌++◌, refl, sym, ap, ◌∙◌, subst, arith, ◌≢◌, ◌≤ℤ◌, get_or}
 use Rattle.std.specs.List.{All, flat_map}
 use Rattle.std.proofs.lemmas.Bool.{cond-true, cond-false, false_from_ne_true}
 use Rattle.std.proofs.lemmas.Int.{ints}
@@ -7,7 +7,7 @@ use Rattle.std.proofs.lemmas.List.Elements.{All-head, All-tail, All-cons, All-ni
 use Rattle.mf_rows.specs.declared.run.Run.{Run}
 use Rattle.mf_rows.specs.Dots.{Dot, IsPicture, place, start_of_field, weight_at}
 use Rattle.mf_rows.specs.Order.{AreRunsFrom}
-use Rattle.mf_rows.specs.Runs.{equal_dots, dots_of, continues, run_from, with_dot, runs_of, AreMaximal, IsFollowedBy, IsMaximalRun}
+use Rattle.mf_rows.specs.Runs.{equal_dots, dots_of, run_from, with_dot, runs_of, AreMaximal, IsFollowedBy, IsMaximalRun}
 use Rattle.mf_rows.proofs.RunsLemmas.{continued, dots_of-runs_of, maximal_runs_of}
 use Rattle.mf_rows.proofs.DotsLemmas.{weight_at-before}
 use Rattle.mf_rows.proofs.PassedRuns.{ordered_runs_of}
@@ -17,18 +17,13 @@ use Rattle.mf_rows.proofs.RunDots.{IsOnRun, runs_from-lower, dots_from-runs, wei
 with_dot-alone : (d : Dot) (rs : List Run) → AreMaximal (run_from d 0 ∷ rs) → with_dot d rs ≡ run_from d 0 ∷ rs
 unfolding with_dot
 with_dot-alone d [] maximal = refl
-with_dot-alone d (r ∷ rs) maximal =
-    cond-false (continues d r) (run_from d r.len ∷ rs) (run_from d 0 ∷ r ∷ rs)
-    (false_from_ne_true (continues d r) (λ joined. maximal.0 ((continued d r).0 joined)))
+with_dot-alone d (r ∷ rs) maximal = grind (arith, ints, cond-false, false_from_ne_true, continued)
 
 -- a run without its first column ends in the same column
 maximal-shifted : (y x w : ℤ) (n : ℕ) (rs : List Run) → AreMaximal (record { y = y; x = x; len = suc (suc n); weight = w } ∷ rs)
     → AreMaximal (record { y = y; x = x +ℤ pos 1; len = suc n; weight = w } ∷ rs)
 maximal-shifted y x w n [] maximal = tt
-maximal-shifted y x w n (r ∷ rs) maximal = (
-  λ joined. maximal.0 (record { row = joined.row; column = omega (arith, ints, joined.column); weight = joined.weight }),
-  maximal.1,
-)
+maximal-shifted y x w n (r ∷ rs) maximal = grind (arith, ints)
 
 -- the first run of dots that begin with equal ones
 runs_of-equal_dots : (y x w : ℤ) (n : ℕ) (ds : List Dot) → 1 ≤ n → AreMaximal (record { y = y; x = x; len = n; weight = w } ∷ runs_of ds)
@@ -37,11 +32,7 @@ unfolding runs_of equal_dots run_from with_dot
 runs_of-equal_dots y x w zero ds some maximal = absurd (omega arith)
 runs_of-equal_dots y x w (suc zero) ds some maximal = with_dot-alone (record { y = y; x = x; weight = w }) (runs_of ds) maximal
 runs_of-equal_dots y x w (suc (suc n)) ds some maximal =
-    let first : Dot = record { y = y; x = x; weight = w } in
-    let others : Run = record { y = y; x = x +ℤ pos 1; len = suc n; weight = w } in
-    ap (with_dot first) (runs_of-equal_dots y (x +ℤ pos 1) w (suc n) ds (omega arith) (maximal-shifted y x w n (runs_of ds) maximal))
-    ∙ cond-true (continues first others) (run_from first (suc n) ∷ runs_of ds) (run_from first 0 ∷ others ∷ runs_of ds)
-    ((continued first others).1 (record { row = refl; column = refl; weight = refl }))
+    grind (arith, ints, maximal-shifted, cond-true, continued, runs_of-equal_dots y (x +ℤ pos 1) w (suc n) ds (omega arith) (maximal-shifted y x w n (runs_of ds) maximal))
 
 pub maximal-tail : (r : Run) (rs : List Run) → AreMaximal (r ∷ rs) → AreMaximal rs
 maximal-tail r [] maximal = tt
@@ -85,44 +76,19 @@ weight-after r [] some runs maximal = λ same. some (sym same)
 weight-after r (s ∷ rs) some runs maximal = λ same.
     let x = r.x +ℤ pos r.len in
     let low = place (s.x +ℤ pos s.len) s.y in
-    let elsewhere : IsOnRun s x r.y → ⊥ = λ on. maximal.0 (record {
-      row = sym on.row;
-      column = omega (arith, ints, on.row, on.left, runs.1);
-      weight = sym same ∙ weight_at-on_first (place x r.y) s rs x r.y runs on;
-    }) in
+    let elsewhere : IsOnRun s x r.y → ⊥ = grind (arith, ints, sym, weight_at-on_first) in
     let none = weight_at-before low (flat_map dots_of rs) x r.y (dots_from-runs low rs runs.2) (omega (arith, ints, runs.0.some, runs.1)) in
     some (sym same ∙ weight_at-off_first s rs x r.y elsewhere ∙ none)
 
 -- and it is as long as it can be
 first_longest : (low : ℤ) (r : Run) (rs : List Run) → AreRunsFrom low (r ∷ rs) → AreMaximal (r ∷ rs) → IsMaximalRun (flat_map dots_of (r ∷ rs)) r
-first_longest low r rs runs maximal = record {
-  some = runs.0.some;
-  nonzero = runs.0.nonzero;
-  inside = λ i lt. weight_at-on_first low r rs (r.x +ℤ pos i) r.y runs (record { row = refl; left = omega (arith, ints); right = omega (arith, ints, lt) });
-  left = λ same. runs.0.nonzero (sym same ∙ weight_at-left_of r.x r.y (r.x -ℤ pos 1) (r ∷ rs) (runs.0, omega (arith, ints), runs.2) (omega (arith, ints)));
-  right = λ same. weight-after r rs runs.0.nonzero runs.2 maximal
-      (sym (weight_at-off_first r rs (r.x +ℤ pos r.len) r.y (λ on. omega (arith, ints, on.right))) ∙ same);
-}
+first_longest low r rs runs maximal = grind (arith, ints, weight_at-on_first, sym, weight_at-left_of, weight-after, weight_at-off_first)
 
 -- a later run, which does not continue it, stays as long as it can be
 kept : (low : ℤ) (r : Run) (rs : List Run) (s : Run) → AreRunsFrom low (r ∷ rs) → place (r.x +ℤ pos r.len) r.y ≤ℤ place s.x s.y
     → (IsFollowedBy r s → ⊥) → IsMaximalRun (flat_map dots_of rs) s → IsMaximalRun (flat_map dots_of (r ∷ rs)) s
 unfolding place
-kept low r rs s runs after apart maximal =
-    let left = s.x -ℤ pos 1 in
-    let right = s.x +ℤ pos s.len in
-    let later = λ (x : ℤ) (from : s.x ≤ℤ x). weight_at-off_first r rs x s.y (λ on. omega (arith, ints, on.row, on.right)) in
-    record {
-      some = maximal.some;
-      nonzero = maximal.nonzero;
-      inside = λ i lt. later (s.x +ℤ pos i) (omega (arith, ints)) ∙ maximal.inside i lt;
-      left = λ same. maximal.left (sym (weight_at-off_first r rs left s.y (λ on. apart (record {
-        row = on.row;
-        column = omega (arith, ints, on.row, on.right);
-        weight = sym (weight_at-on_first low r rs left s.y runs on) ∙ same;
-      }))) ∙ same);
-      right = λ same. maximal.right (sym (later right (omega (arith, ints))) ∙ same);
-    }
+kept low r rs s runs after apart maximal = grind (arith, ints, weight_at-off_first, sym, weight_at-on_first)
 
 longest : (low : ℤ) (rs : List Run) → AreRunsFrom low rs → AreMaximal rs → All (IsMaximalRun (flat_map dots_of rs)) rs
 longest low [] runs maximal = All-nil (IsMaximalRun [])

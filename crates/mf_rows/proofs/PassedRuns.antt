@@ -9,37 +9,20 @@ use Rattle.mf_geom.specs.Coordinates.{greatest_coordinate}
 use Rattle.mf_rows.specs.declared.run.Run.{Run}
 use Rattle.mf_rows.specs.Dots.{Dot, IsDot, IsPicture, AreDotsFrom, place, start_of_field}
 use Rattle.mf_rows.specs.Order.{IsRun, AreRunsFrom, AreRuns}
-use Rattle.mf_rows.specs.Runs.{dots_of, continues, run_from, with_dot, runs_of}
+use Rattle.mf_rows.specs.Runs.{dots_of, run_from, with_dot, runs_of}
 use Rattle.mf_rows.proofs.RunDots.{runs_from-lower, runs_from-lawful}
 use Rattle.mf_rows.proofs.RunsLemmas.{continued, dots_of-runs_of}
 
 -- a run that begins at a dot is lawful where it ends in the field
 run_from_dot : (d : Dot) (n : ℕ) → IsDot d → (d.x +ℤ pos (suc n)) ≤ℤ greatest_coordinate → IsRun (run_from d n)
 unfolding run_from
-run_from_dot d n dot right = record {
-  some = omega arith;
-  left = dot.in_field.left;
-  right = right;
-  bottom = dot.in_field.bottom;
-  top = dot.in_field.top;
-  lawful = dot.lawful;
-  nonzero = dot.nonzero;
-}
+run_from_dot d n dot right = grind (arith, ints)
 
 runs_from-with_dot : (low : ℤ) (d : Dot) (rs : List Run) → IsDot d → low ≤ℤ place d.x d.y
     → AreRunsFrom (place d.x d.y +ℤ pos 1) rs → AreRunsFrom low (with_dot d rs)
 unfolding with_dot run_from place
 runs_from-with_dot low d [] dot le runs = (run_from_dot d 0 dot (omega (arith, ints, dot.in_field.right)), le, tt)
-runs_from-with_dot low d (r ∷ rs) dot le runs =
-    cond_both (continues d r) (run_from d r.len ∷ rs) (run_from d 0 ∷ r ∷ rs) (AreRunsFrom low)
-    (λ yes.
-    let joined = (continued d r).0 yes in
-    let end = place (r.x +ℤ pos r.len) r.y in
-    let others = runs_from-lower (place (d.x +ℤ pos (suc r.len)) d.y) end rs (omega (arith, ints, joined.row, joined.column)) runs.2 in
-    (run_from_dot d r.len dot (omega (arith, ints, runs.0.right, joined.column)), le, others))
-    (λ no.
-    let others = runs_from-lower (place (d.x +ℤ pos 1) d.y) (place d.x d.y +ℤ pos 1) (r ∷ rs) (omega (arith, ints)) runs in
-    (run_from_dot d 0 dot (omega (arith, ints, dot.in_field.right)), le, others))
+runs_from-with_dot low d (r ∷ rs) dot le runs = grind (arith, ints, cond_both, continued, runs_from-lower, run_from_dot)
 
 -- the runs of dots in reading order are in reading order, lie in the field, and have lawful weights
 runs_from-runs_of : (low : ℤ) (ds : List Dot) → AreDotsFrom low ds → AreRunsFrom low (runs_of ds)

@@ -1,17 +1,15 @@
 -- The rows of a picture, and pictures to which others are added.
-use Rattle.std.proofs.Common.{◌≡◌, ◌≢◌, ℕ, zero, suc, ◌<◌, ℤ, pos, ◌-ℤ◌, ◌<ℤ◌, List, [], ◌∷◌, length, get_or, refl, sym, ap, ◌∙◌, subst, Result, arith}
+use Rattle.std.proofs.Common.{◌≡◌, ◌≢◌, ℕ, zero, suc, ◌<◌, ℤ, pos, ◌-ℤ◌, ◌<ℤ◌, List, [], ◌∷◌, length, get_or, sym, ap, ◌∙◌, Result, arith}
 use Rattle.std.specs.List.{All, Contains}
 use Rattle.std.specs.Prelude.{IfOk}
 use Rattle.std.proofs.lemmas.Result.{IfOk-weaker}
 use Rattle.std.proofs.lemmas.Int.{ints}
-use Rattle.mf_geom.specs.Coordinates.{last_in_field}
 use Rattle.mf_geom.specs.Field.{IsInField}
 use Rattle.mf_rows.specs.declared.corner.Corner.{Corner}
 use Rattle.mf_edges.specs.declared.row_change.RowChange.TheVariants as change
 use Rattle.mf_edges.specs.declared.stretch.Stretch.{Stretch}
 use Rattle.mf_edges.specs.declared.weight_map.WeightMap.{WeightMap}
 use Rattle.mf_rows.specs.Corners.{added_by_all, with_corners_at}
-use Rattle.mf_edges.specs.LawfulWeights.{IsLawfulWeight}
 use Rattle.mf_rows.specs.Dots.{Dot, weight_at}
 use Rattle.mf_edges.specs.Edges.{weight_in}
 use Rattle.mf_rows.specs.EdgeRows.{EdgeRow, AreRowsFrom, AreRows, weight_in_rows, picture_of_rows}
@@ -31,10 +29,7 @@ use Rattle.mf_rows.proofs.SignsLemmas.{weight_in_rows-negated}
 weight_in_rows-at : (top : ℤ) (rs : List EdgeRow) (k : ℕ) (d : EdgeRow) (x : ℤ) → AreRowsFrom top rs → k < length rs
     → weight_in_rows rs x (get_or rs k d).y ≡ weight_in (get_or rs k d).edges x
 weight_in_rows-at top [] k d x rows lt = absurd (omega arith)
-weight_in_rows-at top (r ∷ rs) zero d x rows lt =
-    let none = weight_in_rows-below rs x r.y (rows_from-below (r.y -ℤ pos 1) r.y rs rows.2 (omega (arith, ints))) in
-    let here = weight_in_rows-here r rs x r.y refl in
-    omega (arith, ints)
+weight_in_rows-at top (r ∷ rs) zero d x rows lt = grind (arith, ints, weight_in_rows-below, rows_from-below, weight_in_rows-here)
 weight_in_rows-at top (r ∷ rs) (suc k) d x rows lt =
     let other = get_or rs k d in
     let lower : other.y <ℤ r.y = rows_from-below (r.y -ℤ pos 1) r.y rs rows.2 (omega (arith, ints)) k d (omega arith) in
@@ -42,9 +37,7 @@ weight_in_rows-at top (r ∷ rs) (suc k) d x rows lt =
 
 -- the weight of a pixel is the sum of the edges of its row
 pub weight_at-row : (rs : List EdgeRow) (r : EdgeRow) (x : ℤ) → AreRows rs → Contains rs r → weight_at (picture_of_rows rs) x r.y ≡ weight_in r.edges x
-weight_at-row rs r x rows there =
-    weight_at-picture_of_rows rs x r.y rows
-    ∙ subst (λ s. weight_in_rows rs x s.y ≡ weight_in s.edges x) there.2 (weight_in_rows-at last_in_field rs there.0 r x rows.rows there.1)
+weight_at-row rs r x rows there = grind (arith, ints, weight_at-picture_of_rows, weight_in_rows-at)
 
 pub weight_at-other_rows : (rs : List EdgeRow) (x y : ℤ) → AreRows rs → All (λ r. r.y ≢ y) rs → weight_at (picture_of_rows rs) x y ≡ pos 0
 weight_at-other_rows rs x y rows others = weight_at-picture_of_rows rs x y rows ∙ weight_in_rows-none rs x y others
@@ -59,12 +52,7 @@ weights_as f g rs rows has same = record { weights = λ x y inside. weight_at-pi
 
 pub unlawful_as : {f g : ℤ → ℤ → ℤ} (unlawful : IsUnlawfulSomewhere f) → (IsInField unlawful.x unlawful.y → g unlawful.x unlawful.y ≡ f unlawful.x unlawful.y)
     → IsUnlawfulSomewhere g
-unlawful_as unlawful same = record {
-  x = unlawful.x;
-  y = unlawful.y;
-  in_field = unlawful.in_field;
-  unlawful = λ lawful. unlawful.unlawful (subst IsLawfulWeight (same unlawful.in_field) lawful);
-}
+unlawful_as unlawful same = grind (arith, ints)
 
 module _ (rs ss : List EdgeRow) (left : AreRows rs) (right : AreRows ss) where
   difference_is : (x y : ℤ) → weight_in_all rs (negated_rows ss) x y ≡ difference_at (picture_of_rows rs) (picture_of_rows ss) x y
@@ -143,7 +131,4 @@ quarter_turn = record { same = λ rs x y rows. sym (weight_at-picture_of_rows rs
 pub image_made : {image : List EdgeRow → ℤ → ℤ → ℤ} {at : List Dot → ℤ → ℤ → ℤ} {rs ss new : List EdgeRow} {ds : List Dot} {E : Type 0}
     → (r : Result (List Dot) E) → IsImage image at → AreRows rs → rs ≡ ss → picture_of_rows ss ≡ ds → AreRows new → HaveRowWeights (image rs) new
     → IfOk r (λ made. made ≡ picture_of_rows new) → IfOk r (HasWeights (at ds))
-image_made {image = image} {at = at} {rs = rs} {new = new} {ds = ds} r is rows all picture lawful has =
-    let same : picture_of_rows rs ≡ ds = ap picture_of_rows all ∙ picture in
-    IfOk-weaker r (λ p. p ≡ picture_of_rows new) (HasWeights (at ds))
-    (λ p made. rw (made, ← same) (weights_as (image rs) (at (picture_of_rows rs)) new lawful has (λ x y. is.same rs x y rows)))
+image_made {image = image} {at = at} {rs = rs} {new = new} {ds = ds} r is rows all picture lawful has = grind (arith, ints, IfOk-weaker, weights_as)

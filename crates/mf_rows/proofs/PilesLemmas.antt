@@ -1,5 +1,5 @@
 -- Pictures whose newest contours are kept beside the others.
-use Rattle.std.proofs.Common.{◌≡◌, ℕ, ◌+◌, ◌<◌, length, get_or, drop, ap, ℤ, pos, ◌+ℤ◌, ◌-ℤ◌, ◌≤ℤ◌, List, [], ◌∷◌, map, to_z, of_z, w32}
+use Rattle.std.proofs.Common.{◌≡◌, ℕ, ◌+◌, ◌<◌, length, get_or, drop, ℤ, pos, ◌+ℤ◌, ◌-ℤ◌, ◌≤ℤ◌, List, [], ◌∷◌, map, to_z, of_z, w32}
 use Rattle.std.proofs.Common.{◌⊎◌, inl, inr, refl, sym, subst, ◌∙◌, arith}
 use Rattle.std.proofs.lemmas.Int.{ints}
 use Rattle.std.proofs.lemmas.List.{drop_more}
@@ -81,20 +81,12 @@ alone_apart gs = record { weights = λ x y. omega (arith, ints) }
 
 pub none_is_piled : ArePiled [] [] (pos 0)
 unfolding weight_in_all weight_in_rows
-none_is_piled = record {
-  older = none_are_groups;
-  newest = none_are_groups;
-  reached = record { most = omega (arith, ints); least = λ x y. omega (arith, ints); greatest = λ x y. omega (arith, ints) };
-}
+none_is_piled = grind (arith, ints, none_are_groups)
 
 -- a copy of both lists
 pub piled_as : (gs hs gs' hs' : Groups) (reach : ℤ) → map rows_at_place gs' ≡ map rows_at_place gs → map rows_at_place hs' ≡ map rows_at_place hs
     → ArePiled gs hs reach → ArePiled gs' hs' reach
-piled_as gs hs gs' hs' reach same other pile = record {
-  older = groups-same gs' gs same pile.older;
-  newest = groups-same hs' hs other pile.newest;
-  reached = rw (rows_of_same gs' gs same, rows_of_same hs' hs other) pile.reached;
-}
+piled_as gs hs gs' hs' reach same other pile = grind (arith, ints, groups-same, rows_of_same)
 
 pub same_piled : (gs hs gs' hs' : Groups) → map rows_at_place gs' ≡ map rows_at_place gs → map rows_at_place hs' ≡ map rows_at_place hs
     → piled gs' hs' ≡ piled gs hs
@@ -203,17 +195,13 @@ all_passed reach w u least none (inr within) = within
 
 pub reach_all : (rs rest : List EdgeRow) (reach : ℤ) → rest ≡ [] → AreRows rs → IsReachSoFar rs rest reach → IsReachOf reach (weight_in_rows rs)
 unfolding weight_in_rows
-reach_all rs rest reach none rows passed =
-    let within = λ (x y : ℤ). all_passed reach _ _ passed.least (ap (λ ss. weight_in_rows ss x y) none) (passed.so_far x y) in
-    record { most = passed.most; least = λ x y. (within x y).0; greatest = λ x y. (within x y).1 }
+reach_all rs rest reach none rows passed = grind (arith, ints, all_passed)
 
 -- the first of the rows of heads that are left
 pub reach_read : (all : List EdgeRow) (es : List Edge) (heads : List Head) (k : ℕ) (head : Head) (r : EdgeRow) (reach : ℤ) → k < length heads
     → head ≡ get_or heads k head → r ≡ row_at es head → IsReachSoFar all (rows_at es (drop k heads)) reach
     → rows_at es (drop k heads) ≡ (r ∷ rows_at es (drop (k + 1) heads))
-reach_read all es heads k head r reach inside read is so_far =
-    ap (rows_at es) (drop_more heads k head inside) ∙ ap (λ h. row_at es h ∷ rows_at es (drop (k + 1) heads)) (sym read)
-    ∙ ap (λ s. s ∷ rows_at es (drop (k + 1) heads)) (sym is)
+reach_read all es heads k head r reach inside read is so_far = grind (arith, ints, drop_more, sym)
 
 pub reach_fits : (reach : ℤ) (f : ℤ → ℤ → ℤ) → IsReachOf reach f → to_z w32 (of_z w32 reach) ≡ reach
 reach_fits reach f stay = omega (arith, ints, stay.most, stay.least (pos 0) (pos 0), stay.greatest (pos 0) (pos 0))

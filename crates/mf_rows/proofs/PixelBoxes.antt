@@ -112,13 +112,7 @@ module _ (p : Pixels) (all rest : List EdgeRow) (bounds : Option Box4) (r : Edge
 
   in_row : (x : ℤ) → among_rows p (so_far.passed ++ r ∷ []) x r.y ≡ is_among p (weight_in r.edges x)
   unfolding among_rows
-  in_row x =
-      let sum = weight_in_rows-append so_far.passed (r ∷ []) x r.y in
-      let above = weight_in_rows-above so_far.passed x r.y (higher r.y (omega (arith, ints))) in
-      let own = weight_in_rows-here r [] x r.y refl in
-      let none = weight_in_rows-above [] x r.y (All-nil (λ q. r.y <ℤ q.y)) in
-      let same : weight_in_rows (so_far.passed ++ r ∷ []) x r.y ≡ weight_in r.edges x = omega (arith, ints) in
-      ap (is_among p) same
+  in_row x = grind (arith, ints, weight_in_rows-append, weight_in_rows-above, higher, weight_in_rows-here, All-nil)
 
   is_lowered : IsLowered (among_rows p so_far.passed) (among_rows p (so_far.passed ++ r ∷ [])) r.y
   unfolding among_rows
@@ -145,10 +139,8 @@ module _ (p : Pixels) (all rest : List EdgeRow) (bounds : Option Box4) (r : Edge
 
   pub bounds_grown : (c : Columns) → AreColumns p r.edges c → AreBoundsBefore p all others (Some (with_columns bounds r.y c))
   bounds_grown c columns =
-      let between : (x : ℤ) → among_rows p (so_far.passed ++ r ∷ []) x r.y ≡ true → (c.first ≤ℤ x) × (x ≤ℤ c.last) = λ x found. (
-        by_lt_z x c.first (λ lt. absurd (false≢true (sym (in_row x ∙ columns.first.left x lt) ∙ found))) (λ le. le),
-        by_lt_z c.last x (λ lt. absurd (false≢true (sym (in_row x ∙ columns.last.right x lt) ∙ found))) (λ le. le),
-      ) in
+      let between : (x : ℤ) → among_rows p (so_far.passed ++ r ∷ []) x r.y ≡ true → (c.first ≤ℤ x) × (x ≤ℤ c.last) =
+          grind (arith, ints, by_lt_z, false≢true, sym, in_row) in
       record {
         passed = so_far.passed ++ r ∷ [];
         split = split;
@@ -157,6 +149,4 @@ module _ (p : Pixels) (all rest : List EdgeRow) (bounds : Option Box4) (r : Edge
 
 pub all_bounds : (p : Pixels) (all rest : List EdgeRow) (bounds : Option Box4) → rest ≡ [] → AreBoundsBefore p all rest bounds
     → AreBounds (among_rows p all) bounds
-all_bounds p all rest bounds none so_far =
-    let passed_all : so_far.passed ≡ all = sym (so_far.split ∙ ap (λ rs. so_far.passed ++ rs) none ∙ append-nil so_far.passed) in
-    subst (λ rs. AreBounds (among_rows p rs) bounds) passed_all so_far.box
+all_bounds p all rest bounds none so_far = grind (arith, ints, sym, append-nil)

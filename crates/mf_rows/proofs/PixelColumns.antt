@@ -34,16 +34,7 @@ pub record IsEdgeAmong (low : ℤ) (before : List Edge) (e : Edge) (after : List
 pub edge_among : (low : ℤ) (before : List Edge) (e : Edge) (after : List Edge) → AreEdgesFrom low (before ++ e ∷ after) → IsEdgeAmong low before e after
 edge_among low [] e after edges =
     record { edge = edges.0; from = edges.1; sorted = tt; ended = All-nil (λ f. f.x <ℤ e.x); others = edges.2 }
-edge_among low (f ∷ fs) e after edges =
-    let among = edge_among (f.x +ℤ pos 1) fs e after edges.2 in
-    let lt : f.x <ℤ e.x = omega (arith, ints, among.from) in
-    record {
-      edge = among.edge;
-      from = omega (arith, ints, edges.1, lt);
-      sorted = (edges.0, edges.1, among.sorted);
-      ended = All-cons (λ g. g.x <ℤ e.x) f fs lt among.ended;
-      others = among.others;
-    }
+edge_among low (f ∷ fs) e after edges = grind (arith, ints, All-cons, edge_among (f.x +ℤ pos 1) fs e after edges.2)
 
 -- edges to the right of a column do not count there
 weight_in-none : (low : ℤ) (es : List Edge) (x : ℤ) → AreEdgesFrom low es → BeginFrom (x +ℤ pos 1) es → weight_in es x ≡ pos 0
@@ -83,9 +74,7 @@ module _ {es before : List Edge} {e : Edge} {after : List Edge} {w : ℤ} (cut :
 
   weight_before : (x : ℤ) → EndAt x before → x <ℤ e.x → weight_in es x ≡ w
   weight_before x left lt =
-      let same = weight_in-constant before x greatest_coordinate left (omega (arith, ints, among.edge.right)) in
-      let none = weight_in-none e.x (e ∷ after) x (among.edge, omega (arith, ints), among.others) (omega (arith, ints)) in
-      omega (arith, ints, parts x, cut.weight)
+      omega (arith, ints, weight_in-constant before x greatest_coordinate left (omega (arith, ints, among.edge.right)), weight_in-none e.x (e ∷ after) x (among.edge, omega (arith, ints), among.others) (omega (arith, ints)), parts x, left)
 
   weight_after : (x : ℤ) → e.x ≤ℤ x → BeginFrom (x +ℤ pos 1) after → weight_in es x ≡ w +ℤ e.weight
   weight_after x le from =
@@ -125,21 +114,12 @@ pub record IsNoneBefore (p : Pixels) (es rest : List Edge) (w : ℤ) : Type 0 wh
 
 pub none_at_first : (p : Pixels) (es : List Edge) → AreEdges es → IsNoneBefore p es es (pos 0)
 unfolding weight_in
-none_at_first p es edges = record {
-  passed = [];
-  split = refl;
-  weight = refl;
-  none = λ x from. ap (is_among p) (weight_in-none least_coordinate es x edges.sorted from) ∙ zero_is_none p;
-}
+none_at_first p es edges = grind (arith, ints, weight_in-none, zero_is_none)
 
 module _ (p : Pixels) (es rest others : List Edge) (e : Edge) (w : ℤ) (next : rest ≡ e ∷ others) (edges : AreEdges es)
     (so_far : IsNoneBefore p es rest w) where
   first_cut : IsCut es (record { before = so_far.passed; edge = e; after = others }) w
-  first_cut = record {
-    split = so_far.split ∙ ap (λ fs. so_far.passed ++ fs) next;
-    edges = edges;
-    weight = so_far.weight;
-  }
+  first_cut = grind (arith, ints)
 
   pub weight_fits : FitsSigned w32 (w +ℤ to_z w32 (of_z w32 e.weight))
   weight_fits = let new = (lawful first_cut).1 in rw (change_is first_cut) (omega (arith, ints, new.least, new.greatest))
@@ -174,9 +154,8 @@ pub record IsNoneAfter (p : Pixels) (es rest : List Edge) (w : ℤ) : Type 0 whe
 
 pub none_at_right : (p : Pixels) (es : List Edge) → AreEdges es → IsNoneAfter p es es (pos 0)
 none_at_right p es edges =
-    let same : (x : ℤ) → EndAt x es → weight_in es x ≡ weight_in es greatest_coordinate = λ x left.
-    by_lt_z x greatest_coordinate (λ lt. sym (weight_in-constant es x greatest_coordinate left (omega (arith, ints, lt))))
-    (weight_in-after least_coordinate es x edges.sorted) in
+    let same : (x : ℤ) → EndAt x es → weight_in es x ≡ weight_in es greatest_coordinate =
+        grind (arith, ints, by_lt_z, sym, weight_in-constant, weight_in-after) in
     record {
       passed = [];
       split = sym (append-nil es);
@@ -187,12 +166,7 @@ none_at_right p es edges =
 module _ (p : Pixels) (es rest before : List Edge) (e : Edge) (w : ℤ) (last : rest ≡ before ++ e ∷ []) (edges : AreEdges es)
     (so_far : IsNoneAfter p es rest w) where
   last_cut : IsCut es (record { before = before; edge = e; after = so_far.passed }) (w -ℤ e.weight)
-  last_cut =
-      let split = so_far.split ∙ ap (λ fs. fs ++ so_far.passed) last ∙ append_assoc before (e ∷ []) so_far.passed in
-      let among = edge_among least_coordinate before e so_far.passed (subst (AreEdgesFrom least_coordinate) split edges.sorted) in
-      let sum = weight_in-push before e greatest_coordinate among.edge.right in
-      let whole = ap (λ fs. weight_in fs greatest_coordinate) last in
-      record { split = split; edges = edges; weight = omega (arith, ints, so_far.weight) }
+  last_cut = grind (arith, ints, append_assoc, edge_among, weight_in-push)
 
   pub difference_fits : FitsSigned w32 (w -ℤ to_z w32 (of_z w32 e.weight))
   difference_fits = let new = (lawful last_cut).0 in rw (change_is last_cut) (omega (arith, ints, new.least, new.greatest))

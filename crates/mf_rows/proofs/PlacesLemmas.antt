@@ -40,9 +40,4 @@ pub first_column : (x y : ℤ) (n : ℕ) → AreFieldColumns x y (suc n) → IsI
 first_column x y n columns = record { left = columns.left; right = omega (arith, ints, columns.right); bottom = columns.bottom; top = columns.top }
 
 pub next_columns : (x y : ℤ) (n : ℕ) → AreFieldColumns x y (suc n) → AreFieldColumns (x +ℤ pos 1) y n
-next_columns x y n columns = record {
-  left = omega (arith, ints, columns.left);
-  right = omega (arith, ints, columns.right);
-  bottom = columns.bottom;
-  top = columns.top;
-}
+next_columns x y n columns = grind (arith, ints)

@@ -134,10 +134,7 @@ same_image c f g x same = λ t. row_image c (λ z. same z t) x
 
 pub changed-none : (c : RowChange) → IsRowChange c → AreChanged c [] []
 unfolding weight_in image_in
-changed-none c lawful = record {
-  edges = record { sorted = tt; lawful = λ x. record { least = omega (arith, ints); greatest = omega (arith, ints) }; closed = refl };
-  weights = record { weights = λ x. sym (image_of_blank c x lawful) };
-}
+changed-none c lawful = grind (arith, ints, sym, image_of_blank)
 
 -- a row and those below it have their weights at different heights, so each is changed by itself
 module _ (c : RowChange) (r : EdgeRow) (rest : List EdgeRow) (x v : ℤ) where

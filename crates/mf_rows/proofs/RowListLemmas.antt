@@ -60,9 +60,7 @@ module _ (es ds : List Edge) (kept : HasMoreEdges es ds) where
 
   pub rows_kept : (hs : List Head) → AreHeads es hs → rows_at ds hs ≡ rows_at es hs
   rows_kept [] heads = refl
-  rows_kept (h ∷ hs) heads =
-      ap (λ (r : EdgeRow). r ∷ rows_at ds hs) (row_kept h (All-head (IsHead es) h hs heads))
-      ∙ ap (λ (rs : List EdgeRow). row_at es h ∷ rs) (rows_kept hs (All-tail (IsHead es) h hs heads))
+  rows_kept (h ∷ hs) heads = grind (arith, ints, row_kept, All-head, All-tail, rows_kept hs (All-tail (IsHead es) h hs heads))
 
   -- ---- a head is appended, whose edges are at their place then
 
@@ -84,22 +82,13 @@ module _ (es ds : List Edge) (kept : HasMoreEdges es ds) (start end : ℕ) (star
 
   -- the edges that were appended have a place
   pub place_of_more : IsPlaceOf ds (place.Among start end) kept.more
-  place_of_more =
-      let between : drop start ds ≡ kept.more = rw (starts, kept.all) (drop-append_seam es kept.more) in
-      record {
-        there = record { order = omega (arith, starts, ends, length_kept es ds kept); within = omega (arith, ends) };
-        edges = rw (count_of_more, between) (take_all (length kept.more) kept.more (omega arith));
-      }
+  place_of_more = grind (arith, ints, drop-append_seam, length_kept, count_of_more, take_all)
 
   pub none_more : start ≡ end → kept.more ≡ []
   none_more same = nil_from_length kept.more (omega (arith, count_of_more))
 
   pub some_more : start ≢ end → kept.more ≢ []
-  some_more apart none =
-      let count = count_of_more in
-      let order = length_kept es ds kept in
-      let no_length : length kept.more ≡ 0 = ap (λ (fs : List Edge). length fs) none in
-      apart (omega arith)
+  some_more apart none = grind (arith, ints, count_of_more, length_kept)
 
 -- ---- a list that a row owns
 
@@ -124,9 +113,7 @@ more_of_sum es ls rs ds pushed = record { more = pushed.more; all = pushed.all }
 
 -- edges compare as equal exactly where they are
 pub edge_decides : (d e : Edge) → Decides ((edge_eq.eq-value).it d e) (d ≡ e)
-edge_decides d e =
-    Decides-like ((edge_eq.eq-value).it d e) (λ same. λ i. record { x = same.0 i; weight = same.1 i }) (λ same. (ap (λ t. t.x) same, ap (λ t. t.weight) same))
-    (Decides-and _ _ (Decides-int_eq d.x e.x) (Decides-int_eq d.weight e.weight))
+edge_decides d e = grind (arith, ints, Decides-like, Decides-and, Decides-int_eq)
 
 -- ---- the edges of the last row
 
@@ -148,11 +135,8 @@ pub record IsLastHead (es : List Edge) (hs : List Head) (h : Head) : Type 0 wher
 
 pub is_last : (es : List Edge) (hs : List Head) (n : ℕ) (h : Head) → length hs ≡ suc n → h ≡ get_or hs n h → AreHeads es hs → IsLastHead es hs h
 is_last es [] n h long last heads = absurd (omega arith)
-is_last es (g ∷ []) zero h long last heads =
-    let head = All-head (IsHead es) g [] heads in
-    subst (λ k. IsLastHead es (g ∷ []) k) (sym last) (record { place = record { there = head.there; edges = refl }; reached = head.reached })
+is_last es (g ∷ []) zero h long last heads = grind (arith, ints, All-head, sym)
 is_last es (g ∷ []) (suc n) h long last heads = absurd (omega arith)
 is_last es (g ∷ f ∷ hs) zero h long last heads = absurd (omega arith)
 is_last es (g ∷ f ∷ hs) (suc n) h long last heads =
-    let rest = is_last es (f ∷ hs) n h (omega arith) last (All-tail (IsHead es) g (f ∷ hs) heads) in
-    record { place = rest.place; reached = rest.reached }
+    grind (arith, ints, All-tail, is_last es (f ∷ hs) n h (omega arith) last (All-tail (IsHead es) g (f ∷ hs) heads))

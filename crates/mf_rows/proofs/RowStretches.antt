@@ -1,5 +1,5 @@
 -- Rows that are stretched: each becomes a strip of rows.
-use Rattle.std.proofs.Common.{◌≡◌, ℤ, pos, ◌+ℤ◌, ◌-ℤ◌, ◌*ℤ◌, ◌≤ℤ◌, ◌<ℤ◌, List, [], ◌∷◌, refl, sym, subst, FitsSigned, unsigned_abs, to_z, of_z, w32, arith}
+use Rattle.std.proofs.Common.{◌≡◌, ℤ, pos, ◌+ℤ◌, ◌-ℤ◌, ◌*ℤ◌, ◌≤ℤ◌, ◌<ℤ◌, List, [], ◌∷◌, refl, sym, FitsSigned, unsigned_abs, to_z, of_z, w32, arith}
 use Rattle.std.proofs.lemmas.Int.{ints, to_z-of_z, fits_signed_mul, by_lt_z}
 use Rattle.std.proofs.lemmas.List.Elements.{All-head}
 use Rattle.mf_geom.specs.Coordinates.{least_coordinate, greatest_coordinate, last_in_field}
@@ -48,11 +48,7 @@ module _ (s : Stretch) (r : EdgeRow) (rest : List EdgeRow) (x v : ℤ) (stretch 
   stretch_in_rows-here : AreBelow r.y rest → target_of s r.y ≤ℤ v → v <ℤ target_of s (r.y +ℤ pos 1)
       → weight_in r.edges x +ℤ stretch_in_rows s rest x v ≡ stretch_in_rows s (r ∷ rest) x v
   unfolding stretch_in_rows
-  stretch_in_rows-here below from under =
-      let here : r.y ≡ source_of s v = sym (source_of-is s r.y v stretch from under) in
-      let none = weight_in_rows-below rest x (source_of s v) (subst (λ y. AreBelow y rest) here below) in
-      let all = weight_in_rows-here r rest x (source_of s v) here in
-      omega (arith, ints)
+  stretch_in_rows-here below from under = grind (arith, ints, sym, source_of-is, weight_in_rows-below, weight_in_rows-here)
 
   stretch_in_rows-elsewhere : (target_of s r.y ≤ℤ v → v <ℤ target_of s (r.y +ℤ pos 1) → ⊥) → stretch_in_rows s rest x v ≡ stretch_in_rows s (r ∷ rest) x v
   unfolding stretch_in_rows

@@ -1,5 +1,5 @@
 -- The next row that is added to a sum of rows, and the end of the sum.
-use Rattle.std.proofs.Common.{◌≡◌, ◌≢◌, ℤ, pos, ◌+ℤ◌, ◌-ℤ◌, ◌≤ℤ◌, ◌<ℤ◌, List, [], ◌∷◌, ◌++◌, get_or, refl, sym, subst, ◌∙◌, arith}
+use Rattle.std.proofs.Common.{◌≡◌, ◌≢◌, ℤ, pos, ◌+ℤ◌, ◌-ℤ◌, ◌≤ℤ◌, ◌<ℤ◌, List, [], ◌∷◌, ◌++◌, refl, sym, subst, ◌∙◌, arith}
 use Rattle.std.specs.List.{All}
 use Rattle.std.proofs.lemmas.Int.{ints, by_lt_z}
 use Rattle.std.proofs.lemmas.List.Elements.{All-cons, All-nil, All-weaker, All-append}
@@ -72,12 +72,7 @@ module _ {f : ℤ → ℤ → ℤ} {sum rs ss : List EdgeRow} (y : ℤ) (so_far 
 -- where nothing is left to add, the rows that are left follow
 pub sum_all_weights : {f : ℤ → ℤ → ℤ} {sum rs : List EdgeRow} → IsRowSumSoFar f sum rs [] → HaveRowWeights f (sum ++ rs)
 unfolding weight_in_all weight_in_rows
-sum_all_weights {sum = sum} {rs = rs} so_far = record {
-  weights = λ x y.
-      let all = so_far.weights x y in
-      let both = weight_in_rows-append sum rs x y in
-      omega (arith, ints);
-}
+sum_all_weights {sum = sum} {rs = rs} so_far = grind (arith, ints, weight_in_rows-append)
 
 pub sum_all_rows : {f : ℤ → ℤ → ℤ} {sum rs : List EdgeRow} → IsRowSumSoFar f sum rs [] → AreRows (sum ++ rs)
 sum_all_rows {rs = rs} so_far = rows_and_others so_far rs so_far.left
@@ -108,18 +103,4 @@ no_row_of_sum rs ss sum y rows weights blank_left blank_right =
     no_row last_in_field y sum rows.rows (λ x. let both = weights.weights x y in omega (arith, ints, blank_left x, blank_right x))
 
 pub stay_within : (rs ss sum : List EdgeRow) → AreRows sum → HaveRowWeights (weight_in_all rs ss) sum → StayWithin rs ss sum
-stay_within rs ss sum rows weights =
-    let higher =
-    λ (y c : ℤ) (rs : List EdgeRow) (above : AreAbove y rs) (le : c ≤ℤ y). All-weaker (λ r. y <ℤ r.y) (λ r. c <ℤ r.y) (λ r lt. omega (arith, ints)) rs above in
-    let lower =
-    λ (y c : ℤ) (rs : List EdgeRow) (below : AreBelow y rs) (le : y ≤ℤ c). All-weaker (λ r. r.y <ℤ y) (λ r. r.y <ℤ c) (λ r lt. omega (arith, ints)) rs below in
-    record {
-      above = λ y left right k d lt.
-          let c = (get_or sum k d).y in
-          by_lt_z y c (λ above. above) (λ le. absurd (no_row_of_sum rs ss sum c rows weights
-          (λ x. weight_in_rows-above rs x c (higher y c rs left le)) (λ x. weight_in_rows-above ss x c (higher y c ss right le)) k d lt refl));
-      below = λ y left right k d lt.
-          let c = (get_or sum k d).y in
-          by_lt_z c y (λ below. below) (λ le. absurd (no_row_of_sum rs ss sum c rows weights
-          (λ x. weight_in_rows-below rs x c (lower y c rs left le)) (λ x. weight_in_rows-below ss x c (lower y c ss right le)) k d lt refl));
-    }
+stay_within rs ss sum rows weights = grind (arith, ints, All-weaker, by_lt_z, no_row_of_sum, weight_in_rows-above, weight_in_rows-below)

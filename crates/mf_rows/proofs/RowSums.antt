@@ -6,7 +6,7 @@ use Rattle.std.proofs.lemmas.List.{append-nil}
 use Rattle.std.proofs.lemmas.List.Elements.{All-head, All-cons, All-nil, All-weaker, All-append}
 use Rattle.mf_geom.specs.Coordinates.{least_coordinate, last_in_field}
 use Rattle.mf_edges.specs.declared.edge.Edge.{Edge}
-use Rattle.mf_rows.specs.Bands.{AreAbove, AreBelow}
+use Rattle.mf_rows.specs.Bands.{AreAbove}
 use Rattle.mf_edges.specs.LawfulWeights.{IsLawfulWeight}
 use Rattle.mf_edges.specs.Edges.{weight_in}
 use Rattle.mf_rows.specs.EdgeRows.{EdgeRow, IsEdgeRow, AreRowsFrom, AreRows, weight_in_rows}
@@ -29,16 +29,10 @@ by_same c y here elsewhere =
     (λ not_lower. by_lt_z y c (λ higher. elsewhere (λ is. omega (arith, ints))) (λ not_higher. here (omega (arith, ints))))
 
 row_is : (y : ℤ) (r : EdgeRow) → IsRowAt y (r ∷ []) → r.y ≡ y
-row_is y r here =
-    let le : r.y ≤ℤ y = here.rows.1 in
-    let lt : (y -ℤ pos 1) <ℤ r.y = All-head (λ r. (y -ℤ pos 1) <ℤ r.y) r [] here.above in
-    omega (arith, ints)
+row_is y r here = grind (arith, ints, All-head)
 
 row_of_edges : (y : ℤ) (r : EdgeRow) → IsEdgeRow r → r.y ≡ y → IsRowAt y (r ∷ [])
-row_of_edges y r row is = record {
-  rows = (row, omega (arith, ints), tt);
-  above = All-cons (λ r. (y -ℤ pos 1) <ℤ r.y) r [] (omega (arith, ints)) (All-nil (λ r. (y -ℤ pos 1) <ℤ r.y));
-}
+row_of_edges y r row is = grind (arith, ints, All-cons, All-nil)
 
 weight_in_rows-other : (y c x : ℤ) (rs : List EdgeRow) → IsRowAt y rs → c ≢ y → weight_in_rows rs x c ≡ pos 0
 weight_in_rows-other y c x rs here apart =
@@ -54,17 +48,12 @@ weight_in_row y r x is = let here = weight_in_rows-here r [] x y is in omega (ar
 module _ (y : ℤ) (l r : EdgeRow) (left : IsRowAt y (l ∷ [])) (right : IsRowAt y (r ∷ [])) where
   weight_in_all-here : (x : ℤ) → weight_in_all (l ∷ []) (r ∷ []) x y ≡ weight_in_both l.edges r.edges x
   unfolding weight_in_all weight_in_both
-  weight_in_all-here x =
-      let own_left = weight_in_row y l x (row_is y l left) in
-      let own_right = weight_in_row y r x (row_is y r right) in
-      omega (arith, ints)
+  weight_in_all-here x = grind (arith, ints, weight_in_row, row_is)
 
   weight_in_all-other : (x c : ℤ) → c ≢ y → weight_in_all (l ∷ []) (r ∷ []) x c ≡ pos 0
   unfolding weight_in_all
   weight_in_all-other x c apart =
-      let none_left = weight_in_rows-other y c x (l ∷ []) left apart in
-      let none_right = weight_in_rows-other y c x (r ∷ []) right apart in
-      omega (arith, ints)
+      omega (arith, ints, weight_in_rows-other y c x (l ∷ []) left apart, weight_in_rows-other y c x (r ∷ []) right apart, apart)
 
   -- outside the field both have weight 0, so a column with an unlawful weight lies in the field
   pub unlawful_in_row : IsUnlawfulColumn (weight_in_both l.edges r.edges) → IsUnlawfulInRow (weight_in_all (l ∷ []) (r ∷ [])) y
@@ -72,12 +61,7 @@ module _ (y : ℤ) (l r : EdgeRow) (left : IsRowAt y (l ∷ [])) (right : IsRowA
   unlawful_in_row column = by_field column.x y
       (λ inside. record { x = column.x; in_field = inside; unlawful = λ lawful. column.unlawful (subst IsLawfulWeight (weight_in_all-here column.x) lawful) })
       (λ outside.
-      let off : least_coordinate ≤ℤ column.x → column.x ≤ℤ last_in_field → ⊥ = λ lower upper. outside (record {
-        left = lower;
-        right = upper;
-        bottom = omega (arith, ints, row_is y l left, left.rows.0.bottom);
-        top = omega (arith, ints, row_is y l left, left.rows.0.top);
-      }) in
+      let off : least_coordinate ≤ℤ column.x → column.x ≤ℤ last_in_field → ⊥ = grind (arith, ints, row_is) in
       let none_left = weight_in-outside l.edges column.x left.rows.0.edges off in
       let none_right = weight_in-outside r.edges column.x right.rows.0.edges off in
       absurd (column.unlawful (record { least = omega (arith, ints); greatest = omega (arith, ints) })))
@@ -86,16 +70,8 @@ module _ (y : ℤ) (l r : EdgeRow) (left : IsRowAt y (l ∷ [])) (right : IsRowA
   pub sum_of_both-blank : (before : List EdgeRow) (es : List Edge) → es ≡ []
       → HaveWeights (weight_in_both l.edges r.edges) es → HasNewRow (weight_in_all (l ∷ []) (r ∷ [])) y before before
   unfolding weight_in weight_in_rows
-  sum_of_both-blank before es none weights = record {
-    more = [];
-    all = sym (append-nil before);
-    here = record { rows = tt; above = All-nil (λ r. (y -ℤ pos 1) <ℤ r.y) };
-    weights = record {
-      weights = λ x c. by_same c y
-          (λ here. rw here (ap (λ es. weight_in es x) (sym none) ∙ weights.weights x ∙ sym (weight_in_all-here x)))
-          (λ apart. sym (weight_in_all-other x c apart));
-    };
-  }
+  sum_of_both-blank before es none weights =
+      grind (arith, ints, sym, append-nil, All-nil, by_same, weight_in_all-here, weight_in_all-other, weights.weights, none, weights)
 
   pub sum_of_both-some : (before : List EdgeRow) (es : List Edge) (reach : ℤ) → es ≢ [] → IsEdgeSum l.edges r.edges es
       → StaysInReach reach es → HasNewRow (weight_in_all (l ∷ []) (r ∷ [])) y before (before ++ record { y = y; edges = es } ∷ [])
@@ -153,10 +129,7 @@ module _ {f : ℤ → ℤ → ℤ} {sum rs ss : List EdgeRow} (so_far : IsRowSum
   rows_left = record { rows = rows_from-higher last_in_field so_far.top rs so_far.in_field so_far.left }
 
   pub rows_and_others : (others : List EdgeRow) → AreRowsFrom so_far.top others → AreRows (sum ++ others)
-  rows_and_others others rows = record {
-    rows = rows_from-append last_in_field sum others so_far.rows (rows_from-higher last_in_field so_far.top others so_far.in_field rows)
-        (All-weaker (λ r. so_far.top <ℤ r.y) (λ r. AreBelow r.y others) (λ r lt. rows_from-below so_far.top r.y others rows lt) sum so_far.above);
-  }
+  rows_and_others others rows = grind (arith, ints, rows_from-append, rows_from-higher, All-weaker, rows_from-below)
 
 -- ---- the rows above the next one that is added
 
@@ -182,11 +155,7 @@ module _ {f : ℤ → ℤ → ℤ} {sum left right : List EdgeRow} (so_far : IsR
   rest_from = rows_from-first so_far.top (to_z w32 (of_z w32 added.y)) others (rows_from-back so_far.top above others from_top) up_to
 
   pub added_split : IsSplitAtHeight right added.y (added ∷ []) rest_right
-  added_split = record {
-    all = right_is;
-    here = row_of_edges added.y added added_rows.0 refl;
-    below = added_rows.2;
-  }
+  added_split = grind (arith, ints, row_of_edges)
 
   pub sum_with_above : (next : IsRowSumSoFar f (sum ++ above) others right) × (added.y ≤ℤ next.top)
   unfolding weight_in_all

@@ -32,10 +32,7 @@ record IsSumOf (n : ℕ) (sum : ℤ) : Type 0 where
 lawful_sum : (n : ℕ) (f : ℕ → ℤ) → ((i : ℕ) → IsLawfulWeight (f i)) → IsSumOf n (sum_below n f)
 unfolding sum_below
 lawful_sum zero f lawful = record { least = omega (arith, ints); greatest = omega (arith, ints) }
-lawful_sum (suc n) f lawful =
-    let before = lawful_sum n f lawful in
-    let last = lawful n in
-    record { least = omega (arith, ints, before.least, last.least); greatest = omega (arith, ints, before.greatest, last.greatest) }
+lawful_sum (suc n) f lawful = grind (arith, ints, lawful_sum n f lawful)
 
 -- the greatest total weight of a row
 abbrev greatest_row_total : ℕ
@@ -68,12 +65,7 @@ sum_of_cond n false g = sum_below-zero n
 heights_without : (y s : ℤ) (n : ℕ) → (least_coordinate +ℤ pos n) ≤ℤ y → sum_below n (λ j. cond (int_eq y (least_coordinate +ℤ pos j)) s (pos 0)) ≡ pos 0
 unfolding sum_below
 heights_without y s zero above = refl
-heights_without y s (suc n) above =
-    let others = heights_without y s n (omega (arith, ints, above)) in
-    cond_both (int_eq y (least_coordinate +ℤ pos n)) s (pos 0)
-    (λ last. sum_below n (λ j. cond (int_eq y (least_coordinate +ℤ pos j)) s (pos 0)) +ℤ last ≡ pos 0)
-    (λ same. let is = (Decides-int_eq y (least_coordinate +ℤ pos n)).0 same in absurd (omega (arith, ints, is, above)))
-    (λ apart. omega (arith, ints, others))
+heights_without y s (suc n) above = grind (arith, ints, cond_both, Decides-int_eq, heights_without y s n (omega (arith, ints, above)))
 
 heights_with : (y s : ℤ) (n : ℕ) → least_coordinate ≤ℤ y → y <ℤ (least_coordinate +ℤ pos n)
     → sum_below n (λ j. cond (int_eq y (least_coordinate +ℤ pos j)) s (pos 0)) ≡ s
@@ -166,9 +158,7 @@ total_next all before rest r total step so_far =
     }
 
 pub total_all : (all rest : List EdgeRow) (total : ℤ) → rest ≡ [] → AreRows all → IsTotalSoFar all rest total → total ≡ total_of (picture_of_rows all)
-total_all all rest total none rows so_far =
-    let value = subst (λ rs. total +ℤ rows_total rs ≡ rows_total all) none so_far.value in
-    omega (arith, ints, value) ∙ sym (total_of-rows all rows)
+total_all all rest total none rows so_far = grind (arith, ints, sym, total_of-rows)
 
 -- ---- two lists of rows together
 

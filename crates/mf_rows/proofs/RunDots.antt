@@ -17,11 +17,8 @@ use Rattle.mf_rows.proofs.PlacesLemmas.{AreFieldColumns, first_column, next_colu
 pub equal_dots-from : (y x w : ℤ) (n : ℕ) → AreFieldColumns x y n → IsLawfulWeight w → w ≢ pos 0 → AreDotsFrom (place x y) (equal_dots y x w n)
 unfolding equal_dots
 equal_dots-from y x w zero columns lawful nonzero = tt
-equal_dots-from y x w (suc n) columns lawful nonzero = (
-  record { in_field = first_column x y n columns; lawful = lawful; nonzero = nonzero },
-  omega (arith, ints),
-  subst (λ p. AreDotsFrom p (equal_dots y (x +ℤ pos 1) w n)) (place-next x y) (equal_dots-from y (x +ℤ pos 1) w n (next_columns x y n columns) lawful nonzero),
-)
+equal_dots-from y x w (suc n) columns lawful nonzero =
+    grind (arith, ints, first_column, place-next, next_columns, equal_dots-from y (x +ℤ pos 1) w n (next_columns x y n columns) lawful nonzero)
 
 -- a picture followed by a run that fits is a picture
 pub picture-push : (ds : List Dot) (r : Run) → IsPicture ds → Fits ds r → IsPicture (ds ++ dots_of r)
@@ -97,9 +94,7 @@ weight_at-off_run ds r x y off =
 pub before_equal_dots-end : (y x w : ℤ) (n : ℕ) (p : ℤ) → place (x +ℤ pos n) y ≤ℤ p → AreBefore p (equal_dots y x w n)
 unfolding equal_dots place
 before_equal_dots-end y x w zero p end = All-nil (λ d. place d.x d.y <ℤ p)
-before_equal_dots-end y x w (suc n) p end =
-    All-cons (λ d. place d.x d.y <ℤ p) (record { y = y; x = x; weight = w }) (equal_dots y (x +ℤ pos 1) w n)
-    (omega (arith, ints)) (before_equal_dots-end y (x +ℤ pos 1) w n p (omega (arith, ints)))
+before_equal_dots-end y x w (suc n) p end = grind (arith, ints, All-cons, before_equal_dots-end y (x +ℤ pos 1) w n p (omega (arith, ints)))
 
 -- ---- runs in reading order
 
@@ -144,10 +139,7 @@ weight_at-left_of x y u rs runs lt = weight_at-before (place x y) (flat_map dots
 pub weight_at-on_first : (low : ℤ) (r : Run) (rs : List Run) (x y : ℤ) → AreRunsFrom low (r ∷ rs) → IsOnRun r x y
     → weight_at (flat_map dots_of (r ∷ rs)) x y ≡ r.weight
 unfolding dots_of
-weight_at-on_first low r rs x y runs on =
-    subst (λ v. weight_at (flat_map dots_of (r ∷ rs)) x v ≡ r.weight) on.row
-    (weight_at-append_none (equal_dots r.y r.x r.weight r.len) (flat_map dots_of rs) x r.y (weight_at-left_of (r.x +ℤ pos r.len) r.y x rs runs.2 on.right)
-    ∙ weight_at-equal_dots r.y r.x r.weight r.len x on.left on.right)
+weight_at-on_first low r rs x y runs on = grind (arith, ints, weight_at-append_none, weight_at-left_of, weight_at-equal_dots)
 
 pub weight_at-off_first : (r : Run) (rs : List Run) (x y : ℤ) → (IsOnRun r x y → ⊥)
     → weight_at (flat_map dots_of (r ∷ rs)) x y ≡ weight_at (flat_map dots_of rs) x y
@@ -159,10 +151,4 @@ weight_at-off_first r rs x y off =
 pub maximal-cons : (low : ℤ) (r : Run) (rs : List Run) → AreRunsFrom low rs → AreMaximal rs
     → ((r.x +ℤ pos r.len) ≤ℤ last_in_field → weight_at (flat_map dots_of rs) (r.x +ℤ pos r.len) r.y ≢ r.weight) → AreMaximal (r ∷ rs)
 maximal-cons low r [] runs maximal apart = tt
-maximal-cons low r (s ∷ rs) runs maximal apart = (
-  λ joined.
-      let on : IsOnRun s (r.x +ℤ pos r.len) r.y =
-      record { row = sym joined.row; left = omega (arith, ints, joined.column); right = omega (arith, ints, joined.column, runs.0.some) } in
-      apart (omega (arith, ints, joined.column, runs.0.some, runs.0.right)) (weight_at-on_first low s rs (r.x +ℤ pos r.len) r.y runs on ∙ sym joined.weight),
-  maximal,
-)
+maximal-cons low r (s ∷ rs) runs maximal apart = grind (arith, ints, sym, weight_at-on_first)

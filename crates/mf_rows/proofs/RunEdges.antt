@@ -1,9 +1,9 @@
 -- The two edges of a run, after the edges of its row.
 use Rattle.std.proofs.Common.{◌≡◌, ◌≢◌, ℕ, zero, suc, ◌-◌, ◌≤◌, ◌<◌, ℤ, pos, ◌+ℤ◌, ◌-ℤ◌, ◌≤ℤ◌, ◌<ℤ◌, List, [], ◌∷◌}
-use Rattle.std.proofs.Common.{length, get_or, refl, sym, ap, ◌∙◌, subst, arith}
+use Rattle.std.proofs.Common.{length, get_or, refl, sym, ap, ◌∙◌, arith}
 use Rattle.std.proofs.lemmas.Int.{ints, by_lt_z}
 use Rattle.std.proofs.lemmas.List.Elements.{All-head, All-tail}
-use Rattle.mf_geom.specs.Coordinates.{least_coordinate, greatest_coordinate}
+use Rattle.mf_geom.specs.Coordinates.{least_coordinate}
 use Rattle.mf_edges.specs.declared.edge.Edge.{Edge}
 use Rattle.mf_rows.specs.declared.run.Run.{Run}
 use Rattle.mf_rows.specs.Building.{HasRun}
@@ -62,18 +62,12 @@ weight_in-constant (e ∷ es) x u end le =
 
 -- after all edges of a row the weight is 0
 pub weight_in-end : (es : List Edge) (x u : ℤ) → AreEdges es → EndAt x es → x ≤ℤ u → weight_in es u ≡ pos 0
-weight_in-end es x u edges end le =
-    by_lt_z u greatest_coordinate
-    (λ inside. weight_in-constant es x u end le ∙ sym (weight_in-constant es x greatest_coordinate end (omega (arith, ints))) ∙ edges.closed)
-    (λ after. weight_in-after least_coordinate es u edges.sorted after ∙ edges.closed)
+weight_in-end es x u edges end le = grind (arith, ints, by_lt_z, weight_in-constant, sym, weight_in-after)
 
 -- a row with an edge has a weight that is not 0
 pub some_weight : (es : List Edge) → es ≢ [] → AreEdgesFrom least_coordinate es → ((x : ℤ) → least_coordinate ≤ℤ x → weight_in es x ≡ pos 0) → ⊥
 some_weight [] some edges none = some refl
-some_weight (e ∷ es) some edges none =
-    let weight = weight_in-left e es e.x (omega (arith, ints)) in
-    let others = weight_in-before (e.x +ℤ pos 1) es e.x edges.2 (omega (arith, ints)) in
-    edges.0.nonzero (omega (arith, ints, none e.x edges.0.left))
+some_weight (e ∷ es) some edges none = grind (arith, ints, weight_in-left, weight_in-before)
 
 -- ---- the edges of a run
 
@@ -84,20 +78,12 @@ by_columns r c left inside right = by_lt_z c r.x left (λ from. by_lt_z c (r.x +
 -- with the first edge of a run after its edges, a row has the run's weight from there on
 weight-from_run : (es mid : List Edge) (r : Run) (c : ℤ) → AreEdges es → EndAt r.x es
     → HaveWeights (with_edge_in es r.x r.weight) mid → r.x ≤ℤ c → weight_in mid c ≡ r.weight
-weight-from_run es mid r c edges end first from =
-    let none = weight_in-end es r.x c edges end from in
-    let sum = with_edge_in-after es r.x r.weight c from in
-    omega (arith, ints, first.weights c)
+weight-from_run es mid r c edges end first from = grind (arith, ints, weight_in-end, with_edge_in-after)
 
 -- so its weights are still lawful
 pub run_begun : (es mid : List Edge) (r : Run) → AreEdges es → EndAt r.x es → IsLawfulWeight r.weight
     → AreEdgesFrom least_coordinate mid → HaveWeights (with_edge_in es r.x r.weight) mid → AreOpenEdges mid
-run_begun es mid r edges end lawful sorted first = record {
-  sorted = sorted;
-  lawful = λ c. by_lt_z c r.x
-      (λ before. subst IsLawfulWeight (sym (first.weights c ∙ with_edge_in-before es r.x r.weight c before)) (edges.lawful c))
-      (λ from. subst IsLawfulWeight (sym (weight-from_run es mid r c edges end first from)) lawful);
-}
+run_begun es mid r edges end lawful sorted first = grind (arith, ints, by_lt_z, sym, with_edge_in-before, weight-from_run)
 
 -- the second edge of the run takes the run's weight away again, so the two edges add the run
 pub run_added : (old new : EdgeRow) (mid : List Edge) (r : Run) → IsRun r → AreEdges old.edges → EndAt r.x old.edges
@@ -108,9 +94,7 @@ run_added old new mid r run edges end row sorted first second =
     let stop = r.x +ℤ pos r.len in
     let inside : (c : ℤ) → r.x ≤ℤ c → c <ℤ stop → weight_in new.edges c ≡ r.weight =
     λ c from to. second.weights c ∙ with_edge_in-before mid stop (pos 0 -ℤ r.weight) c to ∙ weight-from_run es mid r c edges end first from in
-    let before : (c : ℤ) → c <ℤ r.x → weight_in new.edges c ≡ weight_in es c = λ c left.
-    second.weights c ∙ with_edge_in-before mid stop (pos 0 -ℤ r.weight) c (omega (arith, ints))
-    ∙ first.weights c ∙ with_edge_in-before es r.x r.weight c left in
+    let before : (c : ℤ) → c <ℤ r.x → weight_in new.edges c ≡ weight_in es c = grind (arith, ints, with_edge_in-before) in
     let after : (c : ℤ) → stop ≤ℤ c → weight_in new.edges c ≡ weight_in es c = λ c right.
     let sum = with_edge_in-after mid stop (pos 0 -ℤ r.weight) c right in
     let weight = weight-from_run es mid r c edges end first (omega (arith, ints)) in
@@ -118,14 +102,7 @@ run_added old new mid r run edges end row sorted first second =
     omega (arith, ints, second.weights c) in
     record {
       row = row;
-      edges = record {
-        sorted = sorted;
-        lawful = λ c. by_columns r c
-            (λ left. rw (before c left) (edges.lawful c))
-            (λ from to. rw (inside c from to) run.lawful)
-            (λ right. rw (after c right) (edges.lawful c));
-        closed = after greatest_coordinate run.right ∙ edges.closed;
-      };
+      edges = grind (arith, ints, by_columns);
       inside = inside;
       outside = λ c out. by_columns r c (before c) (λ from to. absurd (out from to)) (after c);
     }

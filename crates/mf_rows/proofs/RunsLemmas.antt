@@ -1,5 +1,5 @@
 -- The runs of dots.
-use Rattle.std.proofs.Common.{◌≡◌, ℕ, suc, Bool, true, false, if◌then◌else◌, pos, ◌+ℤ◌, Option, Some, List, [], ◌∷◌, ◌++◌, drop, refl, sym, ap, ◌∙◌, arith}
+use Rattle.std.proofs.Common.{◌≡◌, ℕ, suc, Bool, true, false, if◌then◌else◌, Option, Some, List, [], ◌∷◌, drop, refl, sym, ap, ◌∙◌, arith}
 use Rattle.std.specs.Bool.{Decides}
 use Rattle.std.specs.List.{flat_map}
 use Rattle.std.proofs.lemmas.Bool.{false≢true, cond_both}
@@ -12,10 +12,7 @@ use Rattle.mf_rows.specs.Runs.{equal_dots, dots_of, continues, run_from, with_do
 -- a dot continues a run exactly where the run follows that of the dot alone
 pub continued : (d : Dot) (r : Run) → Decides (continues d r) (IsFollowedBy (run_from d 0) r)
 unfolding continues run_from
-continued d r =
-    Decides-like (continues d r) (λ same. record { row = same.0; column = same.1.0; weight = same.1.1 })
-    (λ followed. (followed.row, (followed.column, followed.weight)))
-    (Decides-and _ _ (Decides-int_eq d.y r.y) (Decides-and _ _ (Decides-int_eq (d.x +ℤ pos 1) r.x) (Decides-int_eq d.weight r.weight)))
+continued d r = grind (arith, ints, Decides-like, Decides-and, Decides-int_eq)
 
 -- a run with one more dot at its left end has that dot and its own dots
 lengthened : (d : Dot) (r : Run) → IsFollowedBy (run_from d 0) r → dots_of (run_from d r.len) ≡ d ∷ dots_of r
@@ -25,10 +22,7 @@ lengthened d r followed = ap (λ others. d ∷ others) (rw (← followed.row, �
 dots_of-with_dot : (d : Dot) (rs : List Run) → flat_map dots_of (with_dot d rs) ≡ d ∷ flat_map dots_of rs
 unfolding with_dot run_from dots_of equal_dots
 dots_of-with_dot d [] = refl
-dots_of-with_dot d (r ∷ rs) =
-    cond_both (continues d r) (run_from d r.len ∷ rs) (run_from d 0 ∷ r ∷ rs) (λ all. flat_map dots_of all ≡ d ∷ flat_map dots_of (r ∷ rs))
-    (λ yes. ap (λ dots. dots ++ flat_map dots_of rs) (lengthened d r ((continued d r).0 yes)))
-    (λ no. refl)
+dots_of-with_dot d (r ∷ rs) = grind (arith, ints, cond_both, lengthened, continued)
 
 -- the dots of the runs are the dots
 pub dots_of-runs_of : (ds : List Dot) → flat_map dots_of (runs_of ds) ≡ ds
@@ -40,22 +34,12 @@ dots_of-runs_of (d ∷ ds) = dots_of-with_dot d (runs_of ds) ∙ ap (λ others. 
 maximal_lengthened : (d : Dot) (r : Run) (rs : List Run) → IsFollowedBy (run_from d 0) r → AreMaximal (r ∷ rs) → AreMaximal (run_from d r.len ∷ rs)
 unfolding run_from
 maximal_lengthened d r [] joined maximal = tt
-maximal_lengthened d r (s ∷ rs) joined maximal = (
-  λ followed. maximal.0 (record {
-    row = sym joined.row ∙ followed.row;
-    column = omega (arith, ints, joined.column, followed.column);
-    weight = sym joined.weight ∙ followed.weight;
-  }),
-  maximal.1,
-)
+maximal_lengthened d r (s ∷ rs) joined maximal = grind (arith, ints, sym)
 
 maximal_with_dot : (d : Dot) (rs : List Run) → AreMaximal rs → AreMaximal (with_dot d rs)
 unfolding with_dot
 maximal_with_dot d [] maximal = tt
-maximal_with_dot d (r ∷ rs) maximal =
-    cond_both (continues d r) (run_from d r.len ∷ rs) (run_from d 0 ∷ r ∷ rs) AreMaximal
-    (λ yes. maximal_lengthened d r rs ((continued d r).0 yes) maximal)
-    (λ no. (λ followed. false≢true (sym no ∙ (continued d r).1 followed), maximal))
+maximal_with_dot d (r ∷ rs) maximal = grind (arith, ints, cond_both, maximal_lengthened, continued, false≢true, sym)
 
 -- no run of the dots could be longer
 pub maximal_runs_of : (ds : List Dot) → AreMaximal (runs_of ds)
@@ -79,9 +63,7 @@ first_split false d e es r n same = ap (λ rs. run_from d 0 ∷ rs) same
 pub runs_of-first : (d : Dot) (ds : List Dot) → runs_of (d ∷ ds) ≡ run_from d (more_after d ds) ∷ runs_of (drop (more_after d ds) ds)
 unfolding runs_of with_dot more_after continues run_from
 runs_of-first d [] = refl
-runs_of-first d (e ∷ es) =
-    ap (with_dot d) (runs_of-first e es)
-    ∙ first_split (continues d (run_from e 0)) d e es (run_from e (more_after e es)) (more_after e es) (sym (runs_of-first e es))
+runs_of-first d (e ∷ es) = grind (arith, ints, first_split, sym, runs_of-first e es)
 
 -- the run that an iterator returned is the first
 pub with_next-some : (o : Option Run) (r : Run) (rs : List Run) → o ≡ Some r → with_next o rs ≡ r ∷ rs

@@ -28,13 +28,9 @@ weight_set : (gs : Groups) (i : ℕ) (g : Option (Arc Group Global)) (x y : ℤ)
     ≡ (weight_in_rows (rows_of_groups gs) x y +ℤ weight_in_rows (rows_at_place g) x y)
 weight_set [] i g x y inside = absurd (omega arith)
 weight_set (h ∷ gs) zero g x y inside =
-    let old = weight_in_rows-append (rows_at_place h) (rows_of_groups gs) x y in
-    let new = weight_in_rows-append (rows_at_place g) (rows_of_groups gs) x y in
-    omega (arith, ints, old, new)
+    omega (arith, ints, weight_in_rows-append (rows_at_place h) (rows_of_groups gs) x y, weight_in_rows-append (rows_at_place g) (rows_of_groups gs) x y)
 weight_set (h ∷ gs) (suc i) g x y inside =
-    let old = weight_in_rows-append (rows_at_place h) (rows_of_groups gs) x y in
-    let new = weight_in_rows-append (rows_at_place h) (rows_of_groups (set gs i g)) x y in
-    omega (arith, ints, old, new, weight_set gs i g x y (omega arith))
+    omega (arith, ints, weight_in_rows-append (rows_at_place h) (rows_of_groups gs) x y, weight_in_rows-append (rows_at_place h) (rows_of_groups (set gs i g)) x y, weight_set gs i g x y (omega arith))
 
 groups_from-set : (top : ℤ) (gs : Groups) (i : ℕ) (g : Option (Arc Group Global)) → AreGroupsFrom top gs → AreGroupRows (top_of top i) (rows_at_place g)
     → AreGroupsFrom top (set gs i g)
@@ -186,14 +182,7 @@ pub record AreSettledTo (i : ℕ) (old new : Groups × Groups) : Type 0 where
 
 pub settled_none : (gs hs gs' : Groups) → AreGroups gs' → AreGroups hs → length hs ≤ length gs' → rows_of_groups gs' ≡ rows_of_groups gs
     → AreSettledTo 0 (gs, hs) (gs', hs)
-settled_none gs hs gs' groups newest places same = record {
-  groups = groups;
-  newest = newest;
-  count = refl;
-  places = places;
-  done = λ k less. absurd (omega arith);
-  weights = record { weights = λ x y. ap (λ rs. weight_in_all rs (rows_of_groups hs) x y) same };
-}
+settled_none gs hs gs' groups newest places same = grind (arith, ints)
 
 by_last : {P : Type 0} (i k : ℕ) → k < (i + 1) → (k < i → P) → (k ≡ i → P) → P
 by_last zero zero less before last = last refl
@@ -217,14 +206,7 @@ settled_more i gs hs gs' hs' g inside so_far rows weights =
           (λ last. subst (λ j. rows_in_place (set hs' i None) j ≡ []) (sym last) (place_set hs' i None inside));
       weights = record {
         weights = λ x y.
-            omega (
-              arith,
-              ints,
-              weight_set gs' i g x y (omega (arith, so_far.places)),
-              weight_set hs' i None x y inside,
-              weights.weights x y,
-              so_far.weights.weights x y,
-            );
+            omega (arith, ints, weight_set gs' i g x y (omega (arith, so_far.places)), weight_set hs' i None x y inside, so_far.places, weights.weights x y, so_far.weights.weights x y);
       };
     }
 
@@ -235,15 +217,7 @@ all_settled i gs hs gs' hs' all so_far = none_left hs' (λ k inside. so_far.done
 
 pub piled_same : (gs hs gs' hs' : Groups) (reach : ℤ) → ArePiled gs hs reach → AreGroups gs' → AreGroups hs' → HaveSameSum gs hs gs' hs'
     → ArePiled gs' hs' reach
-piled_same gs hs gs' hs' reach pile groups newest same = record {
-  older = groups;
-  newest = newest;
-  reached = record {
-    most = pile.reached.most;
-    least = λ x y. omega (arith, ints, same.weights x y, pile.reached.least x y);
-    greatest = λ x y. omega (arith, ints, same.weights x y, pile.reached.greatest x y);
-  };
-}
+piled_same gs hs gs' hs' reach pile groups newest same = grind (arith, ints)
 
 -- what is beside the groups keeps its rows
 pub same_beside : (gs hs hs' : Groups) → rows_of_groups hs' ≡ rows_of_groups hs → HaveSameSum gs hs gs hs'
@@ -255,22 +229,9 @@ same_among gs hs gs' hs' gs'' sum same = record { weights = λ x y. ap (λ rs. w
 
 pub rows_same : (gs hs gs' hs' : Groups) → HaveSameSum gs hs gs' hs' → HaveRowWeights (weight_in_rows (piled gs hs)) (piled gs' hs')
 unfolding weight_in_all
-rows_same gs hs gs' hs' same = record {
-  weights = λ x y.
-      omega (
-        arith,
-        ints,
-        same.weights x y,
-        weight_in_rows-both (rows_of_groups hs) (rows_of_groups gs) x y,
-        weight_in_rows-both (rows_of_groups hs') (rows_of_groups gs') x y,
-      );
-}
+rows_same gs hs gs' hs' same = grind (arith, ints, weight_in_rows-both)
 
 pub rows_settled : (gs hs gs' hs' : Groups) → rows_of_groups hs' ≡ [] → HaveSameSum gs hs gs' hs'
     → HaveRowWeights (weight_in_rows (piled gs hs)) (rows_of_groups gs')
 unfolding weight_in_all weight_in_rows
-rows_settled gs hs gs' hs' none same = record {
-  weights = λ x y.
-      let here : weight_in_rows (rows_of_groups hs') x y ≡ pos 0 = ap (λ rs. weight_in_rows rs x y) none in
-      omega (arith, ints, same.weights x y, here, weight_in_rows-both (rows_of_groups hs) (rows_of_groups gs) x y);
-}
+rows_settled gs hs gs' hs' none same = grind (arith, ints, weight_in_rows-both)

@@ -4,7 +4,7 @@ use Rattle.std.specs.List.{All}
 use Rattle.std.proofs.lemmas.Int.{ints, by_lt_z}
 use Rattle.std.proofs.lemmas.List.{map-append}
 use Rattle.std.proofs.lemmas.List.Elements.{All-nil, All-cons, All-map}
-use Rattle.mf_geom.specs.Coordinates.{least_coordinate, greatest_coordinate, last_in_field}
+use Rattle.mf_geom.specs.Coordinates.{least_coordinate, last_in_field}
 use Rattle.mf_edges.specs.declared.edge.Edge.{Edge}
 use Rattle.mf_edges.specs.Edges.{weight_in, AreEdgesFrom, AreEdges}
 use Rattle.mf_edges.specs.LawfulWeights.{IsLawfulWeight, greatest_weight}
@@ -33,22 +33,10 @@ weight_in-negated (e ∷ es) x =
 
 edges_from-negated : (low : ℤ) (es : List Edge) → AreEdgesFrom low es → AreEdgesFrom low (negated_edges es)
 edges_from-negated low [] edges = tt
-edges_from-negated low (e ∷ es) edges =
-    let edge = edges.0 in (
-      record { left = edge.left; right = edge.right; nonzero = λ none. edge.nonzero (omega (arith, ints, none)) },
-      edges.1,
-      edges_from-negated (e.x +ℤ pos 1) es edges.2,
-    )
+edges_from-negated low (e ∷ es) edges = grind (arith, ints, edges_from-negated (e.x +ℤ pos 1) es edges.2)
 
 pub edges-negated : (es : List Edge) → AreEdges es → AreEdges (negated_edges es)
-edges-negated es edges = record {
-  sorted = edges_from-negated least_coordinate es edges.sorted;
-  lawful = λ x.
-      let lawful = edges.lawful x in
-      let negated = weight_in-negated es x in
-      record { least = omega (arith, ints); greatest = omega (arith, ints) };
-  closed = omega (arith, ints, edges.closed, weight_in-negated es greatest_coordinate);
-}
+edges-negated es edges = grind (arith, ints, edges_from-negated, weight_in-negated)
 
 some-negated : (es : List Edge) → es ≢ [] → negated_edges es ≢ []
 some-negated [] some = λ none. some none
@@ -94,17 +82,7 @@ pub weight_in_rows-negated : (rs : List EdgeRow) (x y : ℤ) → weight_in_rows 
 unfolding weight_in_rows
 weight_in_rows-negated [] x y = refl
 weight_in_rows-negated (r ∷ rs) x y =
-    let rest = weight_in_rows-negated rs x y in
-    by_same r.y y
-    (λ here. omega (
-      arith,
-      ints,
-      rest,
-      weight_in-negated r.edges x,
-      weight_in_rows-here r rs x y here,
-      weight_in_rows-here (negated_row r) (negated_rows rs) x y here,
-    ))
-    (λ apart. omega (arith, ints, rest, weight_in_rows-elsewhere r rs x y apart, weight_in_rows-elsewhere (negated_row r) (negated_rows rs) x y apart))
+    grind (arith, ints, by_same, weight_in-negated, weight_in_rows-here, weight_in_rows-elsewhere, weight_in_rows-negated rs x y)
 
 -- ---- rows with a sign
 
@@ -147,14 +125,8 @@ signed_split_at_place s i rs own others split = record {
 -- the weights of rows with a sign depend on the weights of these rows alone
 pub signed_same : (s : Sign) (rs ss : List EdgeRow) → HaveRowWeights (weight_in_rows rs) ss → HaveRowWeights (weight_in_rows (signed s rs)) (signed s ss)
 signed_same Plus rs ss same = same
-signed_same Minus rs ss same = record {
-  weights = λ x y. omega (arith, ints, same.weights x y, weight_in_rows-negated rs x y, weight_in_rows-negated ss x y);
-}
+signed_same Minus rs ss same = grind (arith, ints, weight_in_rows-negated)
 
 pub signed_reach : (s : Sign) (reach : ℤ) (rs : List EdgeRow) → IsReachOf reach (weight_in_rows rs) → IsReachOf reach (weight_in_rows (signed s rs))
 signed_reach Plus reach rs stay = stay
-signed_reach Minus reach rs stay = record {
-  most = stay.most;
-  least = λ x y. omega (arith, ints, stay.greatest x y, weight_in_rows-negated rs x y);
-  greatest = λ x y. omega (arith, ints, stay.least x y, weight_in_rows-negated rs x y);
-}
+signed_reach Minus reach rs stay = grind (arith, ints, weight_in_rows-negated)

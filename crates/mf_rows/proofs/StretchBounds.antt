@@ -99,17 +99,8 @@ module _ (columns rows : Stretch) (ds : List Dot) (wide : List EdgeRow) (lawful 
       → HasWeights (column_stretch_at columns ds) (picture_of_rows wide)
       → HaveRowWeights (stretch_in_rows rows wide) stretched → HasWeights (stretch_at columns rows ds) (picture_of_rows stretched)
   unfolding column_stretch_at stretch_in_rows stretch_at
-  weights_stretched stretched picture lawful_stretched has has_stretched = record {
-    weights = λ x y inside.
-        let source = source_of rows y in
-        weight_at-picture_of_rows stretched x y lawful_stretched ∙ has_stretched.weights x y
-        ∙ by_field x source
-        (λ within. sym (weight_at-picture_of_rows wide x source lawful) ∙ has.weights x source within)
-        (λ outside.
-        weight_in_rows-outside last_in_field wide x source lawful.rows outside
-        ∙ sym (weight_at-outside ds (source_of columns x) source picture
-        (λ within. outside (record { left = inside.left; right = inside.right; bottom = within.bottom; top = within.top }))));
-  }
+  weights_stretched stretched picture lawful_stretched has has_stretched =
+      grind (arith, ints, weight_at-picture_of_rows, by_field, sym, weight_in_rows-outside, weight_at-outside)
 
 -- ---- columns that stay in place
 

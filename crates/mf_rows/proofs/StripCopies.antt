@@ -1,5 +1,5 @@
 -- Strips of rows with the same edges, pushed from the top down.
-use Rattle.std.proofs.Common.{◌≡◌, suc, ℤ, pos, ◌+ℤ◌, ◌-ℤ◌, ◌≤ℤ◌, List, [], ◌∷◌, ◌++◌, refl, sym, subst, ◌∙◌, append_assoc, append-nil, to_z, of_z, w32, arith}
+use Rattle.std.proofs.Common.{◌≡◌, suc, ℤ, pos, ◌+ℤ◌, ◌-ℤ◌, ◌≤ℤ◌, List, [], ◌∷◌, ◌++◌, sym, subst, ◌∙◌, append_assoc, append-nil, to_z, of_z, w32, arith}
 use Rattle.std.specs.Int.RustNames.{unsigned_abs}
 use Rattle.std.proofs.lemmas.Int.{ints}
 use Rattle.mf_geom.specs.Coordinates.{least_coordinate, greatest_coordinate}
@@ -18,9 +18,7 @@ pub record AreCopiesSoFar (old : List EdgeRow) (s : Strip) (down : ℤ) (new : L
   pub all : new ++ strip s.bottom s.edges (unsigned_abs ((s.top -ℤ s.bottom) -ℤ down)) ≡ old ++ strip s.bottom s.edges (unsigned_abs (s.top -ℤ s.bottom))
 
 pub copies_none : (old : List EdgeRow) (s : Strip) → AreCopiesSoFar old s (pos 0) old
-copies_none old s =
-    let all : (s.top -ℤ s.bottom) -ℤ pos 0 ≡ s.top -ℤ s.bottom = omega (arith, ints) in
-    record { all = rw all refl }
+copies_none old s = grind (arith, ints)
 
 -- a number and the next one, as naturals
 record AreSizes (larger smaller : ℤ) : Type 0 where
@@ -46,9 +44,7 @@ copies_more old s down new le so_far =
 pub copies_all : (old : List EdgeRow) (s : Strip) (down : ℤ) (new : List EdgeRow) → s.top -ℤ s.bottom ≡ down → AreCopiesSoFar old s down new
     → new ≡ old ++ strip s.bottom s.edges (unsigned_abs (s.top -ℤ s.bottom))
 unfolding strip
-copies_all old s down new end so_far =
-    let none : (s.top -ℤ s.bottom) -ℤ down ≡ pos 0 = omega (arith, ints) in
-    sym (append-nil new) ∙ rw none at so_far.all
+copies_all old s down new end so_far = grind (arith, ints, sym, append-nil)
 
 -- the height of the next row, as the code computes it
 pub record NextPlace (bottom top down : ℤ) : Type 0 where
@@ -58,11 +54,7 @@ pub record NextPlace (bottom top down : ℤ) : Type 0 where
 
 pub next_place : (bottom top down : ℤ) → least_coordinate ≤ℤ bottom → top ≤ℤ greatest_coordinate → pos 0 ≤ℤ down
     → (down +ℤ pos 1) ≤ℤ (top -ℤ bottom) → NextPlace bottom top down
-next_place bottom top down low high least greatest = record {
-  more = omega (arith, ints);
-  row = omega (arith, ints);
-  least = omega (arith, ints);
-}
+next_place bottom top down low high least greatest = omega (arith, ints, least)
 
 -- ---- heads of a strip
 
@@ -79,10 +71,7 @@ pub record AreHeadsSoFar (old : List Head) (s : StripHeads) (down : ℤ) (new : 
   pub rows : (es row : List Edge) → IsPlaceOf es s.place row → AreCopiesSoFar (rows_at es old) (strip_between row s.bottom s.top) down (rows_at es new)
 
 pub heads_none : (old : List Head) (s : StripHeads) → AreHeadsSoFar old s (pos 0) old
-heads_none old s = record {
-  heads = λ es row heads placed reached. heads;
-  rows = λ es row placed. copies_none (rows_at es old) (strip_between row s.bottom s.top);
-}
+heads_none old s = grind (arith, ints, copies_none)
 
 -- the next head goes below them
 module _ (old : List Head) (s : StripHeads) (down : ℤ) (new : List Head) (in_reach : (down +ℤ pos 1) ≤ℤ (s.top -ℤ s.bottom))

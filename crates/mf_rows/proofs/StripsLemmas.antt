@@ -21,10 +21,7 @@ below_reach bottom rs x y down lt =
     weight_in_rows-above rs x y (All-weaker (λ r. bottom ≤ℤ r.y) (λ r. y <ℤ r.y) (λ r le. omega (arith, ints, le, lt)) rs down.reach)
 
 reach_lower : (bottom top : ℤ) (rs : List EdgeRow) → bottom ≤ℤ top → ReachDownTo top rs → ReachDownTo bottom rs
-reach_lower bottom top rs le down = record {
-  rows = down.rows;
-  reach = All-weaker (λ r. top ≤ℤ r.y) (λ r. bottom ≤ℤ r.y) (λ r above. omega (arith, ints, above, le)) rs down.reach;
-}
+reach_lower bottom top rs le down = grind (arith, ints, All-weaker)
 
 -- a strip with no rows or no edges adds nothing
 pub no_strip : (rs : List EdgeRow) (es : List Edge) (bottom top : ℤ) → ReachDownTo top rs → bottom ≤ℤ top
@@ -42,17 +39,11 @@ no_strip rs es bottom top down le none = record {
 strip_heights : (bottom : ℤ) (es : List Edge) (n : ℕ) → All (λ t. (bottom ≤ℤ t.y) × (t.y <ℤ (bottom +ℤ pos n))) (strip bottom es n)
 unfolding strip
 strip_heights bottom es zero = All-nil (λ t. (bottom ≤ℤ t.y) × (t.y <ℤ (bottom +ℤ pos zero)))
-strip_heights bottom es (suc n) =
-    All-cons (λ t. (bottom ≤ℤ t.y) × (t.y <ℤ (bottom +ℤ pos (suc n)))) (record { y = bottom +ℤ pos n; edges = es })
-    (strip bottom es n) (omega (arith, ints), omega (arith, ints))
-    (All-weaker (λ t. (bottom ≤ℤ t.y) × (t.y <ℤ (bottom +ℤ pos n)))
-    (λ t. (bottom ≤ℤ t.y) × (t.y <ℤ (bottom +ℤ pos (suc n)))) (λ t within. (within.0, omega (arith, ints))) (strip bottom es n) (strip_heights bottom es n))
+strip_heights bottom es (suc n) = grind (arith, ints, All-cons, All-weaker, strip_heights bottom es n)
 
 strip_weight-outside : (bottom : ℤ) (es : List Edge) (n : ℕ) (x v : ℤ) → (bottom ≤ℤ v → v <ℤ (bottom +ℤ pos n) → ⊥)
     → weight_in_rows (strip bottom es n) x v ≡ pos 0
-strip_weight-outside bottom es n x v outside =
-    weight_in_rows-none (strip bottom es n) x v (All-weaker (λ t. (bottom ≤ℤ t.y) × (t.y <ℤ (bottom +ℤ pos n))) (λ t. t.y ≢ v)
-    (λ t within same. outside (omega (arith, ints)) (omega (arith, ints))) (strip bottom es n) (strip_heights bottom es n))
+strip_weight-outside bottom es n x v outside = grind (arith, ints, weight_in_rows-none, All-weaker, strip_heights)
 
 strip_weight-inside : (bottom : ℤ) (es : List Edge) (n : ℕ) (x v : ℤ) → bottom ≤ℤ v → v <ℤ (bottom +ℤ pos n)
     → weight_in_rows (strip bottom es n) x v ≡ weight_in es x
@@ -69,11 +60,8 @@ strip_rows : (top bottom : ℤ) (es : List Edge) (n : ℕ) → least_coordinate 
     → (bottom +ℤ pos n) ≤ℤ greatest_coordinate → (bottom +ℤ pos n) ≤ℤ (top +ℤ pos 1) → es ≢ [] → AreEdges es → AreRowsFrom top (strip bottom es n)
 unfolding strip
 strip_rows top bottom es zero low high reach some edges = tt
-strip_rows top bottom es (suc n) low high reach some edges = (
-  record { bottom = omega (arith, ints); top = omega (arith, ints); some = some; edges = edges },
-  omega (arith, ints),
-  strip_rows ((bottom +ℤ pos n) -ℤ pos 1) bottom es n low (omega (arith, ints)) (omega (arith, ints)) some edges,
-)
+strip_rows top bottom es (suc n) low high reach some edges =
+    grind (arith, ints, strip_rows ((bottom +ℤ pos n) -ℤ pos 1) bottom es n low (omega (arith, ints)) (omega (arith, ints)) some edges)
 
 -- ---- strips below other rows
 
@@ -96,9 +84,6 @@ strip_below old es bottom top down low below in_reach some edges =
             (All-weaker within (λ t. bottom ≤ℤ t.y) (λ t inside. inside.0) new heights);
       };
       strip = λ x y ge lt.
-          let inside = strip_weight-inside bottom es n x y ge (rw size lt) in
-          omega (arith, ints, weight_in_rows-append old new x y, below_reach top old x y down lt, inside);
-      above = λ x y ge.
-          let outside = strip_weight-outside bottom es n x y (λ least under. omega (arith, ints, ge, under)) in
-          omega (arith, ints, weight_in_rows-append old new x y, outside);
+          omega (arith, ints, strip_weight-inside bottom es n x y ge (rw size lt), weight_in_rows-append old new x y, below_reach top old x y down lt);
+      above = λ x y ge. grind (arith, ints, strip_weight-outside, weight_in_rows-append);
     }

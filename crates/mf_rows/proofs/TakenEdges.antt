@@ -30,9 +30,7 @@ joined-none : (e f : Edge) → e.weight +ℤ f.weight ≡ pos 0 → joined e f �
 joined-none e f zero = cond-true (int_eq (e.weight +ℤ f.weight) (pos 0)) [] _ ((Decides-int_eq (e.weight +ℤ f.weight) (pos 0)).1 zero)
 
 joined-some : (e f : Edge) → (e.weight +ℤ f.weight) ≢ pos 0 → joined e f ≡ record { x = e.x; weight = e.weight +ℤ f.weight } ∷ []
-joined-some e f nonzero =
-    cond-false (int_eq (e.weight +ℤ f.weight) (pos 0)) [] _
-    (false_from_ne_true (int_eq (e.weight +ℤ f.weight) (pos 0)) (λ test. nonzero ((Decides-int_eq (e.weight +ℤ f.weight) (pos 0)).0 test)))
+joined-some e f nonzero = grind (arith, ints, cond-false, false_from_ne_true, Decides-int_eq)
 
 -- where no edge is left in either row, there is none
 pub none_over : (all ls rs : List Edge) → edges_of_both ls rs ≡ all → length ls ≡ 0 → length rs ≡ 0 → all ≡ []
@@ -82,10 +80,7 @@ taken s l r edge other left right others first second put none all_is some =
       left = rw (x, y) first;
       right = rw (x, y) second;
       sum = rw (difference_is e.weight left, difference_is f.weight right) sum;
-      here = λ same more.
-          let nonzero = λ (zero : e.weight +ℤ f.weight ≡ pos 0). more (rw (difference_is e.weight left, difference_is f.weight right) (ap (of_z w32) zero)) in
-          let column : e.x ≡ f.x = rw (x, y) at same in
-          rw (y, is) (some _ (all_is column ∙ ap put (joined-some e f nonzero ∙ rw column refl)));
+      here = λ same more. grind (arith, ints, difference_is, joined-some);
       cancelled = λ same zero. (others, sym (all_is (rw (x, y) at same) ∙ ap put (joined-none e f (sym is ∙ ap (to_z w32) zero)) ∙ none));
     }
 
@@ -102,9 +97,7 @@ rest_left e es left =
 module _ {all ls rs : List Edge} (now : AreLeftOfBoth ls rs × (edges_of_both ls rs ≡ all)) where
   -- where one of the rows has no edges
   pub first_alone : {e : Edge} {es : List Edge} → rs ≡ [] → ls ≡ e ∷ es → IsFirstOfBoth all e es rs
-  first_alone {e = e} {es = es} none left_is =
-      let left = rw left_is at now.0.left in
-      rw (← now.1, none, left_is) (record { all = both-left e es [] left.sorted.2 tt; others = record { left = rest_left e es left; right = left_of_none } })
+  first_alone {e = e} {es = es} none left_is = grind (arith, ints, both-left, rest_left, left_of_none)
 
   pub first_of_right : {f : Edge} {fs : List Edge} → ls ≡ [] → rs ≡ f ∷ fs → IsFirstOfBoth all f ls fs
   unfolding edges_of_both
@@ -151,19 +144,11 @@ ends_before x e es before lt =
 module _ {all ls rs : List Edge} (now : AreLeftOfBoth ls rs × (edges_of_both ls rs ≡ all)) where
   -- where one of the rows has no edges
   pub last_alone : {e : Edge} {es : List Edge} → rs ≡ [] → ls ≡ es ++ e ∷ [] → IsLastOfBoth all e es rs
-  last_alone {e = e} {es = es} none left_is =
-      let left = rw left_is at now.0.left in
-      let among = last_among e es left in
-      rw (← now.1, none, left_is) (record {
-        all = both-left_last e es [] among.edge among.ended (All-nil (λ f. f.x <ℤ e.x));
-        others = record { left = (rest_before e es left).0; right = left_of_none };
-      })
+  last_alone {e = e} {es = es} none left_is = grind (arith, ints, last_among, both-left_last, All-nil, rest_before, left_of_none)
 
   pub last_of_right : {f : Edge} {fs : List Edge} → ls ≡ [] → rs ≡ fs ++ f ∷ [] → IsLastOfBoth all f ls fs
   unfolding edges_of_both
-  last_of_right {f = f} {fs = fs} none right_is =
-      rw (← now.1, none, right_is)
-      (record { all = refl; others = record { left = left_of_none; right = (rest_before f fs (rw right_is at now.0.right)).0 } })
+  last_of_right {f = f} {fs = fs} none right_is = grind (arith, ints, left_of_none, rest_before)
 
   pub last_taken : {e f : Edge} {es fs : List Edge} → ls ≡ es ++ e ∷ [] → rs ≡ fs ++ f ∷ []
       → AreTaken (record { all = all; IsTaken = IsLastOfBoth all; before = λ x y. y <ℤ x })

@@ -22,10 +22,7 @@ same_dot d e row column weight = λ i. record { y = row i; x = column i; weight 
 -- a picture lacks a dot's weight where all its dots come later
 first_missing : (low : ℤ) (d : Dot) (ds es : List Dot) → AreDotsFrom low (d ∷ ds)
     → AreDotsFrom (place d.x d.y +ℤ pos 1) es → weight_at (d ∷ ds) d.x d.y ≡ weight_at es d.x d.y → ⊥
-first_missing low d ds es dots later same =
-    dots.0.nonzero
-    (sym (weight_at-here d ds d.x d.y (record { column = refl; row = refl }))
-    ∙ same ∙ weight_at-before (place d.x d.y +ℤ pos 1) es d.x d.y later (omega (arith, ints)))
+first_missing low d ds es dots later same = grind (arith, ints, sym, weight_at-here, weight_at-before)
 
 -- after a common first dot the weights are equal, too
 same_tails : (d : Dot) (ds es : List Dot) → AreDotsFrom (place d.x d.y +ℤ pos 1) ds
@@ -97,10 +94,7 @@ rows_from : (f : ℤ → ℤ → ℤ) (y : ℤ) (n : ℕ) → (least_coordinate 
 unfolding rows_of
 rows_from f y zero bottom top lawful = tt
 rows_from f y (suc n) bottom top lawful =
-    row_from f y least_coordinate field_size (rows_of f (y -ℤ pos 1) n)
-    (record { left = omega (arith, ints); right = omega (arith, ints); bottom = omega (arith, ints); top = top }) lawful
-    (subst (λ p. AreDotsFrom p (rows_of f (y -ℤ pos 1) n)) (sym (place-below y))
-    (rows_from f (y -ℤ pos 1) n (omega (arith, ints)) (omega (arith, ints)) lawful))
+    grind (arith, ints, row_from, sym, place-below, rows_from f (y -ℤ pos 1) n (omega (arith, ints)) (omega (arith, ints)) lawful)
 
 pub lawful_picture_of : (f : ℤ → ℤ → ℤ) → ((x y : ℤ) → IsInField x y → IsLawfulWeight (f x y)) → IsPicture (picture_of f)
 unfolding picture_of start_of_field
@@ -145,9 +139,7 @@ weight_at-row f y x (suc n) es u none left right =
 weight_at-above : (f : ℤ → ℤ → ℤ) (y : ℤ) (n : ℕ) (u v : ℤ) → y <ℤ v → weight_at (rows_of f y n) u v ≡ pos 0
 unfolding rows_of weight_at
 weight_at-above f y zero u v above = refl
-weight_at-above f y (suc n) u v above =
-    weight_at-off_row f y least_coordinate field_size (rows_of f (y -ℤ pos 1) n) u v (λ row left. omega (arith, ints, row))
-    ∙ weight_at-above f (y -ℤ pos 1) n u v (omega (arith, ints))
+weight_at-above f y (suc n) u v above = grind (arith, ints, weight_at-off_row, weight_at-above f (y -ℤ pos 1) n u v (omega (arith, ints)))
 
 weight_at-rows : (f : ℤ → ℤ → ℤ) (y : ℤ) (n : ℕ) (u v : ℤ) → least_coordinate ≤ℤ u → u ≤ℤ last_in_field → v ≤ℤ y
     → y <ℤ (v +ℤ pos n) → weight_at (rows_of f y n) u v ≡ f u v
@@ -173,9 +165,7 @@ weight_at-picture_of f x y inside = weight_at-rows f last_in_field field_size x 
 pub lawful_weight_at : (ds : List Dot) (x y : ℤ) → All IsDot ds → IsLawfulWeight (weight_at ds x y)
 unfolding weight_at
 lawful_weight_at [] x y dots = record { least = omega (arith, ints); greatest = omega (arith, ints) }
-lawful_weight_at (d ∷ ds) x y dots =
-    cond_both _ d.weight (weight_at ds x y) IsLawfulWeight (λ here. (All-head IsDot d ds dots).lawful)
-    (λ elsewhere. lawful_weight_at ds x y (All-tail IsDot d ds dots))
+lawful_weight_at (d ∷ ds) x y dots = grind (arith, ints, cond_both, All-head, All-tail, lawful_weight_at ds x y (All-tail IsDot d ds dots))
 
 pub picture_of-from_weights : (ds : List Dot) (f : ℤ → ℤ → ℤ) → IsPicture ds → ((x y : ℤ) → IsInField x y → weight_at ds x y ≡ f x y) → ds ≡ picture_of f
 picture_of-from_weights ds f picture weights =
@@ -194,21 +184,13 @@ row_of-dots : (f : ℤ → ℤ → ℤ) (y x : ℤ) (n : ℕ) → AreFieldColumn
 unfolding row_of
 row_of-dots f y x zero columns = All-nil (IsDotOf f)
 row_of-dots f y x (suc n) columns =
-    let first : Dot = record { y = y; x = x; weight = f x y } in
-    let first_is : IsDotOf f first = record { in_field = first_column x y n columns; weight = refl } in
-    let others = row_of f y (x +ℤ pos 1) n in
-    let others_are = row_of-dots f y (x +ℤ pos 1) n (next_columns x y n columns) in
-    cond_both (int_eq (f x y) (pos 0)) others (first ∷ others) (All (IsDotOf f))
-    (λ blank. others_are)
-    (λ dotted. All-cons (IsDotOf f) first others first_is others_are)
+    grind (arith, ints, first_column, next_columns, cond_both, All-cons, row_of-dots f y (x +ℤ pos 1) n (next_columns x y n columns))
 
 rows_of-dots : (f : ℤ → ℤ → ℤ) (y : ℤ) (n : ℕ) → (least_coordinate -ℤ pos 1 +ℤ pos n) ≤ℤ y → y ≤ℤ last_in_field → All (IsDotOf f) (rows_of f y n)
 unfolding rows_of
 rows_of-dots f y zero bottom top = All-nil (IsDotOf f)
 rows_of-dots f y (suc n) bottom top =
-    All-append (IsDotOf f) (row_of f y least_coordinate field_size) (rows_of f (y -ℤ pos 1) n)
-    (row_of-dots f y least_coordinate field_size (record { left = omega (arith, ints); right = omega (arith, ints); bottom = omega (arith, ints); top = top }))
-    (rows_of-dots f (y -ℤ pos 1) n (omega (arith, ints)) (omega (arith, ints)))
+    omega (arith, ints, All-append (IsDotOf f) (row_of f y least_coordinate field_size) (rows_of f (y -ℤ pos 1) n) (row_of-dots f y least_coordinate field_size (record { left = omega (arith, ints); right = omega (arith, ints); bottom = omega (arith, ints); top = top })) (rows_of-dots f (y -ℤ pos 1) n (omega (arith, ints)) (omega (arith, ints))), row_of-dots f y least_coordinate field_size (record { left = omega (arith, ints); right = omega (arith, ints); bottom = omega (arith, ints); top = top }), rows_of-dots f (y -ℤ pos 1) n (omega (arith, ints)) (omega (arith, ints)), bottom, top)
 
 pub picture_of-dots : (f : ℤ → ℤ → ℤ) → All (IsDotOf f) (picture_of f)
 unfolding picture_of

@@ -1,5 +1,5 @@
 -- Bands that are written one after another: where the rows fall, the numbers of the bands rise.
-use Rattle.std.proofs.Common.{◌≡◌, ◌≢◌, ℤ, pos, ◌+ℤ◌, ◌-ℤ◌, ◌≤ℤ◌, List, [], ◌∷◌, ◌++◌, length, refl, sym, subst, ap, ◌∙◌, append_assoc, arith}
+use Rattle.std.proofs.Common.{◌≡◌, ◌≢◌, ℤ, pos, ◌+ℤ◌, ◌≤ℤ◌, List, [], ◌∷◌, ◌++◌, length, refl, sym, subst, ap, append_assoc, arith}
 use Rattle.std.proofs.lemmas.Int.{ints}
 use Rattle.std.proofs.lemmas.List.{length-append}
 use Rattle.std.proofs.lemmas.List.Elements.{All-nil, All-cons, All-head, All-push}
@@ -10,7 +10,7 @@ use Rattle.mf_geom.specs.Coordinates.{last_in_field}
 use Rattle.mf_rows.specs.declared.band.Band.{Band}
 use Rattle.mf_rows.specs.BandNumbers.{numbers_of, RiseWithin, HaveRisingNumbers, RiseBefore, IsWriting, number_of_rows}
 use Rattle.mf_rows.specs.Bands.{rows_of_bands}
-use Rattle.mf_rows.specs.EdgeRows.{EdgeRow, AreRows, AreRowsFrom}
+use Rattle.mf_rows.specs.EdgeRows.{EdgeRow, AreRows}
 use Rattle.mf_rows.specs.FieldBands.{IsOfBand}
 use Rattle.mf_rows.proofs.BandNumbersLemmas.{rise-wider, rise-finished}
 use Rattle.mf_rows.proofs.EdgeRowsLemmas.{rows_from-front, rows_from-back}
@@ -29,20 +29,14 @@ writing_more n bs rs r writing own = record {
 -- the first row of a band
 pub writing_first : (n : ℤ) (r : EdgeRow) (bs : List (Arc Band Global)) → IsOfBand n r.y → (AreRows (rows_of_bands bs ++ r ∷ []) → RiseBefore n bs)
     → IsWriting n bs (r ∷ [])
-writing_first n r bs own rising = record {
-  of_band = All-cons (λ row. IsOfBand n row.y) r [] own (All-nil (λ row. IsOfBand n row.y));
-  begun = λ none. absurd (omega (arith, ap length none));
-  rising = rising;
-}
+writing_first n r bs own rising = grind (arith, ints, All-cons, All-nil)
 
 -- band n is finished: its number follows those of the bands before it
 module _ (n : ℤ) (bs : List (Arc Band Global)) (rs : List EdgeRow) (writing : IsWriting n bs rs)
     (cs : List (Arc Band Global)) (numbers : numbers_of cs ≡ numbers_of bs ++ number_of_rows n rs) where
   -- where no row was written there is no band
   none_finished : (high : ℤ) → rs ≡ [] → pos 0 ≤ℤ high → RiseBefore high cs
-  none_finished high none le =
-      subst (RiseWithin (pos 0) high)
-      (sym (numbers ∙ ap (λ ns. ns ++ number_of_rows n rs) (ap numbers_of (writing.begun none)) ∙ ap (number_of_rows n) none)) le
+  none_finished high none le = grind (arith, ints, sym)
 
   some_finished : (high : ℤ) → AreRows (rows_of_bands bs ++ rs) → (n +ℤ pos 1) ≤ℤ high → RiseBefore high cs
   some_finished high rows le =
@@ -51,16 +45,9 @@ module _ (n : ℤ) (bs : List (Arc Band Global)) (rs : List EdgeRow) (writing : 
 
 finished_before : (n own : ℤ) (bs : List (Arc Band Global)) (rs : List EdgeRow) (r : EdgeRow) (cs : List (Arc Band Global)) → IsWriting n bs rs
     → numbers_of cs ≡ numbers_of bs ++ number_of_rows n rs → IsOfBand own r.y → own ≢ n → AreRows ((rows_of_bands bs ++ rs) ++ r ∷ []) → RiseBefore own cs
-finished_before n own bs [] r cs writing numbers of_own other rows =
-    let row = rows_from-back last_in_field (rows_of_bands bs ++ []) (r ∷ []) rows.rows in
-    none_finished n bs [] writing cs numbers own refl (omega (arith, ints, row.0.top, of_own.bottom))
+finished_before n own bs [] r cs writing numbers of_own other rows = grind (arith, ints, rows_from-back, none_finished)
 finished_before n own bs (s ∷ ss) r cs writing numbers of_own other rows =
-    let old = front_are_rows (rows_of_bands bs ++ s ∷ ss) (r ∷ []) rows in
-    let from_first = rows_from-back last_in_field (rows_of_bands bs) (s ∷ (ss ++ r ∷ []))
-    (subst (AreRowsFrom last_in_field) (append_assoc (rows_of_bands bs) (s ∷ ss) (r ∷ [])) rows.rows) in
-    let last = rows_from-back (s.y -ℤ pos 1) ss (r ∷ []) from_first.2 in
-    let of_band = All-head (λ row. IsOfBand n row.y) s ss writing.of_band in
-    some_finished n bs (s ∷ ss) writing cs numbers own old (omega (arith, ints, last.1, of_band.bottom, of_band.top, of_own.top, of_own.bottom, other))
+    grind (arith, ints, front_are_rows, rows_from-back, append_assoc, All-head, some_finished)
 
 -- and the next band is begun with a row of another band
 pub writing_next : (n own : ℤ) (bs : List (Arc Band Global)) (rs : List EdgeRow) (r : EdgeRow) (cs : List (Arc Band Global)) → IsWriting n bs rs
@@ -73,7 +60,4 @@ writing_next n own bs rs r cs writing all numbers of_own other =
 pub all_finished : (n : ℤ) (bs : List (Arc Band Global)) (rs : List EdgeRow) (cs : List (Arc Band Global)) → IsWriting n bs rs
     → numbers_of cs ≡ numbers_of bs ++ number_of_rows n rs → AreRows (rows_of_bands bs ++ rs) → HaveRisingNumbers cs
 all_finished n bs [] cs writing numbers rows = none_finished n bs [] writing cs numbers BAND_COUNT refl (omega (arith, ints))
-all_finished n bs (s ∷ ss) cs writing numbers rows =
-    let from_first = rows_from-back last_in_field (rows_of_bands bs) (s ∷ ss) rows.rows in
-    let of_band = All-head (λ row. IsOfBand n row.y) s ss writing.of_band in
-    some_finished n bs (s ∷ ss) writing cs numbers BAND_COUNT rows (omega (arith, ints, from_first.0.bottom, of_band.top))
+all_finished n bs (s ∷ ss) cs writing numbers rows = grind (arith, ints, rows_from-back, All-head, some_finished)

@@ -1,4 +1,4 @@
-use Rattle.std.proofs.Common.{◌≡◌, ◌∷◌, [], pos, ◌+ℤ◌, refl, to_z, of_z, w32, arith}
+use Rattle.std.proofs.Common.{◌≡◌, to_z, of_z, w32, arith}
 use Rattle.std.proofs.lemmas.Int.{ints}
 use Rattle.mf_rows.specs.BandNumbers.{numbers_of}
 use Rattle.mf_rows.specs.FieldBands.{IsOfBand}
@@ -9,16 +9,10 @@ use Rattle.mf_rows.proofs.SignsLemmas.{signed_all}
 use Rattle.mf_rows.proofs.band_sum.push_band_sum.Goals as goal
 
 pub returns-in-None-Some-Plus-clause-pushed : goal.returns-in-None-Some-Plus-clause-pushed
-returns-in-None-Some-Plus-clause-pushed c =
-    let same = rw c.in-None-Some-Plus.is-1 at c.requires.part.band in
-    rw (c.in-None-Some-Plus.is-0, c.in-None-Some-Plus.is-2) (has_sum-right _ _ _ _ c.requires.part.rows refl (rw (← same) c.in_ok-share_band.ensures.rows))
+returns-in-None-Some-Plus-clause-pushed c = grind (arith, ints, has_sum-right)
 
 pub returns-in-None-Some-Plus-clause-rising : goal.returns-in-None-Some-Plus-clause-rising
-returns-in-None-Some-Plus-clause-rising c =
-    let n = c.args.part.number in
-    let same = rw c.in-None-Some-Plus.is-1 at c.requires.part.number in
-    rw (c.in_ok-share_band.ensures.numbers, same)
-    (rise-append (pos 0) n (n +ℤ pos 1) (numbers_of c.args.sum.now.items) (n ∷ []) c.requires.before (omega (arith, ints), omega (arith, ints)))
+returns-in-None-Some-Plus-clause-rising c = grind (arith, ints, rise-append)
 
 pub close_band-requires : goal.close_band-requires
 close_band-requires c =

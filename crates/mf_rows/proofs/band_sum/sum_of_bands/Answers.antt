@@ -41,9 +41,7 @@ returns-in_err-push_band_sum-clause-too_large c =
     c.in_ok-push_shared.ensures.rows (c.in_err-push_band_sum.ensures.too_large fault))
 
 pub loop-part-preserved : goal.loop-part-preserved
-loop-part-preserved c =
-    added_more c.loop-part.invariant c.in-Some.ensures.first c.split_bands.ensures c.split_first_band.ensures c.in_ok-push_shared.ensures.rows
-    c.in_ok-push_band_sum.ensures.pushed c.in_ok-push_band_sum.ensures.rising
+loop-part-preserved c = grind (arith, ints, added_more)
 
 pub returns-clause-rows : goal.returns-clause-rows
 returns-clause-rows c =
@@ -54,6 +52,4 @@ pub returns-clause-rising : goal.returns-clause-rising
 returns-clause-rising c = all_rise c.loop-part.invariant _ c.in_ok-push_shared-2.ensures.numbers
 
 pub returns-clause-weights : goal.returns-clause-weights
-returns-clause-weights c =
-    let all = rw (c.in_default.ensures.none refl) at c.loop-part.invariant.rows in
-    rw c.in_ok-push_shared-2.ensures.rows (sum_all_weights all)
+returns-clause-weights c = grind (arith, ints, sum_all_weights)

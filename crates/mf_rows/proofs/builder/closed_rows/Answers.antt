@@ -34,6 +34,4 @@ loop-row-preserved c =
     (append_assoc c.loop-row.closed (open_row c.row-item.result ∷ []) (open_rows (drop (c.loop-row.row-index + 1) c.deref-row-items.result.now)) ∙ next.rest)
 
 pub returns : goal.returns
-returns c =
-    let none : drop c.loop-row.row-index c.deref-row-items.result.now ≡ [] = drop_all c.loop-row.row-index c.deref-row-items.result.now c.loop-row-test.false in
-    sym (append-nil c.loop-row.closed) ∙ rw none at c.loop-row.invariant
+returns c = grind (arith, ints, drop_all, sym, append-nil)

@@ -1,8 +1,7 @@
-use Rattle.std.proofs.Common.{◌≤◌, ◌<ℤ◌, length, arith, rules}
+use Rattle.std.proofs.Common.{arith}
 use Rattle.std.proofs.lemmas.Bool.Decides.{Decides-like}
 use Rattle.std.proofs.lemmas.List.{nil_from_length}
 use Rattle.std.proofs.lemmas.List.Elements.{All-nil}
-use Rattle.mf_rows.specs.Dots.{place}
 use Rattle.mf_rows.proofs.BuildingLemmas.{last_row, last_open_row, pixels_before, ends_before_from_pixels}
 use Rattle.mf_rows.proofs.EdgeRowsLemmas.{picture_of_rows-none}
 use Rattle.mf_rows.proofs.builder.end_before.Goals as goal
@@ -21,8 +20,4 @@ returns-in-Some c =
 
 -- where there is no row there is no pixel
 pub returns-in-None : goal.returns-in-None
-returns-in-None c =
-    let run = c.args.run.now in
-    let empty : length c.args.rows.now ≤ 0 = c.in-None.ensures.item.3 in
-    let no_rows = nil_from_length c.args.rows.now (omega arith) in
-    (λ test. rw (no_rows, picture_of_rows-none) (All-nil (λ d. place d.x d.y <ℤ place run.x run.y)), λ before. search rules)
+returns-in-None c = grind (arith, nil_from_length, picture_of_rows-none, All-nil)

@@ -25,9 +25,4 @@ returns-then-edges-gt-MANY_EDGES c =
     (λ all. rw all (strip_below _ _ _ _ c.requires.rows c.requires.bottom below c.requires.top some (c.requires.edges below))) pushed
 
 pub returns : goal.returns
-returns c =
-    let some : c.args.edges.now ≢ [] = λ none. false≢true (sym c.if-is_empty.false ∙ c.is_empty.ensures ∙ rw none) in
-    let below : c.args.bottom <ℤ c.args.top = omega (arith, ints, c.if-bottom-top.false, c.requires.order) in
-    let pushed = rw (to_z-of_z c.ranges.top, to_z-of_z c.ranges.bottom) at c.push_copies-2.ensures in
-    on_ok_weaker c.push_copies-2.result
-    (λ all. rw all (strip_below _ _ _ _ c.requires.rows c.requires.bottom below c.requires.top some (c.requires.edges below))) pushed
+returns c = grind (arith, ints, false≢true, sym, on_ok_weaker, strip_below)

@@ -1,5 +1,5 @@
-use Rattle.std.proofs.Common.{◌≡◌, pos, [], drop, ◌∙◌, rules}
-use Rattle.std.specs.List.Sorted.{IsPermutation, IsSortedBy}
+use Rattle.std.proofs.Common.{pos, rules}
+use Rattle.std.specs.List.Sorted.{IsSortedBy}
 use Rattle.std.specs.Ordering.{int_cmp, is_lt}
 use Rattle.std.proofs.lemmas.List.{drop_all}
 use Rattle.std.proofs.lemmas.List.Sorted.{answers_always}
@@ -7,6 +7,7 @@ use Rattle.mf_rows.specs.declared.corner.Corner.{Corner}
 use Rattle.mf_rows.proofs.CornersLemmas.{swept_none, swept_edges, swept_all, corner_read, corner_weight_is_lawful}
 use Rattle.mf_rows.proofs.CornersLemmas.{level, corners_permuted, added_by_permuted, falling_from_sorted}
 use Rattle.mf_rows.proofs.corner.rows_of_corners.Goals as goal
+use Rattle.std.proofs.Common.{arith}
 
 -- a corner in place of one outside the list
 abbrev any : Corner
@@ -22,10 +23,7 @@ loop-place-init c =
     (swept_none sorted corners (falling_from_sorted sorted corners.corners by_height))
 
 pub add_edge-requires : goal.add_edge-requires
-add_edge-requires c =
-    let corner = corner_read c.deref-corner-items.result.now c.loop-place.place any _ _ c.loop-place-test.true c.loop-place.invariant in
-    let weight = corner_weight_is_lawful _ corner.weight in
-    record { edges = swept_edges _ _ _ _ c.loop-place.invariant; left = corner.left; right = corner.right; weight = weight }
+add_edge-requires c = grind (arith, corner_read, corner_weight_is_lawful, swept_edges)
 
 pub push_strip-requires : goal.push_strip-requires
 push_strip-requires c =
@@ -45,12 +43,4 @@ loop-place-preserved c =
     made.more _ (rw c.deref-in-loop-place-2.ensures.value at c.in_ok-push_strip.ensures)
 
 pub returns : goal.returns
-returns c =
-    let all = c.deref-corner-items.result.now in
-    let none : drop c.loop-place.place all ≡ [] = drop_all c.loop-place.place all c.loop-place-test.false in
-    let done = swept_all all _ _ (rw none at c.loop-place.invariant) in
-    let moved : IsPermutation c.args.corners.items all = rw c.deref-corner-items.ensures.value c.sort_by_key.ensures.permutation in
-    record {
-      rows = done.0;
-      weights = record { weights = λ x y inside. done.1.weights x y inside ∙ added_by_permuted c.args.corners.items all x y moved };
-    }
+returns c = grind (arith, drop_all, swept_all, added_by_permuted)

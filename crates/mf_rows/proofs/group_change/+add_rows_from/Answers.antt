@@ -27,21 +27,13 @@ sum_with-requires-clause-added t c =
     rows_are_added c.split_rows_at_place.result.0 (lawful_from c.args.place _ own.rows)
 
 pub returns-in_err-group-clause-too_large : goal.returns-in_err-group-clause-too_large
-returns-in_err-group-clause-too_large t c =
-    let p = err_from_is_err_and c.from_residual-in_err-group.result c.from_residual-in_err-group.ensures.1 in
-    rw (p.1, p.2) (λ fault. unlawful_here c.args.place _ _ _ _ c.requires.groups c.requires.rows c.split_rows_at_place.ensures
-    (rw (c.group_at.ensures, c.deref.ensures.value) at c.in_err-group.ensures.too_large fault))
+returns-in_err-group-clause-too_large t c = grind (arith, err_from_is_err_and, unlawful_here)
 
 pub add_rows_from-requires : goal.add_rows_from-requires
-add_rows_from-requires t c =
-    let less = place_of_rest c.args.place _ c.requires.rows (λ none. false≢true (sym c.if-is_empty.false ∙ c.is_empty.ensures.1 none)) in
-    (omega (arith, less), (c.requires.groups, (omega (arith, less), others_from c.args.place _ _ _ c.requires.rows c.split_rows_at_place.ensures)))
+add_rows_from-requires t c = grind (arith, place_of_rest, false≢true, sym, others_from)
 
 pub returns-in_err-add_rows_from-clause-too_large : goal.returns-in_err-add_rows_from-clause-too_large
-returns-in_err-add_rows_from-clause-too_large t c =
-    let p = err_from_is_err_and c.from_residual-in_err-add_rows_from.result c.from_residual-in_err-add_rows_from.ensures.1 in
-    rw (p.1, p.2) (λ fault. unlawful_later c.args.place _ _ _ _ c.requires.groups c.requires.rows c.split_rows_at_place.ensures
-    (c.in_err-add_rows_from.ensures.too_large fault))
+returns-in_err-add_rows_from-clause-too_large t c = grind (arith, err_from_is_err_and, unlawful_later)
 
 pub returns-clause-groups : goal.returns-clause-groups
 returns-clause-groups t c =

@@ -1,11 +1,9 @@
-use Rattle.std.proofs.Common.{refl, arith}
+use Rattle.std.proofs.Common.{arith}
 use Rattle.mf_rows.proofs.SettledGroups.{settled_more, settled_none}
 use Rattle.mf_rows.proofs.group_change.take_up.Goals as goal
 
 pub loop-place-init : goal.loop-place-init
-loop-place-init c =
-    let lengthened = c.in_ok-lengthen.ensures in
-    settled_none _ _ _ lengthened.groups c.requires.newest (omega (arith, lengthened.count refl, c.len.ensures)) lengthened.rows
+loop-place-init c = grind (arith, settled_none)
 
 pub loop-place-preserved : goal.loop-place-preserved
 loop-place-preserved c =

@@ -1,6 +1,5 @@
 use Rattle.std.proofs.Common.{ℕ, ℤ, to_z, of_z, to_z-of_z, FitsSigned, w32, arith}
 use Rattle.std.proofs.lemmas.Int.{ints}
-use Rattle.std.proofs.lemmas.Option.{IfSome_then}
 use Rattle.mf_rows.specs.Groups.{IsPlaceOfRow}
 use Rattle.mf_rows.proofs.GroupsLemmas.{rows_in_place_are_rows, found_in_place, absent_in_place, no_group_there, absent_outside}
 use Rattle.mf_rows.proofs.groups.find_row.Goals as goal
@@ -8,12 +7,7 @@ use Rattle.mf_rows.proofs.groups.find_row.Goals.{then-y-lt-FIELD_START-via-then-
 use Rattle.mf_rows.proofs.groups.find_row.Goals.{then-y-lt-FIELD_START-via-else-y-lt-FIELD_START+then-y-ge-FIELD_END}
 
 pub returns-then-y-lt-FIELD_START-clause-blank : goal.returns-then-y-lt-FIELD_START-clause-blank
-returns-then-y-lt-FIELD_START-clause-blank c = λ none.
-    absent_outside c.args.groups.now c.args.y c.requires (λ x inside.
-    elim c.then-y-lt-FIELD_START.branch [
-      | then-y-lt-FIELD_START-via-then-y-lt-FIELD_START w ↦ omega (arith, ints, inside.bottom, w.if-y-lt-FIELD_START)
-      | then-y-lt-FIELD_START-via-else-y-lt-FIELD_START+then-y-ge-FIELD_END w ↦ omega (arith, ints, inside.top, w.if-y-ge-FIELD_END)
-    ])
+returns-then-y-lt-FIELD_START-clause-blank c = grind (arith, ints, absent_outside)
 
 placed : (y : ℤ) (i : ℕ) → FitsSigned w32 y → IsPlaceOfRow (to_z w32 (of_z w32 y)) i → IsPlaceOfRow y i
 placed y i fits place = rw (to_z-of_z fits) at place
@@ -28,12 +22,7 @@ find_row_in-requires-clause-rows c =
     rw (c.deref-2.ensures.value, c.deref.ensures, c.in_ok-group.ensures) (rows_in_place_are_rows c.args.groups.now _ c.requires)
 
 pub returns-clause-found : goal.returns-clause-found
-returns-clause-found c =
-    let own = rw (c.deref-2.ensures.value, c.deref.ensures, c.in_ok-group.ensures, to_z-of_z c.ranges.y) at c.find_row_in.ensures.found in
-    IfSome_then c.find_row_in.result own (λ row found.
-    found_in_place c.args.groups.now c.args.y _ row.edges.now c.requires (placed _ _ c.ranges.y c.place_of_row.ensures) found)
+returns-clause-found c = grind (arith, ints, found_in_place)
 
 pub returns-clause-blank : goal.returns-clause-blank
-returns-clause-blank c = λ none.
-    let own = rw (c.deref-2.ensures.value, c.deref.ensures, c.in_ok-group.ensures, to_z-of_z c.ranges.y) at c.find_row_in.ensures.blank none in
-    absent_in_place c.args.groups.now c.args.y _ c.requires (placed _ _ c.ranges.y c.place_of_row.ensures) own
+returns-clause-blank c = grind (arith, ints, absent_in_place)

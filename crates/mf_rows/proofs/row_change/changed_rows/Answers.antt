@@ -11,10 +11,7 @@ use Rattle.mf_rows.proofs.row_change.changed_rows.Goals.{then-ne+in_ok-changed_e
 use Rattle.mf_rows.proofs.row_change.changed_rows.Goals as goal
 
 pub loop-row-init : goal.loop-row-init
-loop-row-init c = record {
-  so_far = rw c.new-changed.ensures (made_none _ c.requires.rows c.requires.allowed);
-  image = rw c.none-image.ensures (changed-none c.args.change.now c.requires.change);
-}
+loop-row-init c = grind (arith, ints, made_none, changed-none)
 
 pub changed_edges-requires : goal.changed_edges-requires
 changed_edges-requires c =
@@ -26,10 +23,7 @@ changed_edges-requires c =
     }
 
 pub push_unless_blank-requires : goal.push_unless_blank-requires
-push_unless_blank-requires c =
-    let row = (rw (next_rows _ _ _ c.loop-row-test.true c.row-item.is) at c.loop-row.invariant.so_far).to_come.0 in
-    let y_is = ap (λ r. r.y) c.row.ensures in
-    record { bottom = omega (arith, ints, row.bottom, row.top, y_is); top = omega (arith, ints, row.bottom, row.top, y_is) }
+push_unless_blank-requires c = grind (arith, ints, next_rows, c.loop-row-test.true, c.row-item.is, c.loop-row.invariant.so_far, c.row.ensures)
 
 pub loop-row-preserved : goal.loop-row-preserved
 loop-row-preserved c =
@@ -53,6 +47,4 @@ loop-row-preserved c =
     }
 
 pub returns : goal.returns
-returns c =
-    let all = rw (drop_all _ _ c.loop-row-test.false) at c.loop-row.invariant.so_far in
-    record { rows = record { rows = all.rows.rows }; weights = change_all c.args.change.now _ _ c.requires.change all }
+returns c = grind (arith, ints, drop_all, change_all)

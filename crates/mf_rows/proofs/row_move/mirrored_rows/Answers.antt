@@ -6,9 +6,7 @@ use Rattle.mf_rows.proofs.TurnChanges.{opposite_is}
 use Rattle.mf_rows.proofs.row_move.mirrored_rows.Goals as goal
 
 pub loop-row-init : goal.loop-row-init
-loop-row-init c =
-    rw (c.into_iter-row-iterator.ensures.into_iter_gives, c.rev-row-items.ensures.source, c.iter.ensures.rest, c.new-mirrored.ensures)
-    (mirror_none _ c.requires)
+loop-row-init c = grind (arith, ints, mirror_none)
 
 pub push-requires : goal.push-requires
 push-requires c =
@@ -21,6 +19,4 @@ loop-row-preserved c =
     rw (c.in_ok-push.ensures, opposite_is (mirror_last _ _ so_far)) (mirror_more _ _ so_far)
 
 pub returns : goal.returns
-returns c =
-    let all = rw (nil_from_length _ c.in-None.ensures.steps.0) at c.loop-row.invariant in
-    record { rows = record { rows = all.rows.rows }; weights = mirror_all _ _ all }
+returns c = grind (arith, ints, nil_from_length, mirror_all)

@@ -10,13 +10,11 @@ overflow_mul-bottom c = (strip_place (omega (arith, ints)) c.requires.stretch c.
 
 pub overflow_add-bottom : goal.overflow_add-bottom
 overflow_add-bottom c =
-    let place = strip_place (omega (arith, ints)) c.requires.stretch c.requires.bottom c.requires.top c.requires.allowed in
-    rw place.product (omega (arith, ints, c.requires.allowed.start))
+    omega (arith, ints, strip_place (omega (arith, ints)) c.requires.stretch c.requires.bottom c.requires.top c.requires.allowed, c.requires.stretch, c.requires.bottom, c.requires.top, c.requires.allowed, c.requires.allowed.start)
 
 pub overflow_add-bottom-2 : goal.overflow_add-bottom-2
 overflow_add-bottom-2 c =
-    let place = strip_place (omega (arith, ints)) c.requires.stretch c.requires.bottom c.requires.top c.requires.allowed in
-    rw (place.product, place.bottom) (omega (arith, ints, c.requires.allowed.start, c.requires.stretch))
+    omega (arith, ints, strip_place (omega (arith, ints)) c.requires.stretch c.requires.bottom c.requires.top c.requires.allowed, c.requires.stretch, c.requires.bottom, c.requires.top, c.requires.allowed, c.requires.allowed.start)
 
 pub push_copies-requires : goal.push_copies-requires
 push_copies-requires c =

@@ -1,10 +1,10 @@
 use Rattle.std.proofs.lemmas.List.{drop_all}
 use Rattle.std.proofs.lemmas.List.Elements.{All-head}
-use Rattle.mf_rows.specs.Bands.{edge_row}
 use Rattle.mf_edges.specs.Axes.{PlaceStaysInside}
 use Rattle.mf_rows.proofs.RowChangesLemmas.{next_rows, made_none}
 use Rattle.mf_rows.proofs.RowStretches.{stretch_more, stretch_all}
 use Rattle.mf_rows.proofs.row_move.stretched_rows.Goals as goal
+use Rattle.std.proofs.Common.{arith}
 
 pub loop-row-init : goal.loop-row-init
 loop-row-init c = rw c.new-stretched.ensures (made_none _ c.requires.rows c.requires.allowed)
@@ -20,11 +20,7 @@ push_stretched-requires c =
     }
 
 pub loop-row-preserved : goal.loop-row-preserved
-loop-row-preserved c =
-    let next = rw (next_rows _ _ _ c.loop-row-test.true c.row-item.is) at c.loop-row.invariant in
-    stretch_more c.args.stretch.now _ _ _ _ (edge_row c.row-item.result) c.requires.stretch next c.in_ok-push_stretched.ensures
+loop-row-preserved c = grind (arith, next_rows, stretch_more)
 
 pub returns : goal.returns
-returns c =
-    let all = rw (drop_all _ _ c.loop-row-test.false) at c.loop-row.invariant in
-    record { rows = record { rows = all.rows.rows }; weights = stretch_all c.args.stretch.now _ _ all }
+returns c = grind (arith, drop_all, stretch_all)

@@ -1,15 +1,14 @@
 use Rattle.std.proofs.Common.{◌≡◌, to_z, of_z, w32, refl, rules}
 use Rattle.std.proofs.lemmas.Int.{to_z-of_z}
 use Rattle.std.proofs.lemmas.Result.{err_from_is_err_and}
-use Rattle.mf_rows.specs.Bands.{edge_row, slice_rows}
+use Rattle.mf_rows.specs.Bands.{edge_row}
 use Rattle.mf_rows.proofs.RowSums.{sum_none, rows_left, rest_from, added_split, sum_with_above}
 use Rattle.mf_rows.proofs.RowSumSteps.{sum_more, sum_all_rows, sum_all_weights, unlawful_somewhere, stay_within}
 use Rattle.mf_rows.proofs.row_sum.sum_of_rows.Goals as goal
+use Rattle.std.proofs.Common.{arith}
 
 pub loop-added-init : goal.loop-added-init
-loop-added-init c =
-    rw c.in_ok-sum.ensures
-    (sum_none (slice_rows c.args.left) (slice_rows c.args.right) c.requires.left c.requires.right)
+loop-added-init c = grind (arith, sum_none)
 
 pub split_above-requires : goal.split_above-requires
 split_above-requires c = rows_left c.loop-added.invariant
@@ -20,18 +19,10 @@ split_at_height-requires c =
     c.split_above.ensures.above c.split_above.ensures.others
 
 pub push_row_sum-requires-clause-left : goal.push_row_sum-requires-clause-left
-push_row_sum-requires-clause-left c =
-    let r = edge_row c.in-Some.added in
-    let y_is : to_z w32 (of_z w32 r.y) ≡ r.y = to_z-of_z w32 r.y (search rules) in
-    let left = rw y_is at c.split_at_height.ensures in
-    left.here
+push_row_sum-requires-clause-left c = grind (arith, to_z-of_z)
 
 pub push_row_sum-requires-clause-right : goal.push_row_sum-requires-clause-right
-push_row_sum-requires-clause-right c =
-    let r = edge_row c.in-Some.added in
-    let above = c.split_above.ensures in
-    let right = added_split c.loop-added.invariant r _ c.in-Some.ensures.first _ _ above.all above.above above.others in
-    right.here
+push_row_sum-requires-clause-right c = grind (arith, added_split)
 
 pub returns-in_err-push_row_sum-clause-too_large : goal.returns-in_err-push_row_sum-clause-too_large
 returns-in_err-push_row_sum-clause-too_large c =
@@ -61,11 +52,7 @@ returns-clause-rows c =
     rw c.in_ok-push_rows-2.ensures (sum_all_rows all)
 
 pub returns-clause-weights : goal.returns-clause-weights
-returns-clause-weights c =
-    let all = rw (c.in_default.ensures.none refl) at c.loop-added.invariant in
-    rw c.in_ok-push_rows-2.ensures (sum_all_weights all)
+returns-clause-weights c = grind (arith, sum_all_weights)
 
 pub returns-clause-within : goal.returns-clause-within
-returns-clause-within c =
-    let all = rw (c.in_default.ensures.none refl) at c.loop-added.invariant in
-    rw c.in_ok-push_rows-2.ensures (stay_within _ _ _ (sum_all_rows all) (sum_all_weights all))
+returns-clause-within c = grind (arith, stay_within, sum_all_rows, sum_all_weights)

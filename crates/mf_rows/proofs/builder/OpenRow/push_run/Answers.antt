@@ -33,6 +33,4 @@ returns-clause-ok c =
 
 -- the second edge has room, so it is not refused
 pub returns-clause-unchanged : goal.returns-clause-unchanged
-returns-clause-unchanged c =
-    on_err-from_ok c.add_edge-2.result _
-    (c.add_edge-2.ensures.succeeds (omega (arith, c.in_ok-reserve.ensures.ok, c.add_edge.ensures.len, c.add_edge.ensures.capacity)))
+returns-clause-unchanged c = grind (arith, ints)

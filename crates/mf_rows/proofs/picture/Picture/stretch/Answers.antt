@@ -1,9 +1,8 @@
 use Rattle.std.proofs.lemmas.Result.{IfOk-weaker}
-use Rattle.mf_rows.specs.Moves.{stretch_at}
-use Rattle.mf_rows.specs.Sums.{HasWeights}
 use Rattle.mf_rows.proofs.StretchBounds.{rows_allowed, weights_stretched}
 use Rattle.mf_rows.proofs.PictureGroups.{pictured}
 use Rattle.mf_rows.proofs.picture.Picture.stretch.Goals as goal
+use Rattle.std.proofs.Common.{arith}
 
 pub stretched_rows-requires-clause-allowed : goal.stretched_rows-requires-clause-allowed
 stretched_rows-requires-clause-allowed c =
@@ -13,10 +12,4 @@ stretched_rows-requires-clause-allowed c =
     (rows_allowed c.args.columns.now c.args.rows.now c.args.self.now _ rows.rows c.requires.inside.up (rw picture c.in_ok-wide.ensures.weights))
 
 pub returns-clause-weights : goal.returns-clause-weights
-returns-clause-weights c =
-    let rows = c.in_ok-changed.ensures in
-    let made = c.in_ok-stretched_rows.ensures in
-    let picture = pictured _ c.in_ok-groups.groups.items _ (rw c.deref.ensures.value at rows.all) c.in_ok-groups.ensures.picture in
-    IfOk-weaker c.from_rows.result _ (HasWeights (stretch_at c.args.columns.now c.args.rows.now c.args.self.now))
-    (λ p is. rw is (weights_stretched c.args.columns.now c.args.rows.now c.args.self.now _ rows.rows _ c.in_ok-wide.ensures.lawful made.rows
-    (rw picture c.in_ok-wide.ensures.weights) (rw c.deref-2.ensures.value at made.weights))) c.from_rows.ensures.value
+returns-clause-weights c = grind (arith, pictured, IfOk-weaker, weights_stretched)

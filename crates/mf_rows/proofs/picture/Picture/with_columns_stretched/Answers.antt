@@ -1,18 +1,12 @@
-use Rattle.std.proofs.Common.{◌≡◌}
 use Rattle.std.proofs.lemmas.Result.{IfOk-weaker}
-use Rattle.mf_rows.specs.Moves.{column_stretch_at}
-use Rattle.mf_rows.specs.Sums.{HasWeights}
 use Rattle.mf_rows.proofs.PictureRows.{image_made, columns_stretched}
 use Rattle.mf_rows.proofs.StretchBounds.{columns_allowed, columns_same}
 use Rattle.mf_rows.proofs.PictureGroups.{pictured}
 use Rattle.mf_rows.proofs.picture.Picture.with_columns_stretched.Goals as goal
+use Rattle.std.proofs.Common.{arith}
 
 pub returns-then-columns-eq0-clause-weights : goal.returns-then-columns-eq0-clause-weights
-returns-then-columns-eq0-clause-weights c =
-    let same = columns_same c.args.columns.now c.args.self.now c.copy.ensures.lawful c.requires.inside c.requires.columns c.if-columns-eq1.true
-    c.if-columns-eq0.true in
-    IfOk-weaker c.copy.result (λ copy. copy ≡ c.args.self.now) (HasWeights (column_stretch_at c.args.columns.now c.args.self.now))
-    (λ copy is. rw is same) c.copy.ensures.value
+returns-then-columns-eq0-clause-weights c = grind (arith, columns_same, IfOk-weaker)
 
 pub changed_rows-requires-clause-allowed : goal.changed_rows-requires-clause-allowed
 changed_rows-requires-clause-allowed c =

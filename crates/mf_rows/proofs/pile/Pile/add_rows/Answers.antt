@@ -1,6 +1,5 @@
 use Rattle.std.proofs.Common.{◌≡◌, ◌+ℤ◌, to_z, of_z, w32, ap, ◌∙◌, arith}
 use Rattle.std.proofs.lemmas.Int.{ints}
-use Rattle.mf_rows.specs.Bands.{slice_rows}
 use Rattle.mf_rows.specs.BothRows.{rows_of_both}
 use Rattle.mf_rows.specs.Groups.{rows_of_groups}
 use Rattle.mf_rows.proofs.PilesLemmas.{piled_rows, piled_with, reach_fits, reach_is_no_less, weights_with}
@@ -25,9 +24,7 @@ invariant_of-self c =
     (omega (arith, ints, rw (reach_fits _ _ old, reach_fits _ _ more, sum) at c.if-reach-gt-MAX_WEIGHT.false)))
 
 pub returns-in-Ok-clause-weights : goal.returns-in-Ok-clause-weights
-returns-in-Ok-clause-weights c =
-    rw (← c.self.view_is)
-    (weights_with c.self.inside.older.items c.self.inside.groups.items c.add_rows.new.groups.items (slice_rows c.args.rows) c.in-Ok.ensures.weights)
+returns-in-Ok-clause-weights c = grind (arith, ints, weights_with)
 
 pub returns-in-Ok-clause-rows : goal.returns-in-Ok-clause-rows
 returns-in-Ok-clause-rows c = piled_rows _ _ _ (invariant_of-self c)
@@ -38,9 +35,7 @@ returns-in-Err-OutOfMemory-clause-rows c =
     (same_beside c.self.inside.older.items c.self.inside.groups.items c.add_rows.new.groups.items c.in-Err-OutOfMemory.ensures.unchanged))
 
 pub invariant_of-self-in-Err-WeightTooLarge : goal.invariant_of-self-in-Err-WeightTooLarge
-invariant_of-self-in-Err-WeightTooLarge c =
-    piled_same _ _ _ _ _ c.self.invariant c.self.invariant.older c.add_rows.ensures.groups
-    (same_beside c.self.inside.older.items c.self.inside.groups.items c.add_rows.new.groups.items c.in-Err-WeightTooLarge.ensures.unchanged)
+invariant_of-self-in-Err-WeightTooLarge c = grind (arith, ints, piled_same, same_beside)
 
 pub returns-in-Err-WeightTooLarge-clause-too_large : goal.returns-in-Err-WeightTooLarge-clause-too_large
 returns-in-Err-WeightTooLarge-clause-too_large c =

@@ -3,11 +3,10 @@ use Rattle.std.proofs.lemmas.Result.{err_from_is_err_and}
 use Rattle.mf_edges.proofs.ReachesLemmas.{reach_is}
 use Rattle.mf_rows.proofs.RowListLemmas.{heads_kept, heads_push, rows_push, rows_kept}
 use Rattle.mf_rows.proofs.row_list.RowList.push.Goals as goal
+use Rattle.std.proofs.Common.{arith}
 
 pub returns-in_err-push-clause-unchanged : goal.returns-in_err-push-clause-unchanged
-returns-in_err-push-clause-unchanged c =
-    let fault = err_from_is_err_and c.from_residual-in_err-push.result c.from_residual-in_err-push.ensures.1 in
-    rw (fault.1, c.in_err-push.ensures.items, ← c.self.view_is) (rows_kept _ _ c.place_of.ensures.kept _ c.self.invariant)
+returns-in_err-push-clause-unchanged c = grind (arith, err_from_is_err_and, rows_kept)
 
 pub invariant_of-self-in_err-push : goal.invariant_of-self-in_err-push
 invariant_of-self-in_err-push c = rw c.in_err-push.ensures.items (heads_kept _ _ c.place_of.ensures.kept _ c.self.invariant)

@@ -15,25 +15,13 @@ use Rattle.mf_rows.proofs.RowSums.{unlawful_in_row, sum_of_both-blank, sum_of_bo
 use Rattle.mf_rows.proofs.row_list.RowList.push_long_sum.Goals as goal
 
 pub reach_of_row_sum-requires-clause-sum : goal.reach_of_row_sum-requires-clause-sum
-reach_of_row_sum-requires-clause-sum c =
-    let pushed = c.in_ok-push_sum_of_edges.ensures.pushed in
-    rw (c.deref.ensures.value, pushed.all, c.new-edges.ensures.items) pushed.sum
+reach_of_row_sum-requires-clause-sum c = grind (arith, ints)
 
 pub returns-in_err-reach-clause-too_large : goal.returns-in_err-reach-clause-too_large
-returns-in_err-reach-clause-too_large c =
-    let p = err_from_is_err_and c.from_residual-in_err-reach.result c.from_residual-in_err-reach.ensures.1 in
-    rw (p.1, p.2) (λ _. unlawful_in_row c.args.right.now.y (edge_row c.args.left.now) (edge_row c.args.right.now)
-    c.requires.left c.requires.right c.in_err-reach.ensures.too_large)
+returns-in_err-reach-clause-too_large c = grind (arith, ints, err_from_is_err_and, unlawful_in_row)
 
 pub returns-then-is_empty-clause-pushed : goal.returns-then-is_empty-clause-pushed
-returns-then-is_empty-clause-pushed c =
-    let pushed = c.in_ok-push_sum_of_edges.ensures.pushed in
-    let all : c.push_sum_of_edges.new.sum.items ≡ pushed.more = pushed.all ∙ ap (λ (fs : List Edge). fs ++ pushed.more) c.new-edges.ensures.items in
-    let none : pushed.more ≡ [] =
-    let len : vec_len c.push_sum_of_edges.new.sum ≡ 0 = eqb-true (vec_len c.push_sum_of_edges.new.sum) 0 (sym c.is_empty.ensures ∙ c.if-is_empty.true) in
-    sym all ∙ nil_from_length _ (omega (arith, len)) in
-    sum_of_both-blank c.args.right.now.y (edge_row c.args.left.now) (edge_row c.args.right.now)
-    c.requires.left c.requires.right c.args.self.now pushed.more none pushed.sum.weights
+returns-then-is_empty-clause-pushed c = grind (arith, ints, eqb-true, sym, nil_from_length, sum_of_both-blank)
 
 pub invariant_of-self-2 : goal.invariant_of-self-2
 invariant_of-self-2 c =

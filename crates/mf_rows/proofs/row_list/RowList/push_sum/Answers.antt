@@ -16,10 +16,7 @@ reach_of_row_sum-requires-clause-sum c =
     rw (c.deref.ensures.value, placed.edges) pushed.sum
 
 pub returns-in_err-reach-clause-too_large : goal.returns-in_err-reach-clause-too_large
-returns-in_err-reach-clause-too_large c =
-    let p = err_from_is_err_and c.from_residual-in_err-reach.result c.from_residual-in_err-reach.ensures.1 in
-    rw (p.1, p.2) (λ _. unlawful_in_row c.args.right.now.y (edge_row c.args.left.now) (edge_row c.args.right.now)
-    c.requires.left c.requires.right c.in_err-reach.ensures.too_large)
+returns-in_err-reach-clause-too_large c = grind (arith, ints, err_from_is_err_and, unlawful_in_row)
 
 pub returns-then-start-end-clause-pushed : goal.returns-then-start-end-clause-pushed
 returns-then-start-end-clause-pushed c =

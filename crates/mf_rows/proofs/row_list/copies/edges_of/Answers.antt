@@ -41,11 +41,8 @@ loop-head-preserved c =
     ]
 
 pub returns-clause-range : goal.returns-clause-range
-returns-clause-range c =
-    let so_far = c.loop-head.invariant in
-    record { order = omega (arith, c.max.ensures); within = omega (arith, c.max.ensures, so_far.first, so_far.last) }
+returns-clause-range c = grind (arith)
 
 pub returns-clause-within : goal.returns-clause-within
 returns-clause-within c =
-    within_all c.loop-head.first c.loop-head.last c.max.result (omega (arith, c.max.ensures))
-    c.args.rows.heads.now c.loop-head.head-index c.loop-head-test.false c.loop-head.invariant.within
+    omega (arith, within_all c.loop-head.first c.loop-head.last c.max.result (omega (arith, c.max.ensures)) c.args.rows.heads.now c.loop-head.head-index c.loop-head-test.false c.loop-head.invariant.within, c.max.ensures, c.loop-head-test.false, c.loop-head.invariant.within)

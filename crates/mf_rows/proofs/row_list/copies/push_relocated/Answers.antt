@@ -2,6 +2,7 @@ use Rattle.std.proofs.Common.{◌≡◌, to_z, of_z, w32, rules}
 use Rattle.std.proofs.lemmas.Int.{to_z-of_z}
 use Rattle.mf_rows.proofs.CopiesLemmas.{moved_none, moved_next, moved_all, head_movable}
 use Rattle.mf_rows.proofs.row_list.copies.push_relocated.Goals as goal
+use Rattle.std.proofs.Common.{arith}
 
 pub loop-head-init : goal.loop-head-init
 loop-head-init c = rw c.in_ok-reserve.ensures.items (moved_none c.args.edges.now c.args.heads.now.items c.requires.heads)
@@ -28,6 +29,4 @@ pub returns-clause-heads : goal.returns-clause-heads
 returns-clause-heads c = c.loop-head.invariant.heads
 
 pub returns-clause-rows : goal.returns-clause-rows
-returns-clause-rows c =
-    moved_all c.args.rows.edges.now c.args.edges.now c.args.heads.now.items c.loop-head.heads.items
-    c.args.rows.heads.now c.loop-head.head-index c.loop-head-test.false c.loop-head.invariant
+returns-clause-rows c = grind (arith, moved_all)

@@ -1,12 +1,10 @@
-use Rattle.std.proofs.Common.{◌≡◌, ◌≢◌, of_z, to_z-of_z, w32, ap, refl, arith}
+use Rattle.std.proofs.Common.{◌≡◌, ◌≢◌, of_z, to_z-of_z, w32, ap, arith}
 use Rattle.std.proofs.lemmas.Int.{ints}
 use Rattle.mf_rows.proofs.BandsLemmas.{found_row, absent_row, absent_row_all}
 use Rattle.mf_rows.proofs.slice.RowSlice.find.Goals as goal
 
 pub returns-in_err-row-clause-blank : goal.returns-in_err-row-clause-blank
-returns-in_err-row-clause-blank c = λ none.
-    let split = c.split_above.ensures in
-    absent_row_all c.args.y _ _ _ split.all (rw (to_z-of_z c.ranges.y) at split.above) (c.in_err-row.ensures.none refl)
+returns-in_err-row-clause-blank c = grind (arith, ints, absent_row_all)
 
 pub returns-then-row-y-clause-found : goal.returns-then-row-y-clause-found
 returns-then-row-y-clause-found c =

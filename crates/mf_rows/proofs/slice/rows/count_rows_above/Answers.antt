@@ -23,7 +23,4 @@ pub returns-in_default-clause-others : goal.returns-in_default-clause-others
 returns-in_default-clause-others c = heads_others_split c.args.y _ c.args.rows.edges.now c.args.rows.heads.now (split c).1
 
 pub returns-in-Some-clause-others : goal.returns-in-Some-clause-others
-returns-in-Some-clause-others c =
-    let item = c.in-Some.ensures.item in
-    none_above_first c.args.y c.args.rows.edges.now c.args.rows.heads.now c.in-Some.first.now c.requires item.3.0 item.1
-    (omega (arith, ints, c.if-first-y.true))
+returns-in-Some-clause-others c = grind (arith, ints, none_above_first)

@@ -1,4 +1,4 @@
-use Rattle.std.proofs.Common.{◌≡◌, to_z, of_z, w32, FitsSigned, refl, subst, rules, arith}
+use Rattle.std.proofs.Common.{refl, subst, arith}
 use Rattle.std.proofs.lemmas.Int.{ints}
 use Rattle.std.proofs.lemmas.List.Elements.{All-head, All-rest}
 use Rattle.mf_rows.specs.EdgeRows.{IsEdgeRow}
@@ -18,10 +18,7 @@ invariant_of-self c =
 
 pub returns-in-Some-clause-runs : goal.returns-in-Some-clause-runs
 unfolding runs_of_edges
-returns-in-Some-clause-runs c =
-    let y_fits : FitsSigned w32 c.in-Some.row.y = search rules in
-    let y : to_z w32 (of_z w32 c.in-Some.row.y) ≡ c.in-Some.row.y = omega (arith, ints) in
-    rw (y, c.in-Some.ensures.steps, c.requires, weight_none _ _ c.requires c.args.self.now.rest) refl
+returns-in-Some-clause-runs c = grind (arith, ints, weight_none)
 
 -- no row is left
 pub returns-in_default-clause-over : goal.returns-in_default-clause-over

@@ -2,15 +2,14 @@ use Rattle.std.proofs.Common.{refl, sym, append_assoc, ◌∙◌}
 use Rattle.mf_rows.specs.Walk.{runs_of_edges}
 use Rattle.mf_rows.proofs.EdgeRuns.{edge_taken}
 use Rattle.mf_rows.proofs.walk.Walk.next_edge.Goals as goal
+use Rattle.std.proofs.Common.{arith}
 
 pub overflow_add-self : goal.overflow_add-self
 overflow_add-self c = (edge_taken _ _ _ _ c.in_ok-edge.ensures.first c.enter_row.new.self.rest).fits
 
 -- no edge is left
 pub invariant_of-self : goal.invariant_of-self
-invariant_of-self c =
-    let none = c.in_err-edge.ensures.none in
-    record { rest = rw (none.0, ← none.1) at c.enter_row.new.self.rest; others = c.enter_row.new.self.others }
+invariant_of-self c = grind (arith)
 
 pub invariant_of-self-2 : goal.invariant_of-self-2
 invariant_of-self-2 c =
@@ -29,6 +28,4 @@ returns-clause-edge c =
     }
 
 pub returns-clause-changed : goal.returns-clause-changed
-returns-clause-changed c =
-    let edge = edge_taken _ _ _ _ c.in_ok-edge.ensures.first c.enter_row.new.self.rest in
-    rw (edge.sum, ← c.enter_row.ensures.weight) edge.changed
+returns-clause-changed c = grind (arith, edge_taken)

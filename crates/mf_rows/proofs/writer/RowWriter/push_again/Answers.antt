@@ -1,4 +1,4 @@
-use Rattle.std.proofs.Common.{◌≡◌, ◌≢◌, ◌++◌, ◌∷◌, [], to_z-of_z, ap, sym, ◌∙◌, arith, append_assoc}
+use Rattle.std.proofs.Common.{◌≡◌, ◌++◌, ◌∷◌, [], to_z-of_z, ap, sym, ◌∙◌, arith, append_assoc}
 use Rattle.std.proofs.lemmas.Bool.{false≢true}
 use Rattle.std.proofs.lemmas.Int.{ints}
 use Rattle.mf_rows.specs.Bands.{rows_of_bands}
@@ -17,9 +17,7 @@ invariant_of-self c = rw c.in_err-push_again.ensures.unchanged c.self.invariant
 
 -- the edges of the last row of the band that is being written are those of the row
 last_is : (c : In_ok-push_again) → last_edges c.self.inside.rows ≡ c.args.row.now.edges.now
-last_is c =
-    let some : c.self.inside.rows ≢ [] = λ none. false≢true (sym c.if-not-is_empty.true ∙ c.is_empty.ensures.1 none) in
-    sym (last_edges-back (rows_of_bands c.self.inside.bands.items) c.self.inside.rows some) ∙ rw c.self.view_is c.requires.last
+last_is c = grind (arith, ints, false≢true, sym, last_edges-back)
 
 pub invariant_of-self-then-band_of-self : goal.invariant_of-self-then-band_of-self
 invariant_of-self-then-band_of-self c =
