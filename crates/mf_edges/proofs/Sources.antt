@@ -40,7 +40,7 @@ target_of-lt s a b stretch lt =
 pub source_of-reached : (s : Stretch) (p q : ℤ) → IsStretch s → p ≤ℤ source_of s q → target_of s p ≤ℤ q
 unfolding source_of
 source_of-reached s p q stretch le =
-    omega (arith, ints, quotient-within (q -ℤ s.offset) s.factor stretch.least, mul-le p (source_of s q) s.factor (omega (arith, ints, stretch.least)) le, stretch.least, stretch, le)
+    omega (arith, ints, quotient-within (q -ℤ s.offset) s.factor stretch.least, mul-le p (source_of s q) s.factor (omega (arith, ints, stretch.least)) le)
 
 pub source_of-from : (s : Stretch) (p q : ℤ) → IsStretch s → target_of s p ≤ℤ q → p ≤ℤ source_of s q
 unfolding source_of

@@ -64,13 +64,18 @@ mul-ge n a b le =
 -- so where two points stay in range, so do those between them
 IsCoordinate-between : (f o a p b : ℤ) → a ≤ℤ p → p ≤ℤ b → IsCoordinate ((a *ℤ f) +ℤ o) → IsCoordinate ((b *ℤ f) +ℤ o) → IsCoordinate ((p *ℤ f) +ℤ o)
 IsCoordinate-between (pos n) o a p b after before first last =
-    omega (arith, ints, mul-le a p (pos n) (omega (arith, ints)) after, mul-le p b (pos n) (omega (arith, ints)) before, first.least, last.greatest, after, before, first, last)
+    omega (arith, ints, mul-le a p (pos n) (omega (arith, ints)) after, mul-le p b (pos n) (omega (arith, ints)) before)
 IsCoordinate-between (negsuc n) o a p b after before first last =
     omega (arith, ints, mul-ge n a p after, mul-ge n p b before, last.least, first.greatest, after, before, first, last)
 
 PlaceStaysInside-between : (s : Stretch) (a p b : ℤ) → a ≤ℤ p → p ≤ℤ b → PlaceStaysInside s a → PlaceStaysInside s b → PlaceStaysInside s p
 PlaceStaysInside-between s a p b after before first last =
-    omega (arith, ints, IsCoordinate-between s.factor s.offset a p b after before first.start last.start, IsCoordinate-between s.factor s.offset (a +ℤ pos 1) (p +ℤ pos 1) (b +ℤ pos 1) (omega (arith, ints)) (omega (arith, ints)) first.end last.end, first.start, last.start, first.end, last.end, after, before, first, last)
+    omega (
+      arith,
+      ints,
+      IsCoordinate-between s.factor s.offset a p b after before first.start last.start,
+      IsCoordinate-between s.factor s.offset (a +ℤ pos 1) (p +ℤ pos 1) (b +ℤ pos 1) (omega (arith, ints)) (omega (arith, ints)) first.end last.end,
+    )
 
 -- what holds for the column, or row, of each dot holds for a side of the least box
 at_side : (P : ℤ → Type 0) (f : Dot → ℤ) (ds : List Dot) (side : ℤ) → All (λ d. P (f d)) ds → Any (λ d. f d ≡ side) ds → P side

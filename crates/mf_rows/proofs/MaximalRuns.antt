@@ -32,7 +32,14 @@ unfolding runs_of equal_dots run_from with_dot
 runs_of-equal_dots y x w zero ds some maximal = absurd (omega arith)
 runs_of-equal_dots y x w (suc zero) ds some maximal = with_dot-alone (record { y = y; x = x; weight = w }) (runs_of ds) maximal
 runs_of-equal_dots y x w (suc (suc n)) ds some maximal =
-    grind (arith, ints, maximal-shifted, cond-true, continued, runs_of-equal_dots y (x +ℤ pos 1) w (suc n) ds (omega arith) (maximal-shifted y x w n (runs_of ds) maximal))
+    grind (
+      arith,
+      ints,
+      maximal-shifted,
+      cond-true,
+      continued,
+      runs_of-equal_dots y (x +ℤ pos 1) w (suc n) ds (omega arith) (maximal-shifted y x w n (runs_of ds) maximal),
+    )
 
 pub maximal-tail : (r : Run) (rs : List Run) → AreMaximal (r ∷ rs) → AreMaximal rs
 maximal-tail r [] maximal = tt

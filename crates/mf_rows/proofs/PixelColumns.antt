@@ -74,7 +74,13 @@ module _ {es before : List Edge} {e : Edge} {after : List Edge} {w : ℤ} (cut :
 
   weight_before : (x : ℤ) → EndAt x before → x <ℤ e.x → weight_in es x ≡ w
   weight_before x left lt =
-      omega (arith, ints, weight_in-constant before x greatest_coordinate left (omega (arith, ints, among.edge.right)), weight_in-none e.x (e ∷ after) x (among.edge, omega (arith, ints), among.others) (omega (arith, ints)), parts x, left)
+      omega (
+        arith,
+        ints,
+        weight_in-constant before x greatest_coordinate left (omega (arith, ints, among.edge.right)),
+        weight_in-none e.x (e ∷ after) x (among.edge, omega (arith, ints), among.others) (omega (arith, ints)),
+        parts x,
+      )
 
   weight_after : (x : ℤ) → e.x ≤ℤ x → BeginFrom (x +ℤ pos 1) after → weight_in es x ≡ w +ℤ e.weight
   weight_after x le from =
@@ -155,7 +161,7 @@ pub record IsNoneAfter (p : Pixels) (es rest : List Edge) (w : ℤ) : Type 0 whe
 pub none_at_right : (p : Pixels) (es : List Edge) → AreEdges es → IsNoneAfter p es es (pos 0)
 none_at_right p es edges =
     let same : (x : ℤ) → EndAt x es → weight_in es x ≡ weight_in es greatest_coordinate =
-        grind (arith, ints, by_lt_z, sym, weight_in-constant, weight_in-after) in
+    grind (arith, ints, by_lt_z, sym, weight_in-constant, weight_in-after) in
     record {
       passed = [];
       split = sym (append-nil es);

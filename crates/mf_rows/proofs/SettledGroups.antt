@@ -30,7 +30,13 @@ weight_set [] i g x y inside = absurd (omega arith)
 weight_set (h ∷ gs) zero g x y inside =
     omega (arith, ints, weight_in_rows-append (rows_at_place h) (rows_of_groups gs) x y, weight_in_rows-append (rows_at_place g) (rows_of_groups gs) x y)
 weight_set (h ∷ gs) (suc i) g x y inside =
-    omega (arith, ints, weight_in_rows-append (rows_at_place h) (rows_of_groups gs) x y, weight_in_rows-append (rows_at_place h) (rows_of_groups (set gs i g)) x y, weight_set gs i g x y (omega arith))
+    omega (
+      arith,
+      ints,
+      weight_in_rows-append (rows_at_place h) (rows_of_groups gs) x y,
+      weight_in_rows-append (rows_at_place h) (rows_of_groups (set gs i g)) x y,
+      weight_set gs i g x y (omega arith),
+    )
 
 groups_from-set : (top : ℤ) (gs : Groups) (i : ℕ) (g : Option (Arc Group Global)) → AreGroupsFrom top gs → AreGroupRows (top_of top i) (rows_at_place g)
     → AreGroupsFrom top (set gs i g)
@@ -206,7 +212,14 @@ settled_more i gs hs gs' hs' g inside so_far rows weights =
           (λ last. subst (λ j. rows_in_place (set hs' i None) j ≡ []) (sym last) (place_set hs' i None inside));
       weights = record {
         weights = λ x y.
-            omega (arith, ints, weight_set gs' i g x y (omega (arith, so_far.places)), weight_set hs' i None x y inside, so_far.places, weights.weights x y, so_far.weights.weights x y);
+            omega (
+              arith,
+              ints,
+              weight_set gs' i g x y (omega (arith, so_far.places)),
+              weight_set hs' i None x y inside,
+              weights.weights x y,
+              so_far.weights.weights x y,
+            );
       };
     }
 

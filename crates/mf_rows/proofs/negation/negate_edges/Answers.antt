@@ -8,7 +8,12 @@ use Rattle.mf_rows.proofs.negation.negate_edges.Goals as goal
 
 pub overflow_sub-edge : goal.overflow_sub-edge
 overflow_sub-edge c =
-    omega (arith, ints, are_changes c.args.edges.now c.requires c.loop-edge.edge-index (record { x = pos 0; weight = pos 0 }) c.loop-edge-test.true, c.requires, c.loop-edge-test.true)
+    omega (
+      arith,
+      ints,
+      are_changes c.args.edges.now c.requires c.loop-edge.edge-index (record { x = pos 0; weight = pos 0 }) c.loop-edge-test.true,
+      c.loop-edge-test.true,
+    )
 
 pub loop-edge-preserved : goal.loop-edge-preserved
 loop-edge-preserved c =

@@ -10,11 +10,11 @@ overflow_mul-bottom c = (strip_place (omega (arith, ints)) c.requires.stretch c.
 
 pub overflow_add-bottom : goal.overflow_add-bottom
 overflow_add-bottom c =
-    omega (arith, ints, strip_place (omega (arith, ints)) c.requires.stretch c.requires.bottom c.requires.top c.requires.allowed, c.requires.stretch, c.requires.bottom, c.requires.top, c.requires.allowed, c.requires.allowed.start)
+    omega (arith, ints, strip_place (omega (arith, ints)) c.requires.stretch c.requires.bottom c.requires.top c.requires.allowed)
 
 pub overflow_add-bottom-2 : goal.overflow_add-bottom-2
 overflow_add-bottom-2 c =
-    omega (arith, ints, strip_place (omega (arith, ints)) c.requires.stretch c.requires.bottom c.requires.top c.requires.allowed, c.requires.stretch, c.requires.bottom, c.requires.top, c.requires.allowed, c.requires.allowed.start)
+    omega (arith, ints, strip_place (omega (arith, ints)) c.requires.stretch c.requires.bottom c.requires.top c.requires.allowed)
 
 pub push_copies-requires : goal.push_copies-requires
 push_copies-requires c =
