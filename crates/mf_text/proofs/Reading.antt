@@ -5,12 +5,13 @@ use Rattle.std.proofs.lemmas.Int.{ints}
 use Rattle.std.specs.Option.{option_map}
 use Rattle.std.specs.Result.{IsErrAnd}
 use Rattle.std.proofs.lemmas.Option.{none-some, same_Some}
+use Rattle.mf_geom.specs.declared.point.Point.{Point}
 use Rattle.mf_text.specs.declared.fault.SyntaxFault.{SyntaxFault}
 use Rattle.mf_text.specs.declared.path.Path as paths
 use Rattle.mf_text.specs.declared.token.Mark.TheVariants as mark
 use Rattle.mf_text.specs.declared.token.Word.TheVariants as word
 use Rattle.mf_text.specs.declared.tokens.Tokens.{Tokens}
-use Rattle.mf_text.specs.Grammar.{Line, Path, path_value, Point, Code, Name, Current, Register, Int, Pair, pair_value}
+use Rattle.mf_text.specs.Grammar.{Line, Path, path_value, Code, Name, Current, Register, Int, Pair, pair_value}
 use Rattle.mf_text.specs.Reads.{HasPoints, PassesPath, TakesToken, TakesValue, ahead, remaining_tokens, next_value}
 use Rattle.mf_text.specs.Rests.{Kind, Of, This, Numbers, Codes, Rest, Take, OrTake, Corners, One, Or, CodeNumber}
 use Rattle.mf_text.specs.Rests.{Ends, rest_of_corner, path, follow, from, is_code_number, name_token, step, value}

@@ -1,10 +1,12 @@
 -- The registers that a line names are letters.
 use Rattle.std.proofs.Common.{ℕ, ◌<◌, List, [], ◌∷◌, ◌++◌, subst, arith}
 use Rattle.std.specs.List.{AllByRecursion}
+use Rattle.mf_rows.specs.declared.sign.Sign.{Sign}
+use Rattle.mf_rows.specs.declared.sign.Sign.TheVariants.{Plus, Minus}
 use Rattle.mf_text.specs.Token as token
 use Rattle.mf_text.specs.Grammar.{Form, AddContour, AddPicture, CullKeeping, CullDropping, Clear, Move, ShowTotal}
 use Rattle.mf_text.specs.Grammar.{ShowPicture, ShowProof, ShipOut, Shifted, spell_name, spell_source, spell_signed}
-use Rattle.mf_text.specs.Grammar.{spell_form, spell_end, Sign, Plus, Minus, Name, Current, Register, Source, Null, Named}
+use Rattle.mf_text.specs.Grammar.{spell_form, spell_end, Name, Current, Register, Source, Null, Named}
 use Rattle.mf_text.specs.Lines.{Gives}
 use Rattle.mf_text.specs.Meaning.{Meaning, Is, If, Turns, Means, meaning, Command}
 use Rattle.mf_text.specs.Registers.{IsName, IsSource, HasNames, register_count}

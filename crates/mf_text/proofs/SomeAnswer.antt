@@ -8,14 +8,21 @@ use Rattle.std.proofs.lemmas.Option.{none-some}
 use Rattle.mf_geom.specs.Coordinates.{least_coordinate, greatest_coordinate}
 use Rattle.mf_geom.proofs.FirstFaults.{is_cycle, no_form_fault}
 use Rattle.mf_geom.specs.Faults.{form_fault}
+use Rattle.mf_geom.specs.declared.cycle.CycleFault.{CycleFault}
+use Rattle.mf_geom.specs.declared.point.Point.{Point}
+use Rattle.mf_ops.specs.ContourWeight.{IsContourWeight}
+use Rattle.mf_ops.specs.Cull.{IsLawfulCull}
 use Rattle.mf_ops.specs.Moves.{AreFactors, Factors, IsFactor, degrees}
+use Rattle.mf_ops.specs.declared.cull.CullRule.{CullRule}
+use Rattle.mf_ops.specs.declared.cull.CullRule.TheVariants.{Keeping, Dropping}
+use Rattle.mf_ops.specs.declared.quarter.Quarter.{Quarter}
 use Rattle.mf_ops.specs.declared.quarter.Quarter.TheVariants.{Once, Twice, Thrice}
 use Rattle.mf_text.specs.declared.command.Command.TheVariants as command
 use Rattle.mf_text.specs.declared.fault.TextFault.TheVariants as faults
-use Rattle.mf_text.specs.Grammar.{Line, Point, Name}
+use Rattle.mf_text.specs.Grammar.{Line, Name}
 use Rattle.mf_text.specs.Lines.{is_text_byte, IsText, line_ahead, longest_line, Gives, IsRefused}
 use Rattle.mf_text.specs.Meaning.{Value, Points, AWeight, ACull, AScale, Angle, Meaning, Is, If, Turns, HasRefusal, IsLawfulValue, IsUnlawful, Means}
-use Rattle.mf_text.specs.Meaning.{Refuses, meaning, CycleFault, IsContourWeight, IsLawfulCull, CullRule, Keeping, Dropping, Quarter, Command, TextFault}
+use Rattle.mf_text.specs.Meaning.{Refuses, meaning, Command, TextFault}
 use Rattle.mf_text.specs.Rests.{from, line}
 use Rattle.mf_text.specs.Syntax.{IsLine}
 use Rattle.mf_text.specs.Tokens.{without_columns, tokens}

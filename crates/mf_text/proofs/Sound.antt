@@ -5,13 +5,14 @@ use Rattle.std.proofs.lemmas.Int.{ints}
 use Rattle.std.specs.Option.{IfSome, option_map, option_or}
 use Rattle.std.proofs.lemmas.Bool.{false≢true}
 use Rattle.std.proofs.lemmas.Option.{none-some, same_Some}
+use Rattle.mf_rows.specs.declared.sign.Sign.TheVariants.{Plus, Minus}
 use Rattle.mf_text.specs.declared.token.Mark.TheVariants as mark
 use Rattle.mf_text.specs.Token as token
 use Rattle.mf_text.specs.declared.token.Word.TheVariants as word
 use Rattle.mf_text.specs.Grammar.{Form, Nothing, AddContour, AddPicture, CullKeeping, CullDropping, Clear, ShowTotal}
 use Rattle.mf_text.specs.Grammar.{ShowPicture, ShowProof, ShipOut, SetCheck, PublishAll}
 use Rattle.mf_text.specs.Grammar.{Line, Path, spell_form, spell_weight, spell_int, spell_pair, spell_name, spell_source, spell_corner}
-use Rattle.mf_text.specs.Grammar.{spell_path, spell_line, Plus, Minus, Code, Name, Current, Register, Source, Null, Named, Int, Pair}
+use Rattle.mf_text.specs.Grammar.{spell_path, spell_line, Code, Name, Current, Register, Source, Null, Named, Int, Pair}
 use Rattle.mf_text.specs.Rests.{Kind, Of, This, Names, Codes, Rest, Ends, Take, OrTake, Corners, One, Or, CodeNumber, ends, if_kind}
 use Rattle.mf_text.specs.Rests.{character_code, int, is_code_number, pair, path, rest_of_corner, rest_of_pair, source, step, assignment, line, line_end}
 use Rattle.mf_text.specs.Rests.{name_token, transform, value, weight_then_end, Token}

@@ -1,8 +1,8 @@
 -- The lines that a script may have, and how each is spelled in tokens.
 use Rattle.std.specs.Prelude.{Bool, List, [], ◌∷◌, ◌++◌, Option, Some, None, ℤ, pos, map, flat_map, if◌then◌else◌}
-pub use Rattle.mf_geom.specs.declared.point.Point.{Point}
-pub use Rattle.mf_rows.specs.declared.sign.Sign.{Sign}
-pub use Rattle.mf_rows.specs.declared.sign.Sign.TheVariants.{Plus, Minus}
+use Rattle.mf_geom.specs.declared.point.Point.{Point}
+use Rattle.mf_rows.specs.declared.sign.Sign.{Sign}
+use Rattle.mf_rows.specs.declared.sign.Sign.TheVariants.{Plus, Minus}
 pub use Rattle.mf_text.specs.declared.command.Name.{Name}
 pub use Rattle.mf_text.specs.declared.command.Name.TheVariants.{Current, Register}
 pub use Rattle.mf_text.specs.declared.command.Source.{Source}

@@ -4,20 +4,21 @@ use Rattle.mf_geom.specs.Faults.{form_fault}
 use Rattle.mf_geom.specs.Lawful.{IsRectilinearCycle, most_points}
 use Rattle.mf_geom.specs.declared.check.Check.{Check}
 use Rattle.mf_geom.specs.declared.check.Check.TheVariants.{Off, On}
-pub use Rattle.mf_ops.specs.ContourWeight.{IsContourWeight}
-pub use Rattle.mf_ops.specs.Cull.{IsLawfulCull}
-pub use Rattle.mf_ops.specs.Moves.{Factors, AreFactors, degrees}
-pub use Rattle.mf_ops.specs.declared.cull.CullRule.{CullRule}
-pub use Rattle.mf_ops.specs.declared.cull.CullRule.TheVariants.{Keeping, Dropping}
-pub use Rattle.mf_ops.specs.declared.quarter.Quarter.{Quarter}
-pub use Rattle.mf_geom.specs.declared.cycle.CycleFault.{CycleFault}
+use Rattle.mf_geom.specs.declared.cycle.CycleFault.{CycleFault}
+use Rattle.mf_geom.specs.declared.point.Point.{Point}
+use Rattle.mf_ops.specs.ContourWeight.{IsContourWeight}
+use Rattle.mf_ops.specs.Cull.{IsLawfulCull}
+use Rattle.mf_ops.specs.Moves.{Factors, AreFactors, degrees}
+use Rattle.mf_ops.specs.declared.cull.CullRule.{CullRule}
+use Rattle.mf_ops.specs.declared.cull.CullRule.TheVariants.{Keeping, Dropping}
+use Rattle.mf_ops.specs.declared.quarter.Quarter.{Quarter}
 pub use Rattle.mf_text.specs.declared.command.Command.{Command}
 use Rattle.mf_text.specs.declared.command.Command.TheVariants as command
 pub use Rattle.mf_text.specs.declared.fault.TextFault.{TextFault}
 use Rattle.mf_text.specs.declared.fault.TextFault.TheVariants as faults
 use Rattle.mf_text.specs.Grammar.{Form, Nothing, AddContour, AddPicture, CullKeeping, CullDropping, Clear, Move}
 use Rattle.mf_text.specs.Grammar.{ShowTotal, ShowPicture, ShowProof, ShipOut, SetCheck, PublishAll, Shifted, Scaled}
-use Rattle.mf_text.specs.Grammar.{XScaled, YScaled, Rotated, weight_value, path_value, Point, Name, int_value, pair_value}
+use Rattle.mf_text.specs.Grammar.{XScaled, YScaled, Rotated, weight_value, path_value, Name, int_value, pair_value}
 
 -- a value of a form that is checked
 pub data Value : Type 0 where

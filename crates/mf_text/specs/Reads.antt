@@ -2,11 +2,12 @@
 use Rattle.std.specs.Prelude.{◌≡◌, ◌≤◌, ◌<◌, ℕ, length, Bool, false, List, [], ◌∷◌, Option, None, Some, Result, Ok, Err, if◌then◌else◌}
 use Rattle.std.specs.Option.{option_map}
 use Rattle.mf_geom.specs.Lawful.{most_points}
+use Rattle.mf_geom.specs.declared.point.Point.{Point}
 use Rattle.mf_text.specs.declared.fault.TextFault.TheVariants.{Syntax}
 use Rattle.mf_text.specs.declared.fault.SyntaxFault.{SyntaxFault}
 use Rattle.mf_text.specs.declared.tokens.Tokens.{Tokens}
 use Rattle.mf_text.specs.declared.path.Path as paths
-use Rattle.mf_text.specs.Grammar.{Form, Line, Path, path_value, Point}
+use Rattle.mf_text.specs.Grammar.{Form, Line, Path, path_value}
 use Rattle.mf_text.specs.Meaning.{IsAnswerOf, Command, TextFault}
 use Rattle.mf_text.specs.Rests.{Rest, path, from, line_end, Ahead, Token, PlacedToken, this_in}
 use Rattle.mf_text.specs.Tokens.{tokens_from}

@@ -1,12 +1,13 @@
 -- The rests of lines: what may follow in a line, token by token, and the line that it ends as. The grammar is one of them.
 use Rattle.std.specs.Prelude.{ℕ, ◌-◌, List, [], ◌∷◌, Bool, true, false, Option, None, Some, Result, Ok, Err, ok_or, if◌then◌else◌}
 use Rattle.std.specs.Option.{option_map, option_and_then, option_or}
+use Rattle.mf_rows.specs.declared.sign.Sign.TheVariants.{Plus, Minus}
 use Rattle.mf_text.specs.declared.token.Mark.TheVariants as mark
 use Rattle.mf_text.specs.declared.token.Word.TheVariants as word
 use Rattle.mf_text.specs.declared.code.Code.{Code}
 use Rattle.mf_text.specs.Grammar.{Form, Nothing, AddContour, AddPicture, CullKeeping, CullDropping, Clear, Move, ShowTotal}
 use Rattle.mf_text.specs.Grammar.{ShowPicture, ShowProof, ShipOut, SetCheck, PublishAll, Shifted, Scaled, XScaled, YScaled}
-use Rattle.mf_text.specs.Grammar.{Rotated, Path, Line, Plus, Minus, Name, Current, Register, Source, Null, Named, Int, Pair}
+use Rattle.mf_text.specs.Grammar.{Rotated, Path, Line, Name, Current, Register, Source, Null, Named, Int, Pair}
 unfoldable pub use Rattle.mf_text.specs.Ints.{int_of, is_code, where_true}
 pub use Rattle.mf_text.specs.Token.{Ahead, Token, PlacedToken, name_in, this_in, value_in}
 use Rattle.mf_text.specs.Token as token
