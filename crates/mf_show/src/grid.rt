@@ -63,7 +63,7 @@ pub fn is_larger_than(bounds: &Box4, most: u32) -> bool
 }
 
 /// The number of bytes in the grid text of a box.
-fn size_of(bounds: &Box4) -> usize
+fn byte_count(bounds: &Box4) -> usize
     requires { IsBoxOfField bounds.now }
 {
     let columns = extent(bounds.min_x, bounds.max_x);
@@ -77,7 +77,7 @@ fn box_text(alloc: Global, picture: &Picture, bounds: &Box4) -> Result<Vec<u8>, 
     ensures { IfOk result (λ text. text.items ≡ grid_text picture.now) }
 {
     let mut weights = Weights::over(picture);
-    let mut text = Vec::with_capacity(alloc, size_of(bounds))?;
+    let mut text = Vec::with_capacity(alloc, byte_count(bounds))?;
     for y in (bounds.min_y..bounds.max_y + 1).rev() {
         push_row(&mut text, &mut weights, y, bounds.min_x, bounds.max_x)?;
     }

@@ -7,8 +7,8 @@ use Rattle.mf_show.proofs.PassedPixels.{ahead_below, all_ahead, row_ahead}
 use Rattle.mf_show.proofs.ShownRows.{box_all, box_more, box_none}
 use Rattle.mf_show.proofs.grid.box_text.Goals as goal
 
-pub size_of-requires : goal.size_of-requires
-size_of-requires c = least_box_of_field _ _ c.over-weights.ensures.lawful c.requires
+pub byte_count-requires : goal.byte_count-requires
+byte_count-requires c = least_box_of_field _ _ c.over-weights.ensures.lawful c.requires
 
 pub overflow_step-y : goal.overflow_step-y
 overflow_step-y c = let box = least_box_of_field _ _ c.over-weights.ensures.lawful c.requires in omega (arith, ints)
