@@ -6,7 +6,7 @@ SCALES = {"scaled", "xscaled", "yscaled"}
 
 
 class Refused(Exception):
-    """No line of the grammar starts with the tokens up to this one, or the line ends too early."""
+    """No line of the grammar begins with the tokens up to this one, or the line ends too early."""
 
 
 class Reader:

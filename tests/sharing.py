@@ -118,7 +118,7 @@ def cases():
     """Commands that share some of a picture, and make the rest anew."""
     of_tall, of_comb = 3 * FIELD, (TEETH + 1) * FIELD + TEETH
     a_and_b = tall("a") + "addto b also a\n"
-    # Rows of the first, the second and the last band. The second one starts with row 4078.
+    # Rows of the first, the second and the last band. The second one begins with row 4078.
     few = box("b", 1, 4070, 5, 4083) + box("b", 1, -4095, 5, -4094)
     # Row 15 is the last of a band.
     halves = box("b", 0, 15, 3, 4095) + box("c", 0, -4095, 3, 15)

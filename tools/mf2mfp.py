@@ -211,7 +211,7 @@ class Script:
         return self.registers[name]
 
     def known_by(self, token: str) -> set[str]:
-        """The known pictures whose names start with this token."""
+        """The known pictures whose names begin with this token."""
         return {name for name in self.known if re.match(r"[A-Za-z_]*", name)[0] == token}
 
     def contour(self, name: str, weight: str, points: list[Point]) -> None:
@@ -398,7 +398,7 @@ class Log:
         source.steps.append(step)
 
     def read_restored(self, token: str) -> None:
-        """Reads that the names that start with a token are restored. Their pictures are no longer known."""
+        """Reads that the names that begin with a token are restored. Their pictures are no longer known."""
         if names := self.script.known_by(token):
             self.end_statement()
             self.script.known -= names

@@ -10,7 +10,7 @@ use Rattle.mf_gf.specs.Numbers.{greatest_halfword}
 use Rattle.mf_gf.specs.Painting.{Stroke, Paint, Skip, NewRow, Read, with_bytes, read_stroke, strokes_at_end, strokes_within, strokes}
 use Rattle.mf_gf.specs.Spelling.{with_parameter, paint, skip, new_row}
 
--- what is read where these bytes start with a command
+-- what is read where these bytes begin with a command
 abbrev read_as : Stroke → List ℕ → Option Read
 read_as stroke rest = Some (record { stroke = Some stroke; rest = rest })
 

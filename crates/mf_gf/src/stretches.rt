@@ -29,7 +29,7 @@ impl<'a> Stretches<'a> {
         Stretches { next, runs }
     }
 
-    /// Returns the stretch that starts with this run, lengthened by the runs after it that continue it, and moves on to the one
+    /// Returns the stretch that begins with this run, lengthened by the runs after it that continue it, and moves on to the one
     /// after these.
     #[inline(always)]
     fn lengthen(&mut self, begun: Run) -> Run

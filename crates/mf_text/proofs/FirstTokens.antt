@@ -1,4 +1,4 @@
--- The token at the front of bytes that do not start with a blank, and what is ahead there.
+-- The token at the front of bytes that do not begin with a blank, and what is ahead there.
 use Rattle.std.proofs.Common.{◌≡◌, ℕ, ◌+◌, ◌<◌, ◌≤◌, true, List, [], ◌∷◌, drop, length, Option, None, Some, refl, sym, ap, ◌∙◌, arith}
 use Rattle.std.proofs.lemmas.Int.{ints}
 use Rattle.std.specs.Option.{option_map}

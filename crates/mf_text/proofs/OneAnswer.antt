@@ -54,7 +54,7 @@ not_both (Turns name angle) given fault p q = q.unlawful (p.quarter, p.angle_is)
 starts_front : (ts us : List Token) → StartsLine (ts ++ us) → StartsLine ts
 starts_front ts us begun = grind (arith, ints, append_assoc)
 
--- where some line starts with tokens, one starts with each prefix of them
+-- where some line begins with tokens, one begins with each prefix of them
 starts-sooner : (ts : List Token) (j k : ℕ) → j ≤ k → StartsLine (take k ts) → StartsLine (take j ts)
 starts-sooner ts j k below begun =
     let parts = take-append-drop j (take k ts) in

@@ -148,7 +148,7 @@ scale_or_turn name =
 abbrev pub transform : Name → Rest
 transform name = Or (token.Word word.Shifted) (pair (λ by. line_end (Move name (Shifted by)))) (scale_or_turn name)
 
--- after the name that a line starts with
+-- after the name that a line begins with
 abbrev pub assignment : Name → Rest
 assignment name = One (token.Mark mark.Becomes) (Or (token.Word word.NullPicture) (line_end (Clear name)) (One (name_token name) (transform name)))
 

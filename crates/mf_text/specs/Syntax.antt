@@ -12,20 +12,20 @@ pub record IsLine (ts : List Token) : Type 0 where
   pub tree : Line
   pub spelled : ts ≡ spell_line tree
 
--- some line of the grammar starts with these tokens
+-- some line of the grammar begins with these tokens
 pub record StartsLine (ts : List Token) : Type 0 where
   pub rest : List Token
   pub line : IsLine (ts ++ rest)
 
--- the place, counted from 0, of the first token such that no line starts with the tokens up to and including it; or the end, where
--- some line starts with the tokens but they are not one
+-- the place, counted from 0, of the first token such that no line begins with the tokens up to and including it; or the end, where
+-- some line begins with the tokens but they are not one
 pub record IsWrongAt (ts : List Token) (k : ℕ) : Type 0 where
   pub within : k ≤ length ts
   pub starts : StartsLine (take k ts)
   pub wrong : k < length ts → StartsLine (take (suc k) ts) → ⊥
   pub unended : k ≡ length ts → IsLine ts → ⊥
 
--- the tokens start with `shipout`, a source, `code`, `-` and a number
+-- the tokens begin with `shipout`, a source, `code`, `-` and a number
 abbrev pub is_negative_code : List Token → Bool
 is_negative_code (token.Word word.Shipout ∷ source ∷ token.Word word.Code ∷ token.Mark mark.Minus ∷ token.Number n ∷ ts) = true
 is_negative_code ts = false

@@ -6,7 +6,7 @@ use Rattle.mf_text.specs.Limits.{percent_sign}
 use Rattle.mf_text.specs.Token as token
 use Rattle.mf_text.specs.Tokens.{first_is, is_longer, mark_text, number_token, word_token, Mark, is_blank, PlacedToken, Token}
 
--- the text is a longest row of bytes of one kind: it has at least one, and the rest does not start with another
+-- the text is a longest row of bytes of one kind: it has at least one, and the rest does not begin with another
 pub record IsRow (p : ℕ → Bool) (text rest : List ℕ) : Type 0 where
   pub some : 0 < length text
   pub all : All (λ b. p b ≡ true) text

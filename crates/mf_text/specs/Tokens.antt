@@ -75,13 +75,13 @@ word_token letters =
 unfoldable pub number_token : List ℕ → Token
 number_token digits = if nat_le (length digits) most_digits then token.Number (digits_value 10 digits) else token.Unknown
 
--- the first of these marks that the bytes start with; where there is none, the first byte is a token of its own
+-- the first of these marks that the bytes begin with; where there is none, the first byte is a token of its own
 unfoldable pub mark_among : List (List ℕ × Mark) → List ℕ → SizedToken
 mark_among [] bs = record { token = token.Unknown; bytes = 1 }
 mark_among (entry ∷ entries) bs =
     if starts_with nat_eq bs entry.0 then record { token = token.Mark entry.1; bytes = length entry.0 } else mark_among entries bs
 
--- the token that the bytes start with
+-- the token that the bytes begin with
 unfoldable pub first_token : List ℕ → SizedToken
 first_token bs =
     if nat_lt 0 (length (take_while is_ascii_alphabetic bs))
@@ -95,7 +95,7 @@ abbrev pub first_is : (ℕ → Bool) → List ℕ → Bool
 first_is p [] = false
 first_is p (b ∷ bs) = p b
 
--- a longer mark that starts with this one is at the front
+-- a longer mark that begins with this one is at the front
 abbrev pub is_longer : Mark → List ℕ → Bool
 is_longer mark.Minus bs = starts_with nat_eq bs (mark_text mark.Join)
 is_longer m bs = false

@@ -27,7 +27,7 @@ pub enum TextFault {
     /// Some byte of the line, comments included, is neither a tab nor printed ASCII.
     NotAscii,
     /// The line is not in the grammar. The number is a column, in bytes from 1: that of the first token such that no line of
-    /// the grammar starts with the tokens up to and including it, or one past the last token where the line ends too early. A
+    /// the grammar begins with the tokens up to and including it, or one past the last token where the line ends too early. A
     /// number out of range after `code -` is reported at the `-`.
     Syntax(u32),
 }

@@ -51,7 +51,7 @@ pub fn wrong_is_no_line()
     ensures { (ahead : Ahead) (column : ℕ) → IsSyntaxFault ahead column → IsLine (without_columns ahead.tokens) → ⊥ }
 {}
 
-/// Some line of the grammar starts with given tokens, or none does.
+/// Some line of the grammar begins with given tokens, or none does.
 #[tactic(auto, using(crate::proofs::LineReading::starts_or_not))]
 pub fn starts_or_not()
     ensures { (ts : List Token) → StartsLine ts ⊎ (StartsLine ts → ⊥) }

@@ -41,7 +41,7 @@ pub fn read_command(alloc: Global, line: &[u8]) -> Result<Command, TextFault>
     line_of(alloc, Tokens::new(line))
 }
 
-/// The command of a line. Asks for the seven words that a command may start with, one after another, and then for a name.
+/// The command of a line. Asks for the seven words that a command may begin with, one after another, and then for a name.
 #[tactic(auto, using(crate::proofs::LineAnswers::nothing))]
 fn line_of(alloc: Global, tokens: Tokens<'_>) -> Result<Command, TextFault>
     ensures { AnswersLine (from rests.line (ahead tokens.entry)) result }
@@ -215,7 +215,7 @@ fn publish(tokens: &mut Tokens<'_>) -> Result<Command, TextFault>
     Ok(Command::Publish)
 }
 
-/// The line after the name that it starts with.
+/// The line after the name that it begins with.
 fn assignment(tokens: &mut Tokens<'_>, name: Name) -> Result<Command, TextFault>
     ensures { AnswersLine (from (rests.assignment name) (ahead tokens.old)) result }
 {

@@ -162,7 +162,7 @@ const FILES_IN_ONE_WORD: &[(&str, &str)] = &[
     ("--gf=größe π.gf", "größe π.gf"),
 ];
 
-/// FILE is any text. A word that starts with `-` is a FILE only if it is `-` itself, or if it comes after `=`.
+/// FILE is any text. A word that begins with `-` is a FILE only if it is `-` itself, or if it comes after `=`.
 #[test]
 fn takes_the_file_as_it_is(rt: HostRuntime) {
     for file in FILES {

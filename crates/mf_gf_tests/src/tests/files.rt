@@ -203,7 +203,7 @@ fn comment_and_words(rt: HostRuntime) {
     assert_bytes(&rt, alloc, &finished_with(&rt, file, WORDS), corners());
 }
 
-/// Asserts that the locator of a character with this escapement, the only one of its file, starts with these bytes.
+/// Asserts that the locator of a character with this escapement, the only one of its file, begins with these bytes.
 fn assert_locator(rt: &impl Abort, alloc: Global, dx: i32, locator: &[u8]) {
     let mut file = gf_file(rt, alloc);
     ship(rt, &mut file, 1, (dx, -5), &picture(rt, alloc, UNIT, 1));

@@ -60,7 +60,7 @@ pub(super) fn mark_at(mark: Mark, text: &[u8]) -> Option<usize>
     Some(written.len())
 }
 
-/// Whether a longer mark that starts with this one is at the front: `--` for `-`.
+/// Whether a longer mark that begins with this one is at the front: `--` for `-`.
 #[inline(always)]
 fn is_longer(mark: Mark, text: &[u8]) -> bool
     ensures { result ≡ is_longer mark text.now }
@@ -71,7 +71,7 @@ fn is_longer(mark: Mark, text: &[u8]) -> bool
     }
 }
 
-/// Whether the text starts with these bytes. One after another is compared, so that those of a given word or mark are constants
+/// Whether the text begins with these bytes. One after another is compared, so that those of a given word or mark are constants
 /// in the code, and the first byte that differs decides. With `starts_with` of std, which compares groups of bytes, a point of a
 /// contour takes 140 instructions more to read, and a trivial line 14.
 #[inline(always)]
