@@ -124,7 +124,7 @@ pub(crate) fn close_band(
         return Ok(());
     }
     let mut rows = rows;
-    rows.give_back_room();
+    rows.trim_room();
     bands.push(Arc::new(alloc, Band { number, rows })?)?;
     Ok(())
 }

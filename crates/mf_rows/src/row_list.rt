@@ -223,7 +223,7 @@ impl RowList {
 
     /// Gives back the room for edges that is left, where it is more than an eighth: a list that grows has up to twice the room that it
     /// needs, and a picture that was moved or culled keeps its lists.
-    pub(crate) fn give_back_room(&mut self)
+    pub(crate) fn trim_room(&mut self)
         ensures { self.new ≡ self.old }
     {
         if self.edges.len() < self.edges.capacity() / 8 * 7 {
