@@ -2,7 +2,6 @@
 use Rattle.std.specs.Prelude.{◌≡◌, ◌<◌, ◌≤◌, ◌+◌, ◌-◌, ℤ, pos, ◌+ℤ◌, ◌≤ℤ◌, ◌<ℤ◌, List, map, length}
 use Rattle.std.specs.List.{HoldsAt}
 use Rattle.std.specs.Vec.{vec_len, vec_capacity}
-use Rattle.mf_edges.specs.declared.edge.Edge.{Edge}
 use Rattle.mf_rows.specs.declared.builder.OpenRow.{OpenRow}
 use Rattle.mf_rows.specs.declared.run.Run.{Run}
 use Rattle.mf_edges.specs.Edges.{AreEdges, weight_in}

@@ -1,6 +1,6 @@
 -- Walks over the weights of a picture.
 use Rattle.std.proofs.Common.{◌≡◌, ℕ, zero, suc, ◌<◌, ℤ, pos, ◌+ℤ◌, ◌-ℤ◌, ◌≤ℤ◌, ◌<ℤ◌, Option, None, Some}
-use Rattle.std.proofs.Common.{MatchOption, List, [], ◌∷◌, ◌++◌, length, refl, sym, ap, ◌∙◌, subst, arith}
+use Rattle.std.proofs.Common.{MatchOption, List, [], ◌∷◌, length, refl, sym, ap, ◌∙◌, subst, arith}
 use Rattle.std.specs.List.{flat_map}
 use Rattle.std.proofs.lemmas.Int.{ints}
 use Rattle.std.proofs.lemmas.List.Elements.{All-nil}
@@ -9,7 +9,7 @@ use Rattle.mf_rows.specs.declared.run.Run.{Run}
 use Rattle.mf_rows.specs.Boxes.{IsBoxOfField}
 use Rattle.mf_rows.specs.Dots.{Dot, IsPicture, place, weight_at}
 use Rattle.mf_rows.specs.Order.{AreRuns, IsRun}
-use Rattle.mf_rows.specs.Runs.{equal_dots, dots_of, runs_of, with_next}
+use Rattle.mf_rows.specs.Runs.{dots_of, runs_of, with_next}
 use Rattle.mf_rows.proofs.DotsLemmas.{weight_at-before}
 use Rattle.mf_rows.proofs.RunDots.{IsOnRun, before_equal_dots-end, dots_from-runs, runs-rest}
 use Rattle.mf_rows.proofs.RunDots.{weight_at-on_run, weight_at-off_run, weight_at-append_after, weight_at-append_none}

@@ -11,7 +11,6 @@ use super::{copy_of, picture_of};
 use crate::tests::assertions::assert_same;
 use mf_base::OutOfMemory;
 use mf_rows::{Corner, Picture};
-use std::alloc::Global;
 use std::process::Abort;
 
 /// Rectangles that are a pixel wide, in every `step`-th column from `left` on; with a step of 1, they are one wider rectangle.
