@@ -6,7 +6,7 @@ use mf_rows::{Box4, Picture};
 use mf_show::is_larger_than;
 
 /// The greatest number of columns, and of rows, of an image.
-pub const MAX_SIDE: u32 = 4096;
+const MAX_SIDE: u32 = 4096;
 
 /// The box of the image of the blank picture: the pixel at the origin.
 const ORIGIN: Box4 = Box4 {

@@ -7,7 +7,6 @@ pub mod laws;
 mod pgm_image;
 mod svg_image;
 
-pub use bounds::MAX_SIDE;
 pub use fault::ImageFault;
 pub use pgm_image::pgm;
 pub use svg_image::svg;
