@@ -4,30 +4,22 @@ ghost use Rattle.mf_stage.specs.declared.fault.StageFault.TheVariants.{OutOfMemo
 
 use mf_base::OutOfMemory;
 use std::alloc::AllocError;
-use thiserror::Error;
 
-/// Why the performance of a script did not end well. Its message is its name and, where it has one, the revision. What was
-/// written before it stays.
-#[derive(Clone, Copy, Debug, PartialEq, Eq, Error)]
+/// Why the performance of a script did not end well. What was written before it stays.
+#[derive(Clone, Copy, Debug, PartialEq, Eq)]
 pub enum StageFault {
     /// An allocation failed, or the reader answered with an error of this kind.
-    #[error("OutOfMemory")]
     OutOfMemory,
     /// The limit of the font file is below the 3 bytes of the shortest preamble. Nothing was read or written.
-    #[error("FileTooLong")]
     FileTooLong,
     /// The reader answered with an error other than an interruption or a lack of memory, or the script has
     /// 18,446,744,073,709,551,615 lines or more.
-    #[error("ReadFault")]
     ReadFault,
     /// The writer of the transcript answered with an error, also where it was flushed, or took no byte.
-    #[error("WriteFault")]
     WriteFault,
     /// The picture of this revision is too large for an image. This comes only where plates are asked for.
-    #[error("ImageTooLarge {0}")]
     ImageTooLarge(u32),
     /// An image file of this revision could not be created or written. This comes only where plates are asked for.
-    #[error("PlateFault {0}")]
     PlateFault(u32),
 }
 
