@@ -1,6 +1,6 @@
 -- Walks over the weights of a picture.
 use Rattle.std.proofs.Common.{◌≡◌, ℕ, zero, suc, ◌<◌, ℤ, pos, ◌+ℤ◌, ◌-ℤ◌, ◌≤ℤ◌, ◌<ℤ◌, Option, None, Some}
-use Rattle.std.proofs.Common.{MatchOption, List, [], ◌∷◌, length, refl, sym, ap, ◌∙◌, subst, arith}
+use Rattle.std.proofs.Common.{MatchOption, List, [], ◌∷◌, length, refl, sym, subst, arith}
 use Rattle.std.specs.List.{flat_map}
 use Rattle.std.proofs.lemmas.Int.{ints}
 use Rattle.std.proofs.lemmas.List.Elements.{All-nil}
@@ -37,19 +37,13 @@ same_after r rs p end = grind (arith, ints, before_equal_dots-end, weight_at-app
 -- a pixel that the first run does not end before has the weight that this run gives to it
 weight_reached : (r : Run) (rs : List Run) (x y : ℤ) → AreRuns (r ∷ rs) → IsNotBefore x y r
     → weight_at (dots_of r) x y ≡ weight_at (flat_map dots_of (r ∷ rs)) x y
-weight_reached r rs x y ordered reached =
-    let end = place (r.x +ℤ pos r.len) r.y in
-    let none = weight_at-before end (flat_map dots_of rs) x y (dots_from-runs end rs ordered.runs.2) reached.reach in
-    sym (weight_at-append_none (dots_of r) (flat_map dots_of rs) x y none)
+weight_reached r rs x y ordered reached = grind (arith, ints, weight_at-before, dots_from-runs, sym, weight_at-append_none)
 
 -- ---- what a walk has ahead
 
 -- all runs of a picture, where none is passed
 pub all_ahead : (low : ℤ) (ds : List Dot) (rs : List Run) → IsPicture ds → rs ≡ runs_of ds → AreAhead low ds rs
-all_ahead low ds rs picture all = record {
-  order = rw all (ordered_runs_of ds picture);
-  same = rw (all, dots_of-runs_of ds) (record { same = λ x y from. refl });
-}
+all_ahead low ds rs picture all = grind (arith, ints, ordered_runs_of, dots_of-runs_of)
 
 pub none_passed : (low : ℤ) (all : List Run) → AreRuns all → AreAhead low (flat_map dots_of all) all
 none_passed low all ordered = record { order = ordered; same = record { same = λ x y from. refl } }
@@ -117,10 +111,7 @@ ahead_below b y ds rs others box =
 pub weight_of_taken : (x y : ℤ) (all : List Run) (o : Option Run) (r : Run) (rs : List Run) → o ≡ Some r → AreRuns (with_next o rs)
     → IsNotBefore x y r → AreSameFrom (place x y) (flat_map dots_of all) (flat_map dots_of (with_next o rs))
     → weight_at (dots_of r) x y ≡ weight_at (flat_map dots_of all) x y
-weight_of_taken x y all o r rs some ordered reached so_far =
-    weight_reached r rs x y (subst AreRuns (with_next-some o r rs some) ordered) reached
-    ∙ ap (λ (ahead : List Run). weight_at (flat_map dots_of ahead) x y) (sym (with_next-some o r rs some))
-    ∙ so_far.same x y (omega (arith, ints))
+weight_of_taken x y all o r rs some ordered reached so_far = grind (arith, ints, weight_reached, with_next-some, sym)
 
 pub weight_of_none : (x y : ℤ) (all : List Run) (o : Option Run) (rs : List Run) → o ≡ None
     → AreSameFrom (place x y) (flat_map dots_of all) (flat_map dots_of (with_next o rs)) → pos 0 ≡ weight_at (flat_map dots_of all) x y

@@ -16,9 +16,7 @@ row_at : (f : ℤ → ℕ) (x : ℤ) (n i : ℕ) → i < n → get_or (shown_row
 unfolding shown_row
 row_at f x zero i inside = absurd (omega (arith, inside))
 row_at f x (suc n) zero inside = let here : x ≡ x +ℤ pos 0 = omega (arith, ints) in ap f here
-row_at f x (suc n) (suc i) inside =
-    let next : (x +ℤ pos 1) +ℤ pos i ≡ x +ℤ pos (suc i) = omega (arith, ints) in
-    row_at f (x +ℤ pos 1) n i (omega (arith, inside)) ∙ ap f next
+row_at f x (suc n) (suc i) inside = grind (arith, ints, row_at f (x +ℤ pos 1) n i (omega (arith, inside)))
 
 -- lines of s numbers each
 module _ (line : ℤ → List ℕ) (s : ℕ) (whole : (y : ℤ) → length (line y) ≡ s) where
@@ -26,12 +24,7 @@ module _ (line : ℤ → List ℕ) (s : ℕ) (whole : (y : ℤ) → length (line
   at_line : (y : ℤ) (n j i : ℕ) → j < n → i < s → get_or (shown_rows line y n) (j * s + i) 0 ≡ get_or (line (y -ℤ pos j)) i 0
   unfolding shown_rows
   at_line y zero j i row column = absurd (omega (arith, row))
-  at_line y (suc n) zero i row column =
-      let here : y ≡ y -ℤ pos 0 = omega (arith, ints) in
-      let first : 0 * s + i ≡ i = omega arith in
-      ap (λ k. get_or (line y ++ shown_rows line (y -ℤ pos 1) n) k 0) first
-      ∙ get_or_append_left (line y) (shown_rows line (y -ℤ pos 1) n) 0 i (omega (arith, column, whole y))
-      ∙ ap (λ v. get_or (line v) i 0) here
+  at_line y (suc n) zero i row column = grind (arith, ints, get_or_append_left)
   at_line y (suc n) (suc j) i row column =
       let behind : suc j * s + i ≡ length (line y) + (j * s + i) = omega (arith, suc-mul j s, whole y) in
       let below : (y -ℤ pos 1) -ℤ pos j ≡ y -ℤ pos (suc j) = omega (arith, ints) in
@@ -59,11 +52,7 @@ module _ (f : ℤ → ℤ → ℕ) (end : List ℕ) (b : Box4) (s : ℕ) (whole 
 
   pub pixel_at : (i j : ℕ) → i < extent b.min_x b.max_x → j < extent b.min_y b.max_y
       → get_or (shown_box f end b) (j * s + i) 0 ≡ f (b.max_y -ℤ pos j) (b.min_x +ℤ pos i)
-  pixel_at i j column inside =
-      let y = b.max_y -ℤ pos j in
-      at_line (shown_line f end b) s line_size b.max_y (extent b.min_y b.max_y) j i inside (omega (arith, column, whole))
-      ∙ get_or_append_left (row y) end 0 i (omega (arith, column, row_size y))
-      ∙ row_at (f y) b.min_x (extent b.min_x b.max_x) i column
+  pixel_at i j column inside = grind (arith, ints, at_line, line_size, get_or_append_left, row_size, row_at)
 
   pub end_at : (j : ℕ) → j < extent b.min_y b.max_y → extent b.min_x b.max_x < s
       → get_or (shown_box f end b) (j * s + extent b.min_x b.max_x) 0 ≡ get_or end 0 0

@@ -3,11 +3,10 @@ use Rattle.std.proofs.lemmas.Result.{err_from_is_err_and}
 use Rattle.mf_rows.proofs.BoxesOfDots.{least_box_of_field}
 use Rattle.mf_show.proofs.GridTexts.{blank_fits, grid_of_blank, large_box, neither, small_box_fits}
 use Rattle.mf_show.proofs.grid.proof_grid.Goals as goal
+use Rattle.std.proofs.Common.{arith}
 
 pub returns-in_err-blank-clause-too_large : goal.returns-in_err-blank-clause-too_large
-returns-in_err-blank-clause-too_large c =
-    let fault = err_from_is_err_and c.from_residual.result c.from_residual.ensures.1 in
-    neither (blank_fits _ (c.in_default.ensures.blank.0 refl)) (λ same. cc (fault.1, fault.2, same))
+returns-in_err-blank-clause-too_large c = grind (arith, err_from_is_err_and, neither, blank_fits)
 
 pub returns-in_default-clause-text : goal.returns-in_default-clause-text
 returns-in_default-clause-text c = c.in_ok-blank.ensures ∙ sym (grid_of_blank _ (c.in_default.ensures.blank.0 refl))
@@ -22,9 +21,7 @@ pub returns-then-is_larger_than-clause-too_large : goal.returns-then-is_larger_t
 returns-then-is_larger_than-clause-too_large c = (λ _. refl, λ _. (large_box _ _ c.in-Some.ensures.least).1 (c.if-is_larger_than.ensures.0 refl))
 
 pub returns-in_err-box_text-clause-too_large : goal.returns-in_err-box_text-clause-too_large
-returns-in_err-box_text-clause-too_large c =
-    let fault = err_from_is_err_and c.from_residual-in_err-box_text.result c.from_residual-in_err-box_text.ensures.1 in
-    neither (small_box_fits _ _ c.in-Some.ensures.least c.if-is_larger_than.ensures.1) (λ same. cc (fault.1, fault.2, same))
+returns-in_err-box_text-clause-too_large c = grind (arith, err_from_is_err_and, neither, small_box_fits)
 
 pub returns-clause-too_large : goal.returns-clause-too_large
 returns-clause-too_large c = neither (small_box_fits _ _ c.in-Some.ensures.least c.if-is_larger_than.ensures.1) (λ same. cc same)

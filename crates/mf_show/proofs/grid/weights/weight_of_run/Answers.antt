@@ -13,8 +13,4 @@ returns-then-run-x c =
     weight ∙ weight_on run c.args.x c.args.y c.requires.run (omega (arith, ints))
 
 pub returns : goal.returns
-returns c = weight_off c.args.run.now c.args.x c.args.y (λ on.
-    elim c.else-run-y.branch [
-      | else-run-y-via-then-run-y+else-run-x w ↦ omega (arith, ints, on.left, w.if-run-x)
-      | else-run-y-via-else-run-y w ↦ omega (arith, ints, on.row, w.if-run-y)
-    ])
+returns c = grind (arith, ints, weight_off)
