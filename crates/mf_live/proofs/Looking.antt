@@ -13,7 +13,7 @@ use Rattle.mf_live.specs.declared.notice.Notice.{Notice}
 use Rattle.mf_live.specs.declared.version.Version.{Version}
 use Rattle.mf_live.specs.declared.view.View.{View}
 use Rattle.mf_live.specs.declared.viewer.Viewer.{Viewer}
-use Rattle.mf_live.specs.Books.{most_accepted}
+use Rattle.mf_live.specs.Books.{greatest_limit}
 use Rattle.mf_live.specs.Entries.{Entry, is_closed, is_nothing_after_end}
 use Rattle.mf_live.specs.Prefixes.{IsWholePrefix, longer}
 use Rattle.mf_live.specs.Rule.{IsKnowledgeOf, IsLook, seen_knowledge, book_of, events_of}
@@ -28,7 +28,7 @@ use Rattle.mf_live.proofs.Worlds.{lawful-after, published-grows}
 -- what a prefix of a notice's events has published is a whole prefix of what the notice says
 pub told_list-prefix : (n : Notice) (events : List Event) → IsPrefix events (notice_events n) → IsWholePrefix (published_list_of events) (told_list n)
 told_list-prefix n events prefix =
-    let grows = published-grows most_accepted events prefix.0 (subst (Happen most_accepted new_world) (sym prefix.1) n.prefix.lawful) in
+    let grows = published-grows greatest_limit events prefix.0 (subst (Happen greatest_limit new_world) (sym prefix.1) n.prefix.lawful) in
     subst (λ (all : List Event). IsWholePrefix (published_list_of events) (published_list_of all)) prefix.1 grows
 
 -- what a notice says was published by the events that it knows
@@ -37,7 +37,7 @@ is_published n = record { happen = n.prefix.lawful; is = refl; all = n.whole; al
 
 -- nothing follows the end mark in what a notice says
 pub told_list-ends : (n : Notice) → is_nothing_after_end (told_list n) ≡ true
-told_list-ends n = subst (λ (L : List Entry). is_nothing_after_end L ≡ true) n.whole (lawful-after most_accepted (notice_events n) n.prefix.lawful).ended
+told_list-ends n = subst (λ (L : List Entry). is_nothing_after_end L ≡ true) n.whole (lawful-after greatest_limit (notice_events n) n.prefix.lawful).ended
 
 kept_by-prefix : (b : Book) (events : List Event) (missed : Bool) (v : View) → IsKnowledgeOf b events v.earlier
     → IsKnowledgeOf b events v.latest → IsKnowledgeOf b events (seen_knowledge missed v)

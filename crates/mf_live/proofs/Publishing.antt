@@ -5,7 +5,7 @@ use Rattle.left_right.specs.Sides.{view}
 use Rattle.mf_live.specs.declared.event.Event.{Event}
 use Rattle.mf_live.specs.declared.event.Event.TheVariants.{Publish}
 use Rattle.mf_live.specs.declared.holder.Holder.{Holder}
-use Rattle.mf_live.specs.Books.{most_accepted}
+use Rattle.mf_live.specs.Books.{greatest_limit}
 use Rattle.mf_live.specs.Holders.{events, accepted_list, version}
 use Rattle.mf_live.specs.Rule.{events_of, publish_events}
 use Rattle.mf_live.specs.World.{World, Happen, new_world, world_after, accepted_list_of, published_list_of}
@@ -35,11 +35,11 @@ module _ (h : Holder) where
   pub alive-publish : (world_after new_world all_written).gone ≡ false
   alive-publish = ap (λ (w : World). w.gone) world_is ∙ h.alive
 
-  pub Happen-publish : Happen most_accepted new_world all_written
-  Happen-publish = rw is_pushed (Happen-push most_accepted new_world (events h) Publish h.lawful h.alive)
+  pub Happen-publish : Happen greatest_limit new_world all_written
+  Happen-publish = rw is_pushed (Happen-push greatest_limit new_world (events h) Publish h.lawful h.alive)
 
-  pub Happen-written : Happen most_accepted (world_after new_world (events_of (version h))) written
-  Happen-written = Happen-rest most_accepted new_world (events_of (version h)) written Happen-publish
+  pub Happen-written : Happen greatest_limit (world_after new_world (events_of (version h))) written
+  Happen-written = Happen-rest greatest_limit new_world (events_of (version h)) written Happen-publish
 
   pub length-written : h.unwritten + 1 ≡ length written
   length-written = omega (arith, h.counted, length-append (view h.swap.desk.place).unwritten (Publish ∷ []))

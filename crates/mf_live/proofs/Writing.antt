@@ -6,7 +6,7 @@ use mathlib.Core.List.{IsPrefix}
 use prog.Atomic.{either}
 use Rattle.logbook.specs.Pages.{Cell, cell, View, keeps, no_nib, Goes, Moves}
 use Rattle.mf_live.specs.declared.event.Event.{Event}
-use Rattle.mf_live.specs.Books.{most_accepted, IsLawfulBook, Writes}
+use Rattle.mf_live.specs.Books.{greatest_limit, IsLawfulBook, Writes}
 use Rattle.mf_live.specs.World.{Happen, new_world, world_after}
 use Rattle.mf_live.proofs.ListPrefixes.{prefix-same}
 use Rattle.mf_live.proofs.Worlds.{Happen-append}
@@ -35,14 +35,14 @@ module _ (seen more : List Event) (old count : ℕ) where
   Steps = Goes IsLawfulBook nothing_shown any_move 0 view exchanged told
 
   -- the word is `old`, so the whole log was seen, and the events are added
-  adds : old ≡ length seen → count ≡ length more → Happen most_accepted (world_after new_world seen) more
-      → (log : List Event) → Happen most_accepted new_world log → IsPrefix seen log → (length log == old) ≡ true → Steps (counting (length log)) log
+  adds : old ≡ length seen → count ≡ length more → Happen greatest_limit (world_after new_world seen) more
+      → (log : List Event) → Happen greatest_limit new_world log → IsPrefix seen log → (length log == old) ≡ true → Steps (counting (length log)) log
   adds all counted may log lawful prefix found =
       let whole : seen ≡ log = prefix-same seen log prefix (grind (arith, nat_tests)) in
       let appended : seen ++ more ≡ log ++ more = ap (λ L. L ++ more) whole in
-      let seen_lawful : Happen most_accepted new_world seen = subst (Happen most_accepted new_world) (sym whole) lawful in
-      let both_lawful : Happen most_accepted new_world (log ++ more) =
-      subst (Happen most_accepted new_world) appended (Happen-append most_accepted new_world seen more seen_lawful may) in
+      let seen_lawful : Happen greatest_limit new_world seen = subst (Happen greatest_limit new_world) (sym whole) lawful in
+      let both_lawful : Happen greatest_limit new_world (log ++ more) =
+      subst (Happen greatest_limit new_world) appended (Happen-append greatest_limit new_world seen more seen_lawful may) in
       let word : exchanged (length log) ≡ length (log ++ more) = rw found (omega (arith, length-append log more, ap length whole)) in (
         keeps,
         more,
@@ -54,14 +54,14 @@ module _ (seen more : List Event) (old count : ℕ) where
       )
 
   -- the word is another number, and stays
-  leaves : (log : List Event) → Happen most_accepted new_world log → (length log == old) ≡ false → Steps (counting (length log)) log
+  leaves : (log : List Event) → Happen greatest_limit new_world log → (length log == old) ≡ false → Steps (counting (length log)) log
   leaves log lawful found =
       let same : log ≡ log ++ [] = sym (append-nil log) in
       let word : exchanged (length log) ≡ length (log ++ []) = rw found (ap length same) in
-      (keeps, [], None, tt, record { words = ap counting word; lawful = subst (Happen most_accepted new_world) same lawful }, inl (refl, refl), rw found tt)
+      (keeps, [], None, tt, record { words = ap counting word; lawful = subst (Happen greatest_limit new_world) same lawful }, inl (refl, refl), rw found tt)
 
   -- whatever the book has, the step adds the events to everything that was seen, or leaves the book as it is
-  pub writes : old ≡ length seen → count ≡ length more → Happen most_accepted (world_after new_world seen) more
+  pub writes : old ≡ length seen → count ≡ length more → Happen greatest_limit (world_after new_world seen) more
       → Moves IsLawfulBook nothing_shown any_move 0 view exchanged told
   writes all counted may cells log kept prefix away =
       let P : List Cell → Type 0 = λ cs. (0 < length cs) × ((cell cs 0).1 ≡ true) × Steps cs log in

@@ -7,7 +7,7 @@ use Rattle.mf_live.specs.declared.history.Knowledge.{Knowledge}
 use Rattle.mf_live.specs.declared.look.Look.{Look}
 use Rattle.mf_live.specs.declared.notice.Notice.{Notice}
 use Rattle.mf_live.specs.declared.viewer.Viewer.{Viewer}
-use Rattle.mf_live.specs.Books.{most_accepted}
+use Rattle.mf_live.specs.Books.{greatest_limit}
 use Rattle.mf_live.specs.Entries.{Entry}
 use Rattle.mf_live.specs.Prefixes.{IsWholePrefix, longer}
 use Rattle.mf_live.specs.Rule.{seen_knowledge}
@@ -48,7 +48,7 @@ seen_list v = longer (looked_at_list v) (learnt_list v)
 -- these events may all happen, in this order; the writer is still there after them; and L is both what they have published and
 -- everything that they have accepted
 pub record IsPublished (events : List Event) (L : List Entry) : Type 0 where
-  pub happen : Happen most_accepted new_world events
+  pub happen : Happen greatest_limit new_world events
   pub is : published_list_of events ≡ L
   pub all : accepted_list_of events ≡ L
   pub alive : (world_after new_world events).gone ≡ false

@@ -1,7 +1,7 @@
 //! How much of the history of a picture is known.
 ghost use Rattle.std.specs.Prelude.{◌≡◌, false, length};
 ghost use Rattle.mf_live.specs.World.{Happen, new_world, world_after};
-ghost use Rattle.mf_live.specs.Books.{most_accepted};
+ghost use Rattle.mf_live.specs.Books.{greatest_limit};
 ghost use Rattle.mf_live.specs.Happening.{Happen-prop};
 
 use crate::book::Law;
@@ -24,6 +24,6 @@ pub struct Prefix {
     pub(crate) events: u64,
     pub(crate) knowledge: Knowledge,
     ghost counted: { events ≡ length knowledge.seen.log },
-    ghost lawful: { Happen most_accepted new_world knowledge.seen.log } by { Happen-prop most_accepted new_world knowledge.seen.log },
+    ghost lawful: { Happen greatest_limit new_world knowledge.seen.log } by { Happen-prop greatest_limit new_world knowledge.seen.log },
     ghost alive: { (world_after new_world knowledge.seen.log).gone ≡ false },
 }

@@ -1,7 +1,7 @@
 //! What the writer of a picture holds.
 ghost use Rattle.std.specs.Prelude.{◌≡◌, ◌+◌, ◌*◌, ◌≤◌, false, length};
 ghost use Rattle.left_right.specs.Sides.{view};
-ghost use Rattle.mf_live.specs.Books.{most_accepted, counter_of};
+ghost use Rattle.mf_live.specs.Books.{greatest_limit, counter_of};
 ghost use Rattle.mf_live.specs.Entries.{picture_at, revision_at};
 ghost use Rattle.mf_live.specs.Happening.{Happen-prop};
 ghost use Rattle.mf_live.specs.Rule.{book_of, events_of, version_list, history};
@@ -29,7 +29,7 @@ pub struct Holder {
     pub(crate) unwritten: u64,
     ghost head_is: { head ≡ counter_of (book_of swap.desk.shown.value) },
     ghost shown_is: { version_list swap.desk.shown.value ≡ published_list_of (history swap.desk.shown.value (view swap.desk.place)) },
-    ghost lawful: { Happen most_accepted new_world (history swap.desk.shown.value (view swap.desk.place)) } by { Happen-prop most_accepted new_world _ },
+    ghost lawful: { Happen greatest_limit new_world (history swap.desk.shown.value (view swap.desk.place)) } by { Happen-prop greatest_limit new_world _ },
     ghost alive: { (world_after new_world (history swap.desk.shown.value (view swap.desk.place))).gone ≡ false },
     ghost counted: { unwritten ≡ length (view swap.desk.place).unwritten },
     ghost pictured: { working ≡ picture_at (accepted_list_of (history swap.desk.shown.value (view swap.desk.place))) },

@@ -3,7 +3,7 @@
 ghost use mathlib.Core.List.{IsPrefix};
 ghost use Rattle.std.specs.Prelude.{◌≡◌, ◌⊎◌, ◌≤◌, true, false, List, ◌++◌, IfErr, IfOk, MatchResult, OnOk};
 ghost use Rattle.mf_live.specs.declared.event.Event.{Event};
-ghost use Rattle.mf_live.specs.Books.{most_accepted};
+ghost use Rattle.mf_live.specs.Books.{greatest_limit};
 ghost use Rattle.mf_live.specs.Entries.{Entry, revision_at, is_closed, picture_at, IsUnrefused};
 ghost use Rattle.mf_live.specs.Prefixes.{IsWholePrefix, HasWholePublishes};
 ghost use Rattle.mf_live.specs.Sheets.{HasLearnt, HasLookedAt, IsLastNotTaken, sheet_picture, sheet_revision};
@@ -71,7 +71,7 @@ pub fn published_is_visible_halfway(closing: &Closing)
 /// A look has, of each publish, nothing or all of it, whatever has happened to its picture since. It shows what the events that
 /// it knows have published.
 pub fn look_has_whole_publishes(look: &Look)
-    ensures { (since : List Event) → Happen most_accepted new_world (viewers.look_events look.now ++ since)
+    ensures { (since : List Event) → Happen greatest_limit new_world (viewers.look_events look.now ++ since)
         → HasWholePublishes (viewers.shown_list look.now) (published_list_of (viewers.look_events look.now ++ since)) }
 {}
 

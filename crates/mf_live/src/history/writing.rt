@@ -1,7 +1,7 @@
 //! Opening, copying and writing histories.
 ghost use Rattle.std.specs.Prelude.{◌≡◌, ◌+◌, ◌^◌, ◌<◌, ◌≤◌, ◌++◌, [], false, length, MatchBool};
 ghost use mathlib.Core.List.{IsPrefix};
-ghost use Rattle.mf_live.specs.Books.{most_accepted, counter_of};
+ghost use Rattle.mf_live.specs.Books.{greatest_limit, counter_of};
 ghost use Rattle.mf_live.specs.World.{Happen, new_world, world_after};
 
 use super::{Knowledge, Prefix};
@@ -60,7 +60,7 @@ fn try_write<N: Happening>(head: &Head, prefix: &mut Prefix, count: u64) -> bool
     requires head { head.now ≡ counter_of prefix.old.knowledge.seen.book }
     requires count { count ≡ length N.more }
     requires room { prefix.old.events + count < 2 ^ 64 }
-    requires lawful { Happen most_accepted (world_after new_world prefix.old.knowledge.seen.log) N.more }
+    requires lawful { Happen greatest_limit (world_after new_world prefix.old.knowledge.seen.log) N.more }
     requires alive { (world_after new_world (prefix.old.knowledge.seen.log ++ N.more)).gone ≡ false }
     ensures book { prefix.new.knowledge.seen.book ≡ prefix.old.knowledge.seen.book }
     ensures log { MatchBool result (prefix.new.knowledge.seen.log ≡ prefix.old.knowledge.seen.log ++ N.more)
@@ -92,7 +92,7 @@ pub(crate) fn write<N: Happening, R: Wait>(rt: &R, head: &Head, prefix: &mut Pre
     requires head { head.now ≡ counter_of prefix.old.knowledge.seen.book }
     requires count { count ≡ length N.more }
     requires room { prefix.old.events + count < 2 ^ 64 }
-    requires lawful { Happen most_accepted (world_after new_world prefix.old.knowledge.seen.log) N.more }
+    requires lawful { Happen greatest_limit (world_after new_world prefix.old.knowledge.seen.log) N.more }
     requires alive { (world_after new_world (prefix.old.knowledge.seen.log ++ N.more)).gone ≡ false }
     ensures book { prefix.new.knowledge.seen.book ≡ prefix.old.knowledge.seen.book }
     ensures log { prefix.new.knowledge.seen.log ≡ prefix.old.knowledge.seen.log ++ N.more }

@@ -4,7 +4,7 @@ ghost use Rattle.left_right.specs.Sides.{view};
 ghost use Rattle.mf_geom.specs.declared.cycle.CycleFault.{CycleFault};
 ghost use Rattle.mf_ops.specs.Step.{op_fault};
 ghost use Rattle.mf_ops.specs.declared.op.Op.TheVariants.{Clear};
-ghost use Rattle.mf_live.specs.Books.{most_accepted};
+ghost use Rattle.mf_live.specs.Books.{greatest_limit};
 ghost use Rattle.mf_live.specs.Entries.{entry, picture_at, revision_at, next_label, is_closed, Operation, End};
 ghost use Rattle.mf_live.specs.Holders.{identity, accepted_list, knowledge, published_list};
 ghost use Rattle.mf_live.specs.Rule.{view_knowing, knowledge_of, with_event};
@@ -78,7 +78,7 @@ impl Holder {
     /// Accepts an operation, which changes the working picture. A refusal changes nothing.
     pub(crate) fn accept(&mut self, alloc: Global, op: &Op) -> Result<(), OpFault>
         requires open { is_closed (accepted_list self.old) ≡ false }
-        requires few { revision_at (accepted_list self.old) < most_accepted }
+        requires few { revision_at (accepted_list self.old) < greatest_limit }
         ensures identity { identity self.new ≡ identity self.old }
         ensures accepted { MatchResult result
             (λ _. accepted_list self.new ≡ accepted_list self.old ++ entry (next_label (published_list self.old)) (Operation op.now) ∷ [])

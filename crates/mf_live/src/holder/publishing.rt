@@ -3,7 +3,7 @@ ghost use mathlib.Core.List.{IsPrefix};
 ghost use Rattle.std.specs.Prelude.{◌≡◌, ◌+◌, ◌<◌, ◌^◌, ◌++◌, false, length, IsOk, MatchResult};
 ghost use Rattle.crossbeam_utils.specs.Register.{TurnsAt};
 ghost use Rattle.left_right.specs.Sides.{view};
-ghost use Rattle.mf_live.specs.Books.{most_accepted, counter_of};
+ghost use Rattle.mf_live.specs.Books.{greatest_limit, counter_of};
 ghost use Rattle.mf_live.specs.Entries.{picture_at};
 ghost use Rattle.mf_live.specs.Holders.{identity, accepted_list, published_list};
 ghost use Rattle.mf_live.specs.Rule.{EachSeatKnows, IsShow, book_of, events_of, view_knowing, publish_events, knowledge_of};
@@ -33,7 +33,7 @@ fn write_publish<N: Happening, R: Wait>(
     requires head { head.now ≡ counter_of prefix.old.knowledge.seen.book }
     requires count { count ≡ length (publish_events (view swap.now.desk.place)) }
     requires room { prefix.old.events + count < 2 ^ 64 }
-    requires lawful { Happen most_accepted (world_after new_world prefix.old.knowledge.seen.log) (publish_events (view swap.now.desk.place)) }
+    requires lawful { Happen greatest_limit (world_after new_world prefix.old.knowledge.seen.log) (publish_events (view swap.now.desk.place)) }
     requires alive { (world_after new_world (prefix.old.knowledge.seen.log ++ publish_events (view swap.now.desk.place))).gone ≡ false }
     ensures book { prefix.new.knowledge.seen.book ≡ prefix.old.knowledge.seen.book }
     ensures log { prefix.new.knowledge.seen.log ≡ prefix.old.knowledge.seen.log ++ publish_events (view swap.now.desk.place) }

@@ -3,7 +3,7 @@ use Rattle.left_right.specs.Sides.{view}
 use Rattle.mf_live.specs.declared.event.Event.{Event}
 use Rattle.mf_live.specs.declared.history.Knowledge.{Knowledge}
 use Rattle.mf_live.specs.declared.view.View.{View}
-use Rattle.mf_live.specs.Books.{most_accepted, counter_of}
+use Rattle.mf_live.specs.Books.{greatest_limit, counter_of}
 use Rattle.mf_live.specs.Rule.{events_of, history, knowledge_of}
 use Rattle.mf_live.specs.World.{Happen, new_world, world_after, accepted_list_of, published_list_of}
 use Rattle.mf_live.proofs.Blank.{picture_at-blank, revision_at-blank}
@@ -20,7 +20,7 @@ invariant_of-result g c =
     record {
       head_is = c.open_history-head.ensures.head ∙ sym (ap (λ (t : Knowledge). counter_of t.seen.book) same);
       shown_is = ap published_list_of (shows ∙ sym happened);
-      lawful = subst (Happen most_accepted new_world) (sym happened) tt;
+      lawful = subst (Happen greatest_limit new_world) (sym happened) tt;
       alive = ap (λ (es : List Event). (world_after new_world es).gone) happened;
       counted = sym (ap length written);
       pictured = c.blank-2.ensures ∙ sym (picture_at-blank _ (ap accepted_list_of happened));

@@ -4,7 +4,7 @@ use Rattle.left_right.specs.Sides.{view}
 use Rattle.mf_live.specs.declared.event.Event.{Event}
 use Rattle.mf_live.specs.declared.history.Knowledge.{Knowledge}
 use Rattle.mf_live.specs.declared.view.View.{View}
-use Rattle.mf_live.specs.Books.{most_accepted, counter_of}
+use Rattle.mf_live.specs.Books.{greatest_limit, counter_of}
 use Rattle.mf_live.specs.Entries.{picture_at, revision_at}
 use Rattle.mf_live.specs.Holders.{accepted_list, version}
 use Rattle.mf_live.specs.Rule.{book_of, events_of, history, version_list, knowledge_of}
@@ -26,7 +26,7 @@ pub write_publish-requires-clause-lawful : goal.write_publish-requires-clause-la
 write_publish-requires-clause-lawful g c =
     let h = c.args.self.now in
     let known = c.copy-prefix.ensures ∙ ap knowledge_of c.published.ensures in
-    subst (λ (t : Knowledge). Happen most_accepted (world_after new_world t.seen.log) (written h)) (sym known) (Happen-written h)
+    subst (λ (t : Knowledge). Happen greatest_limit (world_after new_world t.seen.log) (written h)) (sym known) (Happen-written h)
 
 pub write_publish-requires-clause-alive : goal.write_publish-requires-clause-alive
 write_publish-requires-clause-alive g c =
@@ -74,7 +74,7 @@ invariant_of-self g c =
     record {
       head_is = h.head_is ∙ ap counter_of (sym book);
       shown_is = ap published_list_of (shows ∙ sym happened);
-      lawful = subst (Happen most_accepted new_world) (sym happened) (Happen-publish h);
+      lawful = subst (Happen greatest_limit new_world) (sym happened) (Happen-publish h);
       alive = ap (λ (es : List Event). (world_after new_world es).gone) happened ∙ alive-publish h;
       counted = sym (ap (λ (v : View). length v.unwritten) c.show.ensures.view);
       pictured = h.pictured ∙ ap picture_at (sym accepts);
