@@ -10,7 +10,7 @@ use Rattle.mf_gf.specs.declared.locator.Locator.{Locator}
 use Rattle.mf_gf.specs.declared.locators.Locators.{Locators}
 use Rattle.mf_gf.specs.declared.spelling.Spelling.{Spelling}
 use Rattle.mf_gf.specs.Files.{Shipment, last_shipment, locator_if, locator_of, locators_from}
-use Rattle.mf_gf.specs.Keeping.{HasLasts, table_text}
+use Rattle.mf_gf.specs.Keeping.{HasLastLocators, table_text}
 use Rattle.mf_gf.specs.Numbers.{code_count}
 use Rattle.mf_gf.specs.Spellings.{Holds}
 
@@ -48,7 +48,7 @@ lasts_text shipped (last ∷ items) code (suc n) same lasts =
     (λ i within. lasts (suc i) (omega (arith, within)) ∙ ap (λ c. last_locator c shipped) (omega arith)) in
     ap₂ (λ one more. locator_if one ++ more) first others
 
-pub table_text-is : (table : Locators) (shipped : List Shipment) → HasLasts table shipped → table_text table ≡ locators_from 0 code_count shipped
+pub table_text-is : (table : Locators) (shipped : List Shipment) → HasLastLocators table shipped → table_text table ≡ locators_from 0 code_count shipped
 table_text-is table shipped lasts =
     lasts_text shipped table.by_code.items 0 code_count table.all (λ i within. lasts.last i within ∙ ap (λ c. last_locator c shipped) (omega arith))
 

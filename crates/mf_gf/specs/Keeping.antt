@@ -20,7 +20,7 @@ bounds_of [] = None
 bounds_of (c ∷ cs) = Some (box_of_all (c ∷ cs))
 
 -- a table has the locator of the last character with each code
-pub record HasLasts (table : Locators) (shipped : List Shipment) : Type 0 where
+pub record HasLastLocators (table : Locators) (shipped : List Shipment) : Type 0 where
   pub last : (code : ℕ) → code < code_count → slice_index_or table.by_code.items code None ≡ option_map locator_of (last_shipment code shipped)
 
 -- the bytes of the locators of a table, codes rising
@@ -30,7 +30,7 @@ table_text table = flat_map locator_if table.by_code.items
 -- a file keeps what its end needs of this comment and these characters
 pub record Keeps (file : GfFile) (comment : List ℕ) (characters : List Character) : Type 0 where
   pub bytes : file.bytes.items ≡ bytes_so_far comment characters
-  pub locators : HasLasts file.locators (shipments comment characters)
+  pub locators : HasLastLocators file.locators (shipments comment characters)
   pub count : file.count ≡ length characters
   pub bounds : file.bounds ≡ bounds_of characters
 
@@ -49,7 +49,8 @@ pub record IsSameFile (before after : GfFile) : Type 0 where
 -- a character with these bytes was appended to a file
 pub record IsAppended (before after : GfFile) (l : Locator) (spelled : List ℕ) : Type 0 where
   pub bytes : after.bytes.items ≡ before.bytes.items ++ spelled
-  pub locators : (s : Shipment) (shipped : List Shipment) → locator_of s ≡ l → HasLasts before.locators shipped → HasLasts after.locators (s ∷ shipped)
+  pub locators : (s : Shipment) (shipped : List Shipment) → locator_of s ≡ l → HasLastLocators before.locators shipped
+      → HasLastLocators after.locators (s ∷ shipped)
   pub count : after.count ≡ before.count + 1
 
 -- the file comes back with this refusal

@@ -2,7 +2,7 @@
 use Rattle.std.proofs.Common.{◌≡◌, List, [], ℕ, refl, sym, subst, ◌∙◌}
 use Rattle.mf_gf.specs.declared.file.GfFile.{GfFile}
 use Rattle.mf_gf.specs.Files.{Character, shipments}
-use Rattle.mf_gf.specs.Keeping.{HasLasts, IsSameFile, Keeps}
+use Rattle.mf_gf.specs.Keeping.{HasLastLocators, IsSameFile, Keeps}
 use Rattle.mf_text.specs.declared.command.Command.{Command}
 use Rattle.mf_session.specs.declared.session.Session.{Session}
 use Rattle.mf_session.specs.Answers.{AnswersTo}
@@ -41,7 +41,7 @@ pub keeps-same : (before after : GfFile) (comment : List ℕ) (characters : List
 keeps-same before after comment characters same keeps =
     record {
       bytes = same.bytes ∙ keeps.bytes;
-      locators = subst (λ table. HasLasts table (shipments comment characters)) (sym same.locators) keeps.locators;
+      locators = subst (λ table. HasLastLocators table (shipments comment characters)) (sym same.locators) keeps.locators;
       count = same.count ∙ keeps.count;
       bounds = same.bounds ∙ keeps.bounds;
     }

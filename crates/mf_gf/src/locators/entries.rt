@@ -1,7 +1,7 @@
 //! How locators are kept and spelled.
 ghost use Rattle.std.specs.Prelude.{◌≡◌, ◌++◌, ◌∷◌, [], IfOk, List, None, ℕ, slice_index_or};
 ghost use Rattle.mf_gf.specs.Files.{Shipment, last_place, locator_if, locator_of};
-ghost use Rattle.mf_gf.specs.Keeping.{HasLasts, table_text};
+ghost use Rattle.mf_gf.specs.Keeping.{HasLastLocators, table_text};
 ghost use Rattle.mf_gf.specs.Spellings.{Holds};
 
 use super::{CODES, Locators};
@@ -13,7 +13,7 @@ use std::alloc::Global;
 impl Locators {
     /// A table without locators, for a file in which no character was shipped.
     pub(crate) fn new(alloc: Global) -> Result<Locators, OutOfMemory>
-        ensures { IfOk result (λ none. HasLasts none []) }
+        ensures { IfOk result (λ none. HasLastLocators none []) }
     {
         Ok(Locators {
             by_code: Vec::from_slice(alloc, &[None; CODES])?,
@@ -29,14 +29,15 @@ impl Locators {
 
     /// The place of the last character with a code, if there is one.
     pub(crate) fn last_place(&self, code: u8) -> Option<u32>
-        ensures { (shipped : List Shipment) → HasLasts self.now shipped → result ≡ last_place code shipped }
+        ensures { (shipped : List Shipment) → HasLastLocators self.now shipped → result ≡ last_place code shipped }
     {
         self.last(code).map(|locator| locator.place)
     }
 
     /// Makes this the locator of its code.
     pub(crate) fn set(&mut self, locator: Locator)
-        ensures { (s : Shipment) (shipped : List Shipment) → locator_of s ≡ locator → HasLasts self.old shipped → HasLasts self.new (s ∷ shipped) }
+        ensures { (s : Shipment) (shipped : List Shipment) → locator_of s ≡ locator → HasLastLocators self.old shipped
+            → HasLastLocators self.new (s ∷ shipped) }
     {
         self.by_code[usize::from(locator.code)] = Some(locator);
     }
