@@ -6,7 +6,7 @@ use Rattle.mf_live.specs.Sheets.{HasLearnt, HasLooked, HasLookedAt}
 use Rattle.mf_live.specs.Viewers as viewers
 use Rattle.mf_live.specs.declared.viewer.Viewer.{Viewer}
 use Rattle.mf_rows.specs.Dots.{Dot}
-use Rattle.mf_easel.specs.Screens.{over}
+use Rattle.mf_easel.specs.Screens.{cursor_to_last_frame}
 use Rattle.mf_easel.specs.declared.easel.Easel.{Easel}
 use Rattle.mf_easel.specs.declared.fault.EaselFault.{EaselFault}
 use Rattle.mf_easel.specs.declared.fault.EaselFault.TheVariants.{NoLook, OutOfMemory, WriteFault}
@@ -49,7 +49,7 @@ HasSameManner before after = manner_of after ≡ manner_of before
 
 -- the text that draws a picture of this revision in a manner, over the frame of the revision drawn before, if there is one
 abbrev pub drawing : Manner → Option ℕ → ℕ → List Dot → List ℕ
-drawing m before revision ds = over m.style m.canvas before ++ frame_text m.style m.canvas revision ds
+drawing m before revision ds = cursor_to_last_frame m.style m.canvas before ++ frame_text m.style m.canvas revision ds
 
 -- the text that draws the picture of a list on an easel
 abbrev pub drawing_of : Easel → List Entry → List ℕ

@@ -13,10 +13,10 @@ abbrev pub cursor_up : ℕ → List ℕ
 cursor_up n = 27 ∷ codes "[" ++ decimal n ++ codes "A"
 
 -- what comes before a frame: in the style `Colored` the cursor moves up to the first line of the frame that was drawn last
-abbrev pub over : Style → Size → Option ℕ → List ℕ
-over Plain canvas drawn = []
-over Colored canvas None = []
-over Colored canvas (Some before) = cursor_up (frame_lines canvas)
+abbrev pub cursor_to_last_frame : Style → Size → Option ℕ → List ℕ
+cursor_to_last_frame Plain canvas drawn = []
+cursor_to_last_frame Colored canvas None = []
+cursor_to_last_frame Colored canvas (Some before) = cursor_up (frame_lines canvas)
 
 -- whether the frame that was drawn last has this revision
 abbrev pub is_drawn : Option ℕ → ℕ → Bool

@@ -5,7 +5,7 @@ ghost use Rattle.mf_live.specs.Sheets.{HasLooked, sheet_picture, sheet_revision}
 ghost use Rattle.mf_live.specs.Viewers as viewers;
 ghost use Rattle.mf_easel.specs.Easels.{HasLookedLast, HasSameManner, IsLastNotDrawn, IsNotDrawn, drawing, drawing_of};
 ghost use Rattle.mf_easel.specs.Easels.{identity, looked_at_list, manner, manner_of, revision_of, viewer_of};
-ghost use Rattle.mf_easel.specs.Screens.{GetsFrame, GetsNoMore, IsAbove, new_revision, over, screen_of};
+ghost use Rattle.mf_easel.specs.Screens.{GetsFrame, GetsNoMore, IsAbove, cursor_to_last_frame, new_revision, screen_of};
 
 use super::Easel;
 use crate::fault::EaselFault;
@@ -124,7 +124,7 @@ impl Easel {
     fn next_text(&self, alloc: Global, sheet: &Sheet) -> Result<Vec<u8>, OutOfMemory>
         ensures { IfOk result (λ text. text.items ≡ drawing (manner_of self.now) (revision_of self.now) (sheet_revision sheet.now) (sheet_picture sheet.now)) }
     {
-        let mut text = self.over(alloc)?;
+        let mut text = self.cursor_to_last_frame(alloc)?;
         let frame = draw(
             alloc,
             sheet.picture(),
@@ -137,8 +137,8 @@ impl Easel {
     }
 
     /// What moves the cursor up to the first line of the frame before.
-    fn over(&self, alloc: Global) -> Result<Vec<u8>, OutOfMemory>
-        ensures { IfOk result (λ text. text.items ≡ over self.now.style self.now.canvas (revision_of self.now)) }
+    fn cursor_to_last_frame(&self, alloc: Global) -> Result<Vec<u8>, OutOfMemory>
+        ensures { IfOk result (λ text. text.items ≡ cursor_to_last_frame self.now.style self.now.canvas (revision_of self.now)) }
     {
         let mut text = Vec::new(alloc);
         if let (Style::Colored, Some(_)) = (self.style, self.drawn) {
