@@ -16,7 +16,7 @@ use Rattle.mf_rows.proofs.RunDots.{weight_at-on_run, weight_at-off_run, weight_a
 use Rattle.mf_rows.proofs.RunsLemmas.{dots_of-runs_of, with_next-some}
 use Rattle.mf_rows.proofs.PassedRuns.{ordered_runs_of}
 use Rattle.mf_show.specs.Grid.{shown_at, shown_row}
-use Rattle.mf_show.specs.RunsAhead.{AreAhead, AreSameFrom, IsNotBefore}
+use Rattle.mf_show.specs.RunsAhead.{AreSameFrom, IsNotBefore}
 
 -- ---- the weight that a run gives to a pixel
 
@@ -40,6 +40,11 @@ weight_reached : (r : Run) (rs : List Run) (x y : ℤ) → AreRuns (r ∷ rs) �
 weight_reached r rs x y ordered reached = grind (arith, ints, weight_at-before, dots_from-runs, sym, weight_at-append_none)
 
 -- ---- what a walk has ahead
+
+-- these runs are in reading order, and give the weights of these dots to all pixels from a place on
+pub record AreAhead (low : ℤ) (ds : List Dot) (rs : List Run) : Type 0 where
+  pub order : AreRuns rs
+  pub same : AreSameFrom low ds (flat_map dots_of rs)
 
 -- all runs of a picture, where none is passed
 pub all_ahead : (low : ℤ) (ds : List Dot) (rs : List Run) → IsPicture ds → rs ≡ runs_of ds → AreAhead low ds rs

@@ -2,7 +2,6 @@
 use Rattle.std.specs.Prelude.{◌≡◌, ℤ, ◌≤ℤ◌, ◌<ℤ◌, ◌+ℤ◌, pos, List, flat_map}
 use Rattle.mf_rows.specs.declared.run.Run.{Run}
 use Rattle.mf_rows.specs.Dots.{Dot, place, weight_at}
-use Rattle.mf_rows.specs.Order.{AreRuns}
 use Rattle.mf_rows.specs.Runs.{dots_of, with_next}
 use Rattle.mf_show.specs.declared.grid.weights.Weights.{Weights}
 
@@ -16,11 +15,6 @@ dots_ahead w = flat_map dots_of (runs_ahead w)
 -- two lists of dots give the same weights to all pixels from a place on
 pub record AreSameFrom (low : ℤ) (ds es : List Dot) : Type 0 where
   pub same : (x y : ℤ) → low ≤ℤ place x y → weight_at es x y ≡ weight_at ds x y
-
--- these runs are in reading order, and give the weights of these dots to all pixels from a place on
-pub record AreAhead (low : ℤ) (ds : List Dot) (rs : List Run) : Type 0 where
-  pub order : AreRuns rs
-  pub same : AreSameFrom low ds (flat_map dots_of rs)
 
 -- a run reaches the pixel (x, y), or starts after it in reading order
 pub record IsNotBefore (x y : ℤ) (r : Run) : Type 0 where

@@ -1,7 +1,8 @@
 use Rattle.std.proofs.Common.{[], codes, pos, ◌-ℤ◌}
 use Rattle.mf_rows.specs.Dots.{place}
 use Rattle.mf_show.specs.Grid.{grid_character, shown_at}
-use Rattle.mf_show.specs.RunsAhead.{AreAhead, runs_ahead}
+use Rattle.mf_show.specs.RunsAhead.{runs_ahead}
+use Rattle.mf_show.proofs.PassedPixels.{AreAhead}
 use Rattle.mf_show.proofs.ShownRows.{IsBoxSoFar}
 use Rattle.mf_show.proofs.grid.box_text.Given as goal
 

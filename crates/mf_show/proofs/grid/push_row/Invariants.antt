@@ -1,6 +1,7 @@
 use Rattle.mf_rows.specs.Dots.{place}
 use Rattle.mf_show.specs.Grid.{grid_character, shown_at}
-use Rattle.mf_show.specs.RunsAhead.{AreAhead, dots_ahead, runs_ahead}
+use Rattle.mf_show.specs.RunsAhead.{dots_ahead, runs_ahead}
+use Rattle.mf_show.proofs.PassedPixels.{AreAhead}
 use Rattle.mf_show.proofs.ShownRows.{IsRowSoFar}
 use Rattle.mf_show.proofs.grid.push_row.Given as goal
 

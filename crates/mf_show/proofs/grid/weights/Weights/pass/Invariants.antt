@@ -1,6 +1,7 @@
 use Rattle.std.proofs.Common.{length}
 use Rattle.mf_rows.specs.Dots.{place}
-use Rattle.mf_show.specs.RunsAhead.{AreAhead, dots_ahead, runs_ahead}
+use Rattle.mf_show.specs.RunsAhead.{dots_ahead, runs_ahead}
+use Rattle.mf_show.proofs.PassedPixels.{AreAhead}
 use Rattle.mf_show.proofs.grid.weights.Weights.pass.Given as goal
 
 abbrev pub invariant-loop-self : goal.invariant-loop-self
