@@ -90,17 +90,17 @@ sound_code : {past : List Token} {next : Code → Rest} → ((s : Token) × (pas
 sound_code {past} place each = grind (arith, ints, sound_at, minus_tokens, plain_tokens)
 
 -- a pair after its `(`
-sound_inner : (past : List Token) {next : Pair → Rest} → ((p : Pair) → Sound (past ++ spell_pair p) (next p))
+sound_rest_of_pair : (past : List Token) {next : Pair → Rest} → ((p : Pair) → Sound (past ++ spell_pair p) (next p))
     → Sound (past ++ token.Mark mark.Open ∷ []) (rest_of_pair next)
-sound_inner past each = grind (arith, ints, sound_int, sound_one, sound_at, append_assoc)
+sound_rest_of_pair past each = grind (arith, ints, sound_int, sound_one, sound_at, append_assoc)
 
 sound_pair : {past : List Token} {next : Pair → Rest} → ((p : Pair) → Sound (past ++ spell_pair p) (next p)) → Sound past (pair next)
-sound_pair {past} each = sound_one (sound_inner past each)
+sound_pair {past} each = sound_one (sound_rest_of_pair past each)
 
 -- a corner after its `(`
 sound_corner : (past : List Token) (next : Pair → Rest) → ((p : Pair) → Sound (past ++ spell_corner p) (next p))
     → Sound (past ++ token.Mark mark.Open ∷ []) (rest_of_corner next)
-sound_corner past next each = sound_inner past (λ p. sound_one (sound_at (sym (append_assoc past (spell_pair p) _)) (each p)))
+sound_corner past next each = sound_rest_of_pair past (λ p. sound_one (sound_at (sym (append_assoc past (spell_pair p) _)) (each p)))
 
 sound_path : {past : List Token} {next : Path → Rest} → ((p : Path) → Sound (past ++ spell_path p) (next p)) → Sound past (path next)
 sound_path {past} {next} each = grind (arith, ints, sound_one, sound_corner, sound_at, append_assoc)
