@@ -69,15 +69,15 @@ module _ (l : LastLooks) (now : EndedRun) (is : HasShown l now) where
       out_lines = out-more settings viewers first l.held l.holds read l.run over lines is.out
 
     -- an allocation fails after these lines
-    pub breaks-behind : l.viewers ≤ viewers → BreaksLooks (looks l.holds) OutOfMemory
-    breaks-behind few settings first left read over =
+    pub breaks-after : l.viewers ≤ viewers → BreaksLooks (looks l.holds) OutOfMemory
+    breaks-after few settings first left read over =
         (over.0 ++ lines, out_lines settings first read over, shown_text settings first read over l.viewers lines few refl)
 
     -- the last look of the next viewer fails
     pub breaks-look : (fault : SheetFault) → l.viewers < viewers → BreaksLooks (looks l.holds) (run_fault_of_sheet fault)
     breaks-look sheet.NoLook few = λ settings first left read over.
         (over.0 ++ lines, out_lines settings first read over, (shown_text settings first read over l.viewers lines (omega arith) refl, few))
-    breaks-look sheet.OutOfMemory few = breaks-behind (omega arith)
+    breaks-look sheet.OutOfMemory few = breaks-after (omega arith)
 
     -- the writer fails after these lines and some more bytes, with which and maybe others they are the lines of some viewers
     breaks-cut : (next count : ℕ) (rest more : List ℕ) (later : Option (List ℕ)) → next ≤ viewers → Appends l.holds later more

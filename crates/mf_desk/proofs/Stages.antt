@@ -137,17 +137,17 @@ module _ (held holds : Option (List ℕ)) (read : List ℕ) (run : Progress) (af
   BreaksLine line fault later = Gets holds later (BreaksOff (IsLineText run.performer line) run.performer.written fault)
 
   -- the first completely read lines are the performed ones, and then the one whose text breaks off
-  Breaks-text : (fault : RunFault) (left later : Option (List ℕ)) (bytes line : List ℕ) (others first behind : List (List ℕ))
-      → AreWholeLines left bytes (ended_lines read ++ others) → AreWholeLines left bytes (first ++ behind) → Prolongs line first
+  Breaks-text : (fault : RunFault) (left later : Option (List ℕ)) (bytes line : List ℕ) (others first following : List (List ℕ))
+      → AreWholeLines left bytes (ended_lines read ++ others) → AreWholeLines left bytes (first ++ following) → Prolongs line first
       → BreaksLine line fault later → Gets held later (MakesPassage (Breaks bounds fault) left bytes)
-  Breaks-text OutOfMemory left later bytes line others first behind before with_line performs broken =
+  Breaks-text OutOfMemory left later bytes line others first following before with_line performs broken =
       let (written, out, nothing) = broken in (
         so_far.text,
         subst (Appends held later) (ap (λ more. so_far.text ++ more) nothing ∙ append-nil so_far.text)
             (Appends-trans held holds later so_far.text written so_far.out out),
         first-text bounds left bytes (ended_lines read) others so_far.text so_far.last before so_far.performed,
       )
-  Breaks-text (WriteFault count) left later bytes line others first behind before with_line performs broken =
+  Breaks-text (WriteFault count) left later bytes line others first following before with_line performs broken =
       let (written, out, (counted, (rest, prints))) = broken in
       let (next, answer) = prints so_far.last so_far.stands in
       let all : Perform bounds start first (answer_with ((so_far.text ++ written) ++ rest) next) =
@@ -156,10 +156,10 @@ module _ (held holds : Option (List ℕ)) (read : List ℕ) (run : Progress) (af
         Appends-trans held holds later so_far.text written so_far.out out,
         (
           length-append so_far.text written ∙ sym (counted ∙ ap (λ n. n + length written) after.lines.counted),
-          (rest, first-text bounds left bytes first behind _ next with_line all),
+          (rest, first-text bounds left bytes first following _ next with_line all),
         ),
       )
-  Breaks-text fault left later bytes line others first behind before with_line performs broken =
+  Breaks-text fault left later bytes line others first following before with_line performs broken =
       let (written, out, none) = broken in absurd none
 
   -- the text of a line that a line feed ends breaks off
@@ -167,20 +167,20 @@ module _ (held holds : Option (List ℕ)) (read : List ℕ) (run : Progress) (af
       → BreaksLine line fault later → Gets held later (MakesPassage (Breaks bounds fault) left (read ++ 10 ∷ [] ++ more))
   Breaks-ended fault left later more line whole broken =
       let (others, before) = ended_lines-front read (10 ∷ more) in
-      let (behind, with_line) = ended_lines-front (read ++ 10 ∷ []) more in
-      Breaks-text fault left later (read ++ 10 ∷ [] ++ more) line others (ended_lines (read ++ 10 ∷ [])) behind
+      let (following, with_line) = ended_lines-front (read ++ 10 ∷ []) more in
+      Breaks-text fault left later (read ++ 10 ∷ [] ++ more) line others (ended_lines (read ++ 10 ∷ [])) following
       (inl (ap ended_lines (append_assoc read (10 ∷ []) more) ∙ before)) (inl with_line) (performed-ended line whole) broken
 
   -- there are bytes after the last line feed
-  some-unended : eqb (length run.line) 0 ≡ false → eqb (length (unended_line read)) 0 ≡ false
-  some-unended some =
+  unended_line-some : eqb (length run.line) 0 ≡ false → eqb (length (unended_line read)) 0 ≡ false
+  unended_line-some some =
       ne_eqb (length (unended_line read)) 0 (λ empty.
       eqb-false (length run.line) 0 some (ap length after.line ∙ omega (arith, length-take MAX_KEPT (unended_line read))))
 
   -- the last line, which no line feed ends, has been performed
   performed-last : eqb (length run.line) 0 ≡ false → Prolongs run.line (lines read)
   performed-last some a answer =
-      subst (λ ls. Perform bounds start ls (answers_in_turn answer_so_far a)) (sym (lines-last read (some-unended some)))
+      subst (λ ls. Perform bounds start ls (answers_in_turn answer_so_far a)) (sym (lines-last read (unended_line-some some)))
       (performed-more (unended_line read) a
       (Answers-kept bounds so_far.last (unended_line read) a (subst (λ line. Answers bounds so_far.last line a) after.line answer)))
 
@@ -188,11 +188,11 @@ module _ (held holds : Option (List ℕ)) (read : List ℕ) (run : Progress) (af
       → BreaksLine run.line fault later → Gets held later (MakesPassage (Breaks bounds fault) left read)
   Breaks-last fault left later all_read some =
       Breaks-text fault left later read run.line (unended_line read ∷ []) (lines read) []
-      (inr (all_read, lines-last read (some-unended some))) (inr (all_read, sym (append-nil _))) (performed-last some)
+      (inr (all_read, lines-last read (unended_line-some some))) (inr (all_read, sym (append-nil _))) (performed-last some)
 
   -- there is no byte after the last line feed
-  pub empty-unended : eqb (length run.line) 0 ≡ true → unended_line read ≡ []
-  empty-unended none =
+  pub unended_line-none : eqb (length run.line) 0 ≡ true → unended_line read ≡ []
+  unended_line-none none =
       let kept : length (take MAX_KEPT (unended_line read)) ≡ 0 = ap length (sym after.line) ∙ eqb-true (length run.line) 0 none in
       nil_from_length (unended_line read) (omega (arith, length-take MAX_KEPT (unended_line read)))
 
@@ -221,7 +221,7 @@ module _ (held holds : Option (List ℕ)) (read bytes : List ℕ) (old : Progres
   whole_line : StandsForEnded held holds (read ++ bytes) with_bytes after_bytes (strip_carriage_return bytes)
   whole_line a answer =
       let whole : unended_line (read ++ bytes) ≡ bytes =
-      unended_line-unbroken read bytes unbroken ∙ ap (λ line. line ++ bytes) (empty-unended held holds read old after none) in
+      unended_line-unbroken read bytes unbroken ∙ ap (λ line. line ++ bytes) (unended_line-none held holds read old after none) in
       subst (λ line. Answers (limits old.performer.session) after.lines.done.last (strip_carriage_return line) a) (sym whole) answer
 
   pub IsAfter-whole : (later : Option (List ℕ)) (new : Progress)

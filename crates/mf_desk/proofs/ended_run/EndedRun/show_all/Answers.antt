@@ -5,13 +5,13 @@ use Rattle.mf_live.specs.Writers.{ended_identity}
 use Rattle.mf_watch.specs.Watchers.{HasRoomFor, IsRecord, identity}
 use Rattle.mf_desk.specs.EndedRuns.{HasSeenLast}
 use Rattle.mf_base.proofs.Faults.{IfErr-raised}
-use Rattle.mf_desk.proofs.Showing.{HasShown-start, breaks-behind, breaks-unflushed}
+use Rattle.mf_desk.proofs.Showing.{HasShown-start, breaks-after, breaks-unflushed}
 use Rattle.mf_desk.proofs.ended_run.EndedRun.show_all.Goals as goal
 
 pub returns-in_err-seen-clause-fault : goal.returns-in_err-seen-clause-fault
 returns-in_err-seen-clause-fault g c =
     IfErr-raised c.from_residual.result _ c.from_residual.ensures.1
-    (breaks-behind _ c.args.self.now (HasShown-start c.args.self.now (g.W.Write.contents c.args.writer.now))
+    (breaks-after _ c.args.self.now (HasShown-start c.args.self.now (g.W.Write.contents c.args.writer.now))
     (length c.args.watchers.items) (omega arith))
 
 pub loop-watcher-init : goal.loop-watcher-init

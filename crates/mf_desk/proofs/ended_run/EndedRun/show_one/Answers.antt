@@ -6,7 +6,7 @@ use Rattle.mf_watch.specs.Watchers.{HasSeen, glance_at, record_of}
 use Rattle.mf_desk.specs.EndedRuns.{HasSeenLast, glance}
 use Rattle.mf_desk.specs.Performances.{viewer_line}
 use Rattle.mf_base.proofs.Faults.{IfErr-raised}
-use Rattle.mf_desk.proofs.Showing.{HasShown-next, breaks-behind, breaks-line, breaks-look}
+use Rattle.mf_desk.proofs.Showing.{HasShown-next, breaks-after, breaks-line, breaks-look}
 use Rattle.mf_desk.proofs.ended_run.EndedRun.show_one.Goals.{In_ok-line}
 use Rattle.mf_desk.proofs.ended_run.EndedRun.show_one.Goals as goal
 
@@ -18,12 +18,12 @@ returns-in_err-glance-clause-fault g c =
 pub returns-in_err-line-clause-fault : goal.returns-in_err-line-clause-fault
 returns-in_err-line-clause-fault g c =
     IfErr-raised c.from_residual-in_err-line.result _ c.from_residual-in_err-line.ensures.1
-    (λ run held viewers shown few. breaks-behind _ c.args.self.now shown viewers (omega (arith, few)))
+    (λ run held viewers shown few. breaks-after _ c.args.self.now shown viewers (omega (arith, few)))
 
 pub returns-in_err-push-clause-fault : goal.returns-in_err-push-clause-fault
 returns-in_err-push-clause-fault g c =
     IfErr-raised c.from_residual-in_err-push.result _ c.from_residual-in_err-push.ensures.1
-    (λ run held viewers shown few. breaks-behind _ c.args.self.now shown viewers (omega (arith, few)))
+    (λ run held viewers shown few. breaks-after _ c.args.self.now shown viewers (omega (arith, few)))
 
 -- the line is the one that is due
 due : (g : _) (c : In_ok-line g) → c.in_ok-line.line.items ≡ viewer_line (length c.args.seen.now.items) (glance c.args.self.now)

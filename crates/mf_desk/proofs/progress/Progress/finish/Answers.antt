@@ -5,13 +5,13 @@ use Rattle.std.proofs.lemmas.Result.{IfErr-weaker}
 use Rattle.mf_desk.specs.Progress.{HasCounted, IsAfter}
 use Rattle.mf_base.proofs.Faults.{IfErr-raised}
 use Rattle.mf_desk.proofs.Ended.{lines-none}
-use Rattle.mf_desk.proofs.Stages.{HasCounted-flushed, HasCounted-last, empty-unended, Breaks-last, Breaks-flush}
+use Rattle.mf_desk.proofs.Stages.{HasCounted-flushed, HasCounted-last, unended_line-none, Breaks-last, Breaks-flush}
 use Rattle.mf_desk.proofs.progress.Progress.finish.Goals.{In_ok-perform}
 use Rattle.mf_desk.proofs.progress.Progress.finish.Goals as goal
 
 pub returns-then-is_empty-clause-done : goal.returns-then-is_empty-clause-done
 returns-then-is_empty-clause-done g c = λ held read after.
-    rw (lines-none read (empty-unended held _ read c.args.self.now after (sym c.if-is_empty.ensures))) after.lines
+    rw (lines-none read (unended_line-none held _ read c.args.self.now after (sym c.if-is_empty.ensures))) after.lines
 
 -- a fact that holds whatever the result is
 always : {T E : Type 0} {P : Type 0} (r : Result T E) → P → OnOk r P
