@@ -141,13 +141,13 @@ equal_dots-inside s y x w zero i j positive row left right =
     ∙ ap (darker (shade_of w)) (shade-none s i j) ∙ darker-blank (shade_of w)
 equal_dots-inside s y x w (suc n) i j positive row left right =
     let d : Dot = record { y = y; x = x; weight = w } in
-    let behind = equal_dots y (x +ℤ pos 1) w (suc n) in
+    let later = equal_dots y (x +ℤ pos 1) w (suc n) in
     by_lt_z (cell_of s x) i
     (λ after.
     let step = cell-next s x positive in
     let same : x +ℤ pos (suc n) ≡ (x +ℤ pos 1) +ℤ pos n = omega (arith, ints) in
     let others = equal_dots-inside s y (x +ℤ pos 1) w n i j positive row (omega (arith, ints)) (rw same at right) in
-    by_dot s d behind i j (λ shade. shade ≡ shade_of w) (ap (darker (shade_of w)) others ∙ darker-same (shade_of w)) others)
+    by_dot s d later i j (λ shade. shade ≡ shade_of w) (ap (darker (shade_of w)) others ∙ darker-same (shade_of w)) others)
     (λ first.
     let column : cell_of s x ≡ i = omega (arith, ints) in
-    shade-here s d behind i j column row ∙ equal_dots-either s y (x +ℤ pos 1) w (suc n) i j)
+    shade-here s d later i j column row ∙ equal_dots-either s y (x +ℤ pos 1) w (suc n) i j)

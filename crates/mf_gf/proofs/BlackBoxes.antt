@@ -69,7 +69,7 @@ no_black_box ds picture none = ap box_of_pixels (blank_of_weights (is_positive_a
 pub record BoxFits (b : Box4) : Type 0 where
   pub left : to_z w32 (of_z w32 b.min_x) ≡ b.min_x
   pub right : to_z w32 (of_z w32 b.max_x) ≡ b.max_x
-  pub behind : to_z w32 (of_z w32 (b.max_x +ℤ pos 1)) ≡ b.max_x +ℤ pos 1
+  pub after_right : to_z w32 (of_z w32 (b.max_x +ℤ pos 1)) ≡ b.max_x +ℤ pos 1
   pub fits : FitsSigned w32 (b.max_x +ℤ pos 1)
   pub bottom : to_z w32 (of_z w32 b.min_y) ≡ b.min_y
   pub top : to_z w32 (of_z w32 b.max_y) ≡ b.max_y

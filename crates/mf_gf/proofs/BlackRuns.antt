@@ -16,7 +16,7 @@ use Rattle.mf_gf.proofs.DrawnRows.{IsNext, AreNext}
 next_dot : (left row column : ℤ) (d : Dot) → least_coordinate ≤ℤ left → left ≤ℤ column → row ≤ℤ last_in_field → IsDot d
     → d.weight ≡ pos 1 → left ≤ℤ d.x → place column row ≤ℤ place d.x d.y → IsNext left row column (run_from d 0)
 unfolding run_from place
-next_dot left row column d field_left column_left field_top dot one start behind = omega (arith, ints, dot)
+next_dot left row column d field_left column_left field_top dot one start after = omega (arith, ints, dot)
 
 -- so is the run that this dot lengthens
 next_longer : (left row column : ℤ) (d : Dot) (r : Run) → IsNext left row column (run_from d 0)

@@ -10,9 +10,9 @@ use Rattle.mf_gf.specs.Pixels.{black}
 use Rattle.mf_gf.proofs.BlackDots.{black-from}
 
 -- after a dot there is no other one at the same pixel
-none_behind : (low : ℤ) (d : Dot) (ds : List Dot) (x y : ℤ) → AreDotsFrom low (d ∷ ds)
+none_after : (low : ℤ) (d : Dot) (ds : List Dot) (x y : ℤ) → AreDotsFrom low (d ∷ ds)
     → (int_eq d.x x && int_eq d.y y) ≡ true → weight_at (black ds) x y ≡ pos 0
-none_behind low d ds x y dots at = grind (arith, ints, and_parts, Decides-int_eq, weight_at-before, black-from)
+none_after low d ds x y dots at = grind (arith, ints, and_parts, Decides-int_eq, weight_at-before, black-from)
 
 -- 1 where a weight is positive, else 0
 abbrev pub is_black : ℤ → ℤ
@@ -21,4 +21,4 @@ is_black w = if int_lt (pos 0) w then pos 1 else pos 0
 pub black_at : (low : ℤ) (ds : List Dot) (x y : ℤ) → AreDotsFrom low ds → weight_at (black ds) x y ≡ is_black (weight_at ds x y)
 unfolding black weight_at
 black_at low [] x y dots = refl
-black_at low (d ∷ ds) x y dots = grind (arith, ints, cases_Bool, none_behind, black_at (place d.x d.y +ℤ pos 1) ds x y dots.2)
+black_at low (d ∷ ds) x y dots = grind (arith, ints, cases_Bool, none_after, black_at (place d.x d.y +ℤ pos 1) ds x y dots.2)

@@ -24,7 +24,7 @@ pub record IsNext (left row column : ℤ) (r : Run) : Type 0 where
   pub field_top : row ≤ℤ last_in_field
   pub top : r.y ≤ℤ row
   pub bottom : least_coordinate ≤ℤ r.y
-  pub behind : r.y ≡ row → column ≤ℤ r.x
+  pub after : r.y ≡ row → column ≤ℤ r.x
 
 -- stretches of black pixels, to each of which the machine can go from the end of the one before it
 abbrev pub AreNext : ℤ → ℤ → ℤ → List Run → Type 0
@@ -54,12 +54,12 @@ record Approaches (machine : Machine) (r : Run) (bytes : List ℕ) : Type 0 wher
 in_row : (left row column : ℤ) (r : Run) → IsNext left row column r → r.y ≡ row → Approaches (white_at left row column) r (paint (distance r.x column))
 unfolding pixels_of_strokes
 in_row left row column r next same =
-    let behind = next.behind same in
+    let after = next.after same in
     let n = distance r.x column in
     record {
       commands = Paint n ∷ [];
       spelled = spells_one (paint n) (Paint n) (writes_paint n (omega (arith, ints, next)));
-      drawn = λ others. drawn_run left row (column +ℤ pos n) r others (sym same) (omega (arith, ints, behind)) next.weight;
+      drawn = λ others. drawn_run left row (column +ℤ pos n) r others (sym same) (omega (arith, ints, after)) next.weight;
     }
 
 in_next_row : (left row column : ℤ) (r : Run) → IsNext left row column r → distance row r.y ≡ 1

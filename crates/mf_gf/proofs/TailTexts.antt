@@ -25,9 +25,9 @@ tail_held s words b place bytes locators is =
     subst (λ (at : ℕ). Holds s (post_text words b at ++ locators ++ ending at (at + length (post_text words b at ++ locators)))) is
 
 -- there is no room for the tail exactly where there is none for the complete file
-pub too_long_behind : {P : Type 0} (room max_bytes : ℕ) (before text : List ℕ) → room + length before ≡ max_bytes
+pub too_long_after : {P : Type 0} (room max_bytes : ℕ) (before text : List ℕ) → room + length before ≡ max_bytes
     → (room < length text) ↔ P → (max_bytes < length (before ++ text)) ↔ P
-too_long_behind room max_bytes before text is fits = grind (arith, ints, length-append)
+too_long_after room max_bytes before text is fits = grind (arith, ints, length-append)
 
 -- a file, split after its characters
 split_file : (characters post locators : List ℕ) (last : ℕ → List ℕ)

@@ -26,9 +26,9 @@ module _ (line : ℤ → List ℕ) (s : ℕ) (whole : (y : ℤ) → length (line
   at_line y zero j i row column = absurd (omega (arith, row))
   at_line y (suc n) zero i row column = grind (arith, ints, get_or_append_left)
   at_line y (suc n) (suc j) i row column =
-      let behind : suc j * s + i ≡ length (line y) + (j * s + i) = omega (arith, suc-mul j s, whole y) in
+      let after_first : suc j * s + i ≡ length (line y) + (j * s + i) = omega (arith, suc-mul j s, whole y) in
       let below : (y -ℤ pos 1) -ℤ pos j ≡ y -ℤ pos (suc j) = omega (arith, ints) in
-      ap (λ k. get_or (line y ++ shown_rows line (y -ℤ pos 1) n) k 0) behind
+      ap (λ k. get_or (line y ++ shown_rows line (y -ℤ pos 1) n) k 0) after_first
       ∙ get_or-append-add (line y) (shown_rows line (y -ℤ pos 1) n) (j * s + i) 0
       ∙ at_line (y -ℤ pos 1) n j i (omega (arith, row)) column
       ∙ ap (λ v. get_or (line v) i 0) below

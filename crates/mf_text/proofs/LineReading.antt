@@ -83,8 +83,8 @@ at_token : (r : Rest) (past : ℕ) (t : PlacedToken) (ps : List PlacedToken) (co
     → follow (ok_or q (reported (is_code_number r t.token) (record { tokens = t ∷ ps; past = past }))) t.after ps ≡ Err column
     → ((s : Rest) → follow (Ok s) t.after ps ≡ Err column → Stops s t.after ps column) → Stops r past (t ∷ ps) column
 unfolding reads is_code_number_at follow
-at_token r past t ps column None is wrong behind_it = grind (arith, ints, rest_ends, none-some, reads)
-at_token r past t ps column (Some s) is wrong behind_it = let stops = behind_it s wrong in record {
+at_token r past t ps column None is wrong after_it = grind (arith, ints, rest_ends, none-some, reads)
+at_token r past t ps column (Some s) is wrong after_it = let stops = after_it s wrong in record {
   place = suc stops.place;
   at = later r t.token (without_columns ps) stops.place (subst (λ q. Wrong q (without_columns ps) stops.place) (sym is) stops.at);
   column_is = stops.column_is

@@ -11,4 +11,4 @@ overflow_add-result c = let fits = box_fits _ _ c.in-Some.ensures.lawful c.in-So
 pub returns-clause-value : goal.returns-clause-value
 returns-clause-value c =
     let fits = box_fits _ _ c.in-Some.ensures.lawful c.in-Some.ensures.bounds in
-    rw (fits.left, fits.right, fits.behind, fits.bottom, fits.top) (sym (black_box _ _ c.in-Some.ensures.lawful c.in-Some.ensures.bounds))
+    rw (fits.left, fits.right, fits.after_right, fits.bottom, fits.top) (sym (black_box _ _ c.in-Some.ensures.lawful c.in-Some.ensures.bounds))

@@ -3,7 +3,7 @@ use Rattle.std.proofs.lemmas.Result.{IfOk-weaker}
 use Rattle.mf_gf.specs.Keeping.{table_text}
 use Rattle.mf_gf.specs.Spellings.{Holds}
 use Rattle.mf_gf.specs.Tails.{tail_of}
-use Rattle.mf_gf.proofs.TailTexts.{tail_held, too_long_behind}
+use Rattle.mf_gf.proofs.TailTexts.{tail_held, too_long_after}
 use Rattle.mf_gf.proofs.file.GfFile.tail.Goals as goal
 
 -- what the spelling holds after the ending
@@ -17,4 +17,4 @@ pub returns-clause-bytes : goal.returns-clause-bytes
 returns-clause-bytes c = IfOk-weaker c.finish.result _ _ (λ bytes each. each _ (held c)) c.finish.ensures.bytes
 
 pub returns-clause-too_long : goal.returns-clause-too_long
-returns-clause-too_long c = too_long_behind _ c.args.self.now.max_bytes c.args.self.now.bytes.items _ (omega arith) (c.finish.ensures.too_long _ (held c))
+returns-clause-too_long c = too_long_after _ c.args.self.now.max_bytes c.args.self.now.bytes.items _ (omega arith) (c.finish.ensures.too_long _ (held c))
