@@ -8,8 +8,8 @@ use std::sync::Wait;
 
 pub(super) const LINE_TOO_LONG: &[u8] = b"refused LineTooLong\n";
 
-/// These parts, joined.
-fn joined(alloc: Global, parts: &[&[u8]]) -> Result<Vec<u8>, AllocError> {
+/// The script of these parts, one after another.
+fn script_of(alloc: Global, parts: &[&[u8]]) -> Result<Vec<u8>, AllocError> {
     let mut all = Vec::new(alloc);
     for part in parts {
         all.extend_from_slice(part)?;
@@ -67,7 +67,7 @@ fn many_times(alloc: Global, times: usize, weight: &[u8]) -> Result<Vec<u8>, All
 
 /// A script that performs a line `times` times and then shows the picture.
 fn shown_after(alloc: Global, line: &[u8], times: usize) -> Result<Vec<u8>, AllocError> {
-    joined(alloc, &[&line.repeat(alloc, times)?, b"show a\n"])
+    script_of(alloc, &[&line.repeat(alloc, times)?, b"show a\n"])
 }
 
 /// Asserts that a contour that goes around the pixel (0, 0) `times` times, and then `show a`, print this text.
@@ -90,7 +90,7 @@ fn heavy_contours(alloc: Global) -> Result<Vec<u8>, AllocError> {
         shown_after(alloc, &heavy, 10)?,
         shown_after(alloc, &heavy, 1)?,
     );
-    joined(alloc, &[&ten, &one])
+    script_of(alloc, &[&ten, &one])
 }
 
 #[test]

@@ -88,7 +88,7 @@ const FAR: &[(i32, i32, u32)] = &[(9, -7, 30)];
 const UNIT: &[(i32, i32, u32)] = &[(0, 0, 1)];
 
 /// The box of the postamble is around both characters with a code: columns -7 to 23, and rows 0 to 9.
-const JOINED: &[Part] = &[
+const PARTS_OF_BOTH: &[Part] = &[
     (12, b"\x43\x00\x00\x00\x41\x00\x00\x00\x03", "the second"),
     (40, b"\xf8\x00\x00\x00\x28", "the postamble"),
     (
@@ -98,8 +98,8 @@ const JOINED: &[Part] = &[
     ),
 ];
 
-fn joined() -> &'static [Part] {
-    JOINED
+fn parts_of_both() -> &'static [Part] {
+    PARTS_OF_BOTH
 }
 
 #[test]
@@ -108,7 +108,7 @@ fn box_of_both(rt: HostRuntime) {
     let mut file = gf_file(&rt, alloc);
     ship(&rt, &mut file, 65, (0, 0), &picture(&rt, alloc, FAR, 1));
     ship(&rt, &mut file, 65, (0, 0), &picture(&rt, alloc, UNIT, 1));
-    assert_parts(&rt, &finished(&rt, file), joined());
+    assert_parts(&rt, &finished(&rt, file), parts_of_both());
 }
 
 /// Ships `count` characters without black pixels, all with the same code.

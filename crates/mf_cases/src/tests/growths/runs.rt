@@ -46,7 +46,7 @@ const SHOWS: Lines = &[
 ];
 
 /// The script of these lines, and what it prints.
-fn joined(rt: &impl Abort, alloc: Global, lines: Lines) -> (Vec<u8>, Vec<u8>) {
+fn script_and_texts(rt: &impl Abort, alloc: Global, lines: Lines) -> (Vec<u8>, Vec<u8>) {
     let (mut script, mut texts) = (Vec::new(alloc), Vec::new(alloc));
     for (line, text) in lines {
         script
@@ -126,7 +126,7 @@ fn assert_runs<R: Abort + Wait + AllocGlobal>(
     gf: Option<&[u8]>,
 ) {
     let alloc = rt.alloc();
-    let (script, texts) = joined(rt, alloc, lines);
+    let (script, texts) = script_and_texts(rt, alloc, lines);
     let mut written = sink(rt, alloc);
     match run_refused(rt, alloc, reader(&script, is_bytewise), &mut written) {
         Ok(outcome) => return assert_outcome(rt, &outcome, (written.taken(), &texts), gf),
