@@ -72,14 +72,14 @@ fn perform_cuts<R: Abort + Wait>(rt: &R, alloc: Global, session: &mut Session, l
     let mut before = printed(rt, alloc, session, looks);
     for end in 0..bytes.len() {
         let text = perform_cut(rt, alloc, session, &bytes[..end]);
-        let behind = printed(rt, alloc, session, looks);
+        let after = printed(rt, alloc, session, looks);
         if text.starts_with(b"refused") {
-            assert_same(rt, behind.as_slice(), before.as_slice(), (line, end));
+            assert_same(rt, after.as_slice(), before.as_slice(), (line, end));
         }
         if text.starts_with(b"[") {
             shipped = shipped.saturating_add(1);
         }
-        before = behind;
+        before = after;
     }
     shipped
 }

@@ -11,7 +11,7 @@ use std::sync::Wait;
 /// Asserts that the writer took the first `count` bytes that the script prints, and that it was not called after its failure.
 fn assert_took(rt: &impl Abort, count: usize, taken: &[u8], calls_after: u32) {
     assert_same(rt, Some(taken), TWO_SIXES.get(..count), count);
-    assert_same(rt, calls_after, 0, ("calls behind", count));
+    assert_same(rt, calls_after, 0, ("calls after", count));
 }
 
 /// Asserts that running the script into a writer that fails once after `room` bytes ends with this fault, or with none, and that

@@ -61,7 +61,7 @@ fn assert_fails_once<R: Abort + Wait + Threads + Files + AllocGlobal>(
     let end: End<'_> = (status, writer.taken(), errors.taken());
     let front = texts.get(..room).unwrap_or(b"");
     assert_same(rt, end, (STREAM_FAULT, front, WRITE_FAULT), room);
-    assert_same(rt, writer.calls_after(), 0, ("calls behind", room));
+    assert_same(rt, writer.calls_after(), 0, ("calls after", room));
 }
 
 /// Asserts this for a writer that fails instead of each byte of these texts, and that the font file stays. The same script with a

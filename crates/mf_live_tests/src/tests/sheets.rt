@@ -75,7 +75,7 @@ fn assert_million(rt: &impl Abort, picture: &Picture, some: &[(usize, Pixels)]) 
     for (k, run) in some {
         assert_same(rt, picture.run(*k), Some(run_of(*run)), ("run", *k));
     }
-    assert_same(rt, picture.run(1_000_000), None, "behind the last run");
+    assert_same(rt, picture.run(1_000_000), None, "after the last run");
 }
 
 /// The weights of the rows add up to 500,500, and each row has 1000 pixels.

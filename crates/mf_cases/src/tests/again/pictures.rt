@@ -62,7 +62,7 @@ fn assert_runs(rt: &impl Abort, picture: &Picture, runs: &[Run]) {
     for (k, run) in runs.iter().enumerate() {
         assert_same(rt, picture.run(k), Some(*run), ("run", k, runs));
     }
-    assert_same(rt, picture.run(runs.len()), None, ("behind", runs));
+    assert_same(rt, picture.run(runs.len()), None, ("after", runs));
 }
 
 /// Asserts that a contour goes through the corners, and that a picture that is added or subtracted is the rectangle.

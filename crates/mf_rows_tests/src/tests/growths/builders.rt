@@ -12,7 +12,7 @@ use std::process::Abort;
 struct Push {
     before: &'static [Run],
     run: Run,
-    behind: &'static [Run],
+    after: &'static [Run],
     /// Runs that fit after those before, and runs that do not.
     fitting: &'static [Run],
     others: &'static [Run],
@@ -24,7 +24,7 @@ struct Push {
 const FIRST: Push = Push {
     before: &[],
     run: run_of!(5, 0, 2, 1),
-    behind: &[run_of!(5, 3, 1, 2), run_of!(4, 0, 1, 1)],
+    after: &[run_of!(5, 3, 1, 2), run_of!(4, 0, 1, 1)],
     fitting: &[
         run_of!(4094, -4095, 1, 1),
         run_of!(5, 0, 2, 1),
@@ -47,7 +47,7 @@ const FIFTH_ROW: Push = Push {
         run_of!(2, 3, 2, 1),
     ],
     run: run_of!(1, 4, 1, 1),
-    behind: &[run_of!(1, 6, 1, 2), run_of!(0, 5, 1, 1)],
+    after: &[run_of!(1, 6, 1, 2), run_of!(0, 5, 1, 1)],
     fitting: &[
         run_of!(2, 5, 1, 1),
         run_of!(1, -7, 3, 2),
@@ -69,7 +69,7 @@ const FIFTH_ROW: Push = Push {
 const THIRD_IN_ROW: Push = Push {
     before: &[run_of!(0, 0, 1, 1), run_of!(0, 2, 1, 2)],
     run: run_of!(0, 4, 1, 3),
-    behind: &[run_of!(0, 6, 1, 4), run_of!(-70, 0, 1, 1)],
+    after: &[run_of!(0, 6, 1, 4), run_of!(-70, 0, 1, 1)],
     fitting: &[
         run_of!(0, 3, 1, 1),
         run_of!(0, 4, 1, 3),
@@ -89,7 +89,7 @@ const THIRD_IN_ROW: Push = Push {
 const TOUCHING: Push = Push {
     before: &[run_of!(0, 0, 2, 7), run_of!(0, 4, 2, 7)],
     run: run_of!(0, 6, 3, -7),
-    behind: &[],
+    after: &[],
     fitting: &[
         run_of!(0, 6, 1, 1),
         run_of!(0, 6, 3, -7),
@@ -131,7 +131,7 @@ fn assert_pushed<R: Abort + AllocGlobal>(rt: &R, push: &Push) {
         assert_fits_as_before(rt, &builder, push);
         push_all(rt, &mut builder, &[push.run]);
     }
-    push_all(rt, &mut builder, push.behind);
+    push_all(rt, &mut builder, push.after);
     assert_runs(rt, &made(rt, builder.finish()), push.all);
 }
 
