@@ -2,7 +2,7 @@
 //! bytes were written where a contract can know the bytes of the writer, as it can of a list of bytes in memory.
 ghost use Rattle.std.specs.Io.KnownBytes.{Appends};
 ghost use Rattle.std.specs.Prelude.{◌≡◌, ◌<◌, IfErr, OnOk, length, take, true, false};
-ghost use Rattle.mf_base.specs.Messages.{GetsMessage, GetsPart};
+ghost use Rattle.mf_base.specs.Messages.{GetsFront, GetsPart};
 
 use std::io::Write;
 
@@ -27,7 +27,7 @@ pub fn write_counted<W: Write>(writer: &mut W, bytes: &[u8]) -> Result<(), usize
 /// taken all bytes, and after `false` all of them or a front of them. No clause can say whether it was flushed.
 pub fn write_and_flush<W: Write>(writer: &mut W, bytes: &[u8]) -> bool
     ensures all { result ≡ true → Appends (W.contents writer.old) (W.contents writer.new) bytes.now }
-    ensures front { GetsMessage (W.contents writer.old) (W.contents writer.new) bytes.now }
+    ensures front { GetsFront (W.contents writer.old) (W.contents writer.new) bytes.now }
 {
     if write_counted(writer, bytes).is_err() {
         return false;
@@ -40,7 +40,7 @@ pub fn write_and_flush<W: Write>(writer: &mut W, bytes: &[u8]) -> bool
 pub fn write_text<W: Write>(writer: &mut W, text: &str) -> bool
     ensures all { result ≡ true → Appends (W.contents writer.old) (W.contents writer.new) text.now }
     ensures part { result ≡ false → GetsPart (W.contents writer.old) (W.contents writer.new) text.now }
-    ensures front { GetsMessage (W.contents writer.old) (W.contents writer.new) text.now }
+    ensures front { GetsFront (W.contents writer.old) (W.contents writer.new) text.now }
 {
     write_counted(writer, text.as_bytes()).is_ok()
 }

@@ -1,7 +1,7 @@
 //! The program that `main` calls: from its words and streams to its exit status.
 ghost use Rattle.std.specs.Io.KnownBytes.{Appends, IsAtEnd};
 ghost use Rattle.std.specs.Prelude.{◌≡◌, ◌<◌, ◌≤◌, ◌⊎◌, ℕ, IfErr, IfOk, OnOk, length, take};
-ghost use Rattle.mf_base.specs.Messages.{GetsMessage};
+ghost use Rattle.mf_base.specs.Messages.{GetsFront};
 ghost use Rattle.mf_options.specs.Values.{texts_of};
 ghost use Rattle.mf_words.specs.CommandLine.{IsCommandLine, greatest_viewers};
 ghost use Rattle.mf_cli.specs.Faults.{ReportsFault, TellsOfProgram};
@@ -72,13 +72,13 @@ pub fn program<S: Wait + Threads + Files, R: Read, W: Write, E: Write>(
     ensures unread { (IsCommandLine (texts_of words) → ⊥) → reader.new ≡ reader.old }
     ensures unwritten { (IsCommandLine (texts_of words) → ⊥) → writer.new ≡ writer.old }
     ensures wanting { (IsCommandLine (texts_of words) → ⊥) → result ≡ WANTING
-        → GetsMessage (E.contents errors.old) (E.contents errors.new) (message_of (ProgramFault.Run RunFault.OutOfMemory)) }
+        → GetsFront (E.contents errors.old) (E.contents errors.new) (message_of (ProgramFault.Run RunFault.OutOfMemory)) }
     ensures quiet { result ≡ DONE → errors.new ≡ errors.old }
-    ensures usage { result ≡ BAD_WORDS → GetsMessage (E.contents errors.old) (E.contents errors.new) usage }
+    ensures usage { result ≡ BAD_WORDS → GetsFront (E.contents errors.old) (E.contents errors.new) usage }
     ensures done { result ≡ DONE → EndsWell (request_in (texts_of words))
         (streams (R.remaining reader.old) (R.remaining reader.new) (W.contents writer.old) (W.contents writer.new)) }
     ensures fault { (result ≡ STREAM_FAULT) ⊎ (result ≡ WANTING)
-        → ReportsFault (texts_of words) result (GetsMessage (E.contents errors.old) (E.contents errors.new))
+        → ReportsFault (texts_of words) result (GetsFront (E.contents errors.old) (E.contents errors.new))
         (streams (R.remaining reader.old) (R.remaining reader.new) (W.contents writer.old) (W.contents writer.new)) }
 {
     let words = match read_words(alloc, words) {
@@ -167,7 +167,7 @@ fn write_bytes<W: Write>(out: &mut W, file: &GfBytes) -> Result<(), RunFault>
 /// the status.
 pub fn refuse_words<E: Write>(errors: &mut E) -> u8
     ensures status { result ≡ BAD_WORDS }
-    ensures message { GetsMessage (E.contents errors.old) (E.contents errors.new) usage }
+    ensures message { GetsFront (E.contents errors.old) (E.contents errors.new) usage }
 {
     write_text(errors, USAGE);
     BAD_WORDS
@@ -176,7 +176,7 @@ pub fn refuse_words<E: Write>(errors: &mut E) -> u8
 /// Reports a fault: writes its message, or a front of it where `errors` fails, and answers with the status.
 pub fn report<E: Write>(errors: &mut E, fault: ProgramFault) -> u8
     ensures status { result ≡ status_of fault }
-    ensures message { GetsMessage (E.contents errors.old) (E.contents errors.new) (message_of fault) }
+    ensures message { GetsFront (E.contents errors.old) (E.contents errors.new) (message_of fault) }
 {
     write_text(errors, message_of(fault));
     match fault {

@@ -1,7 +1,7 @@
 -- What goes to the screen of an easel.
 use Rattle.std.specs.Prelude.{◌≡◌, ◌==◌, ◌<◌, Bool, false, ℕ, List, [], ◌∷◌, ◌++◌, Option, None, Some, IfSome, codes, decimal, if◌then◌else◌}
 use Rattle.std.specs.Io.KnownBytes.{Appends}
-use Rattle.mf_base.specs.Messages.{GetsMessage}
+use Rattle.mf_base.specs.Messages.{GetsFront}
 use Rattle.mf_easel.specs.declared.fault.EaselFault.{EaselFault}
 use Rattle.mf_easel.specs.declared.fault.EaselFault.TheVariants.{NoLook, OutOfMemory, WriteFault}
 use Rattle.mf_frame.specs.Canvases.{Size, frame_lines}
@@ -50,4 +50,4 @@ GetsFrame s text (Some revision) = Appends (s.contents s.before) (s.contents s.a
 abbrev pub GetsNoMore : {W : Type 0} → Screen W → List ℕ → EaselFault → Type 0
 GetsNoMore s text OutOfMemory = s.after ≡ s.before
 GetsNoMore s text NoLook = s.after ≡ s.before
-GetsNoMore s text WriteFault = GetsMessage (s.contents s.before) (s.contents s.after) text
+GetsNoMore s text WriteFault = GetsFront (s.contents s.before) (s.contents s.after) text

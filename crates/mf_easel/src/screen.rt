@@ -1,7 +1,7 @@
 //! Writing to a screen.
 ghost use Rattle.std.specs.Io.KnownBytes.{Appends};
 ghost use Rattle.std.specs.Prelude.{◌≡◌, IfErr, OnErr, OnOk};
-ghost use Rattle.mf_base.specs.Messages.{GetsMessage};
+ghost use Rattle.mf_base.specs.Messages.{GetsFront};
 
 use crate::fault::EaselFault;
 use mf_base::write_and_flush;
@@ -11,7 +11,7 @@ use std::io::Write;
 /// with an error or takes no byte.
 pub(crate) fn send<W: Write>(screen: &mut W, text: &[u8]) -> Result<(), EaselFault>
     ensures all { OnOk result (Appends (W.contents screen.old) (W.contents screen.new) text.now) }
-    ensures front { OnErr result (GetsMessage (W.contents screen.old) (W.contents screen.new) text.now) }
+    ensures front { OnErr result (GetsFront (W.contents screen.old) (W.contents screen.new) text.now) }
     ensures fault { IfErr result (λ fault. fault ≡ EaselFault.WriteFault) }
 {
     if !write_and_flush(screen, text) {

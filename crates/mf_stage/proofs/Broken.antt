@@ -6,7 +6,7 @@ use Rattle.std.proofs.lemmas.Bool.{false≢true}
 use Rattle.std.specs.Io.KnownBytes.{Appends}
 use Rattle.std.specs.Prelude.{IsSome, IsSomeAnd}
 use Rattle.std.specs.Str.Lines.{lines}
-use Rattle.mf_base.specs.Messages.{GetsMessage}
+use Rattle.mf_base.specs.Messages.{GetsFront}
 use Rattle.mf_image.specs.Boxes.{IsTooLargeForImage}
 use Rattle.mf_live.specs.Entries.{Entry, picture_at, revision_at}
 use Rattle.mf_session.proofs.Performing.{Perform-append, Perform-one}
@@ -155,7 +155,7 @@ nothing-done before after s line held stands = record {
 
 -- the text of a line was cut
 pub line-cut : (act : Act) (s next : State) (line text : List ℕ) → Answers (limits act.before) s line (answer_with text next) → StandsFor act.after next
-    → GetsMessage act.held act.holds text → AreBrokenOff act s (line ∷ []) WriteFault
+    → GetsFront act.held act.holds text → AreBrokenOff act s (line ∷ []) WriteFault
 line-cut act s next line text answer stands (front, rest, is, out) = record {
   last = next;
   written = front;

@@ -1,7 +1,7 @@
 //! Writing a transcript.
 ghost use Rattle.std.specs.Io.KnownBytes.{Appends};
 ghost use Rattle.std.specs.Prelude.{◌≡◌, IfErr, OnErr, OnOk};
-ghost use Rattle.mf_base.specs.Messages.{GetsMessage};
+ghost use Rattle.mf_base.specs.Messages.{GetsFront};
 
 use crate::fault::StageFault;
 use mf_base::write_and_flush;
@@ -11,7 +11,7 @@ use std::io::Write;
 /// transcript fails with an error or takes no byte; a front of the text may have gone out then.
 pub fn write_text<W: Write>(transcript: &mut W, text: &[u8]) -> Result<(), StageFault>
     ensures text { OnOk result (Appends (W.contents transcript.old) (W.contents transcript.new) text.now) }
-    ensures front { OnErr result (GetsMessage (W.contents transcript.old) (W.contents transcript.new) text.now) }
+    ensures front { OnErr result (GetsFront (W.contents transcript.old) (W.contents transcript.new) text.now) }
     ensures fault { IfErr result (λ fault. fault ≡ StageFault.WriteFault) }
 {
     if !write_and_flush(transcript, text) {

@@ -4,7 +4,7 @@ use Rattle.std.specs.Io.KnownBytes.{Appends}
 use Rattle.std.proofs.KnownBytes.{Appends-nil, Appends-trans}
 use Rattle.std.proofs.lemmas.List.{append-nil}
 use Rattle.std.proofs.lemmas.List.Elements.{All-cons, All-head, All-nil, All-weaker}
-use Rattle.mf_base.specs.Messages.{GetsMessage}
+use Rattle.mf_base.specs.Messages.{GetsFront}
 use Rattle.mf_easel.specs.Easels.{HasLookedLast, HasSameManner, Manner, drawing, drawing_of, looked_at_list, manner_of, revision_of, viewer_of}
 use Rattle.mf_easel.specs.Screens.{GetsFrame, GetsNoMore, IsAbove, new_revision, screen_of}
 use Rattle.mf_easel.specs.declared.easel.Easel.{Easel}
@@ -168,5 +168,5 @@ part-cut contents held s t easel L WriteFault begun gets was =
       lists = L ∷ was.lists;
       looks = looks-more (looked_at_list easel) L was.lists (revision_of easel) was.last above more published was.looks;
       text = message-after held (contents s) (contents t) (frames (manner_of easel) was.lists) (frame (last_revision was.lists)) was.text
-          (subst (λ d. GetsMessage (contents s) (contents t) (frame d)) was.last gets);
+          (subst (λ d. GetsFront (contents s) (contents t) (frame d)) was.last gets);
     }

@@ -1,7 +1,7 @@
 -- How faults that end a run are reported.
 use Rattle.std.proofs.Common.{◌≡◌, ◌⊎◌, ℕ, inl, inr, List, Option, refl, sym, subst, arith, ⊎_elim, ◌∙◌}
 use Rattle.clap.specs.Words.{Text}
-use Rattle.mf_base.specs.Messages.{GetsMessage}
+use Rattle.mf_base.specs.Messages.{GetsFront}
 use Rattle.mf_frame.specs.Canvases.{IsLargeEnough}
 use Rattle.mf_view.specs.Faults.{EndsScript, GetsPartOfText, LacksRoom, ReportsFaultLast}
 use Rattle.mf_view.specs.Messages.{message_of}
@@ -15,7 +15,7 @@ use Rattle.mf_view_words.specs.declared.words.Words.{Words}
 
 -- memory was missing before anything was drawn or told
 pub wanting : (words : List Text) (status : ℕ) (IsUnread : Type 0) (s : ScreenStreams) → s.holds ≡ s.held → status ≡ status_of OutOfMemory
-    → GetsMessage s.told s.tells (message_of OutOfMemory) → ReportsFaultLast words status IsUnread s
+    → GetsFront s.told s.tells (message_of OutOfMemory) → ReportsFaultLast words status IsUnread s
 wanting words status IsUnread s drawn is message = record {
   fault = OutOfMemory;
   status_is = sym is;
@@ -27,7 +27,7 @@ wanting words status IsUnread s drawn is message = record {
 
 -- a text that was asked for went out, or was cut
 pub answered : (words : List Text) (status : ℕ) (IsUnread : Type 0) (s : ScreenStreams) → (status ≡ 3 → GetsPartOfText words s)
-    → (status ≡ 0) ⊎ (status ≡ 3) → (status ≡ 3) ⊎ ((status ≡ 4) ⊎ (status ≡ 5)) → (status ≡ 3 → GetsMessage s.told s.tells (message_of WriteFault))
+    → (status ≡ 0) ⊎ (status ≡ 3) → (status ≡ 3) ⊎ ((status ≡ 4) ⊎ (status ≡ 5)) → (status ≡ 3 → GetsFront s.told s.tells (message_of WriteFault))
     → ReportsFaultLast words status IsUnread s
 answered words status IsUnread s text (inl done) bad got =
     absurd (⊎_elim (λ three. omega (arith, done, three)) (⊎_elim (λ four. omega (arith, done, four)) (λ five. omega (arith, done, five))) bad)
@@ -44,7 +44,7 @@ module _ (words : List Text) (asked : Words) (request : IsRequest words (Show as
   -- the script has ended with this fault, after which the stream of messages had some bytes
   pub reported : (fault : ProgramFault) (status : ℕ) (IsUnread : Type 0) (between : Option (List ℕ)) (s : ScreenStreams)
       → EndsScript asked (record s { tells = between }) fault → (fault ≡ NoPlace → IsUnread)
-      → status ≡ status_of fault → GetsMessage between s.tells (message_of fault) → ReportsFaultLast words status IsUnread s
+      → status ≡ status_of fault → GetsFront between s.tells (message_of fault) → ReportsFaultLast words status IsUnread s
   reported fault status IsUnread between s ends unread is message = record {
     fault = fault;
     status_is = sym is;

@@ -1,7 +1,7 @@
 -- What an easel has drawn on a screen.
 use Rattle.std.specs.Prelude.{◌≡◌, ℕ, All, List, [], ◌∷◌, ◌++◌, MatchResult, None, OnOk, Option, Result, Some}
 use Rattle.std.specs.Io.KnownBytes.{Appends}
-use Rattle.mf_base.specs.Messages.{GetsMessage}
+use Rattle.mf_base.specs.Messages.{GetsFront}
 use Rattle.mf_easel.specs.Easels.{Manner, drawing, looked_at_list, manner_of, revision_of}
 use Rattle.mf_easel.specs.Screens.{IsAbove}
 use Rattle.mf_easel.specs.declared.easel.Easel.{Easel}
@@ -52,7 +52,7 @@ pub record HasDrawnPart (manner : Manner) (held holds : Option (List ℕ)) : Typ
   pub whole : List Entry
   pub lists : List (List Entry)
   pub looks : AreLooks whole lists
-  pub text : GetsMessage held holds (frames manner lists)
+  pub text : GetsFront held holds (frames manner lists)
 
 -- the easel has drawn more, whatever it had drawn before; its screen, which held some bytes, now holds others
 abbrev pub DrawsMore : Easel → Easel → Option (List ℕ) → Option (List ℕ) → Type 0

@@ -1,7 +1,7 @@
 -- Which fault ends a run.
 use Rattle.std.specs.Prelude.{◌≡◌, ◌⊎◌, ℕ, IsSome, List, [], None, Option, Some, option_map, string_bytes}
 use Rattle.clap.specs.Words.{Text}
-use Rattle.mf_base.specs.Messages.{GetsMessage, GetsPart}
+use Rattle.mf_base.specs.Messages.{GetsFront, GetsPart}
 use Rattle.mf_easel.specs.declared.fault.EaselFault.{EaselFault}
 use Rattle.mf_frame.specs.Canvases.{IsLargeEnough}
 use Rattle.mf_gf.specs.declared.file.GfFile.{GfFile}
@@ -98,5 +98,5 @@ pub record ReportsFaultLast (words : List Text) (status : ℕ) (IsUnread : Type 
   pub status_is : status_of fault ≡ status
   pub between : Option (List ℕ)
   pub ends : EndsRun words (record s { tells = between }) fault
-  pub message : GetsMessage between s.tells (message_of fault)
+  pub message : GetsFront between s.tells (message_of fault)
   pub unread : fault ≡ faults.NoPlace → IsUnread

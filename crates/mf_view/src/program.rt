@@ -1,7 +1,7 @@
 //! The program that `main` calls: from its words and streams to its exit status.
 ghost use Rattle.std.specs.Io.KnownBytes.{Appends};
 ghost use Rattle.std.specs.Prelude.{◌≡◌, ◌++◌, ◌⊎◌, ◌↔◌, Err, IfErr, IfOk, IsOk, IsSome, OnErr, OnOk, codes, decimal, option_map, string_bytes};
-ghost use Rattle.mf_base.specs.Messages.{GetsMessage, GetsPart};
+ghost use Rattle.mf_base.specs.Messages.{GetsFront, GetsPart};
 ghost use Rattle.mf_view.specs.Drawings.{HasDrawnPart, receipt};
 ghost use Rattle.mf_view.specs.Endings.{AsksForText, Fulfils, IsShownInto, IsWatched, style_in};
 ghost use Rattle.mf_view.specs.Faults.{ConcernsPlate, EndsScript, IsBrokenOffInto, LacksRoom, ReportsFaultLast};
@@ -65,8 +65,8 @@ pub fn program<S: Wait + Threads + Files + Clock + Sync, R: Read, W: Write + Sen
     ensures unread { (IsCommandLine (texts_of words) → ⊥) → reader.new ≡ reader.old }
     ensures unwritten { (IsCommandLine (texts_of words) → ⊥) → screen.new ≡ screen.old }
     ensures wanting { (IsCommandLine (texts_of words) → ⊥) → result ≡ WANTING
-        → GetsMessage (E.contents errors.old) (E.contents errors.new) (message_of ProgramFault.OutOfMemory) }
-    ensures usage { result ≡ BAD_WORDS → GetsMessage (E.contents errors.old) (E.contents errors.new) usage }
+        → GetsFront (E.contents errors.old) (E.contents errors.new) (message_of ProgramFault.OutOfMemory) }
+    ensures usage { result ≡ BAD_WORDS → GetsFront (E.contents errors.old) (E.contents errors.new) usage }
     ensures done { result ≡ DONE → Fulfils (texts_of words)
         (screen_streams (R.remaining reader.old) (receipt W.contents screen.old screen.new) (receipt E.contents errors.old errors.new)) }
     ensures fault { (result ≡ STREAM_FAULT) ⊎ (result ≡ WANTING) ⊎ (result ≡ TOO_SMALL)
@@ -74,7 +74,7 @@ pub fn program<S: Wait + Threads + Files + Clock + Sync, R: Read, W: Write + Sen
         (screen_streams (R.remaining reader.old) (receipt W.contents screen.old screen.new) (receipt E.contents errors.old errors.new)) }
     ensures text_alone { AsksForText (texts_of words) → reader.new ≡ reader.old }
     ensures too_small { IsCommandLine (texts_of words) → LacksRoom (texts_of words) → (result ≡ TOO_SMALL)
-        ⊎ ((result ≡ WANTING) × GetsMessage (E.contents errors.old) (E.contents errors.new) (message_of ProgramFault.OutOfMemory)) }
+        ⊎ ((result ≡ WANTING) × GetsFront (E.contents errors.old) (E.contents errors.new) (message_of ProgramFault.OutOfMemory)) }
     ensures untouched { LacksRoom (texts_of words) → (reader.new ≡ reader.old) × (screen.new ≡ screen.old) }
 {
     let request = match read_words(alloc, words) {
@@ -200,7 +200,7 @@ fn answer<W: Write, E: Write>(screen: &mut W, errors: &mut E, text: &str) -> u8
     ensures statuses { (result ≡ DONE) ⊎ (result ≡ STREAM_FAULT) }
     ensures done { result ≡ DONE → (errors.new ≡ errors.old) × Appends (W.contents screen.old) (W.contents screen.new) text.now }
     ensures part { result ≡ STREAM_FAULT → GetsPart (W.contents screen.old) (W.contents screen.new) text.now }
-    ensures fault { result ≡ STREAM_FAULT → GetsMessage (E.contents errors.old) (E.contents errors.new) (message_of ProgramFault.WriteFault) }
+    ensures fault { result ≡ STREAM_FAULT → GetsFront (E.contents errors.old) (E.contents errors.new) (message_of ProgramFault.WriteFault) }
 {
     if write_text(screen, text) {
         return DONE;
@@ -212,7 +212,7 @@ fn answer<W: Write, E: Write>(screen: &mut W, errors: &mut E, text: &str) -> u8
 /// status.
 pub fn refuse_words<E: Write>(errors: &mut E) -> u8
     ensures status { result ≡ BAD_WORDS }
-    ensures message { GetsMessage (E.contents errors.old) (E.contents errors.new) usage }
+    ensures message { GetsFront (E.contents errors.old) (E.contents errors.new) usage }
 {
     write_text(errors, USAGE);
     BAD_WORDS
@@ -221,7 +221,7 @@ pub fn refuse_words<E: Write>(errors: &mut E) -> u8
 /// Reports a fault by its name, and its revision if it has one, or a front of that where `errors` fails, and answers with the status.
 pub fn report<E: Write>(errors: &mut E, fault: ProgramFault) -> u8
     ensures status { result ≡ status_of fault }
-    ensures message { GetsMessage (E.contents errors.old) (E.contents errors.new) (message_of fault) }
+    ensures message { GetsFront (E.contents errors.old) (E.contents errors.new) (message_of fault) }
 {
     write_message(errors, fault);
     status_of(fault)
@@ -243,7 +243,7 @@ fn status_of(fault: ProgramFault) -> u8
 
 /// Writes the message of a fault, or a front of it where `errors` fails.
 fn write_message<E: Write>(errors: &mut E, fault: ProgramFault)
-    ensures { GetsMessage (E.contents errors.old) (E.contents errors.new) (message_of fault) }
+    ensures { GetsFront (E.contents errors.old) (E.contents errors.new) (message_of fault) }
 {
     match fault {
         ProgramFault::OutOfMemory => put(errors, "mfview: OutOfMemory\n"),
@@ -269,7 +269,7 @@ fn write_message<E: Write>(errors: &mut E, fault: ProgramFault)
 
 /// Writes a text, or a front of it where `errors` fails.
 fn put<E: Write>(errors: &mut E, text: &str)
-    ensures { GetsMessage (E.contents errors.old) (E.contents errors.new) text.now }
+    ensures { GetsFront (E.contents errors.old) (E.contents errors.new) text.now }
 {
     write_text(errors, text);
 }
@@ -277,7 +277,7 @@ fn put<E: Write>(errors: &mut E, text: &str)
 /// Writes a text, a number and a line feed, or a front of these where `errors` fails: nothing follows a text that was cut. It allocates
 /// nothing, so that each fault can be told.
 fn write_numbered<E: Write>(errors: &mut E, text: &str, number: u32)
-    ensures { GetsMessage (E.contents errors.old) (E.contents errors.new) (text.now ++ decimal number ++ codes "\n") }
+    ensures { GetsFront (E.contents errors.old) (E.contents errors.new) (text.now ++ decimal number ++ codes "\n") }
 {
     let mut buffer = Buffer::new();
     if !write_text(errors, text) {

@@ -1,7 +1,7 @@
 use Rattle.std.proofs.Common.{inl, refl, subst, sym}
 use Rattle.std.specs.Io.KnownBytes.{Appends}
 use Rattle.mf_base.proofs.Faults.{IfErr-raised}
-use Rattle.mf_base.specs.Messages.{GetsMessage}
+use Rattle.mf_base.specs.Messages.{GetsFront}
 use Rattle.mf_session.specs.States.{answer_with}
 use Rattle.mf_stage.proofs.Broken.{line-cut, line-published, nothing-done}
 use Rattle.mf_stage.specs.declared.stage.Stage.{Stage}
@@ -18,7 +18,7 @@ pub returns-in_err-write_text-clause-begun : goal.returns-in_err-write_text-clau
 returns-in_err-write_text-clause-begun g c =
     IfErr-raised c.from_residual-in_err-write_text.result _ c.from_residual-in_err-write_text.ensures.1 (rw c.in_err-write_text.ensures.fault (λ s stands.
     let answered = c.in_ok-text.ensures.answer s stands in
-    let gets = subst (GetsMessage _ _) c.as_slice.ensures.value c.in_err-write_text.ensures.front in
+    let gets = subst (GetsFront _ _) c.as_slice.ensures.value c.in_err-write_text.ensures.front in
     line-cut _ s answered.next c.args.line.now c.in_ok-text.text.items answered.answer answered.stands gets))
 
 pub returns-in_err-publication-clause-begun : goal.returns-in_err-publication-clause-begun
