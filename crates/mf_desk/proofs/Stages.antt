@@ -20,7 +20,7 @@ use Rattle.mf_desk.specs.Progress.{HasCounted, IsAfter}
 use Rattle.mf_desk.specs.Streams.{Gets, MakesPassage}
 use Rattle.mf_session.specs.Sessions.{HasPerformed, StandsFor, limits}
 use Rattle.mf_session.specs.States.{Answer, Limits, State, answer_with, answers_in_turn, start}
-use Rattle.mf_session.specs.Transcript.{Perform, due}
+use Rattle.mf_session.specs.Transcript.{Perform, due_lines}
 use Rattle.mf_desk.proofs.Ended.{ended_lines-line_feed, unended_line-line_feed, ended_lines-unbroken, unended_line-unbroken, ended_lines-front, lines-last}
 use Rattle.mf_desk.proofs.LongLines.{take-taken, Answers-kept, Answers-stripped}
 use Rattle.mf_session.proofs.Performing.{Perform-append, Perform-one}
@@ -49,7 +49,7 @@ module _ (held holds : Option (List ℕ)) (read : List ℕ) (run : Progress) (af
   bounds = limits run.performer.session
 
   -- what has been performed by then
-  abbrev so_far : HasPerformed (due bounds start (ended_lines read)) run.performer.session held holds
+  abbrev so_far : HasPerformed (due_lines bounds start (ended_lines read)) run.performer.session held holds
   so_far = after.lines.done
 
   -- what it has answered

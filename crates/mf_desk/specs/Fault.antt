@@ -5,7 +5,7 @@ use Rattle.std.specs.Str.Lines.{lines}
 use Rattle.mf_desk.specs.Ended.{ended_lines}
 use Rattle.mf_desk.specs.Streams.{IsPrefixOf, Passage}
 use Rattle.mf_session.specs.States.{State, Limits, start}
-use Rattle.mf_session.specs.Transcript.{IsFirstText, IsTextOf, due}
+use Rattle.mf_session.specs.Transcript.{IsFirstText, IsTextOf, due_lines}
 use Rattle.mf_desk.specs.declared.fault.RunFault.{RunFault}
 use Rattle.mf_desk.specs.declared.fault.RunFault.TheVariants.{OutOfMemory, ReadFault, WriteFault}
 
@@ -18,7 +18,7 @@ pub record IsTextSoFar (limits : Limits) (left : Option (List ℕ)) (read text :
   pub whole : List (List ℕ)
   pub are : AreWholeLines left read whole
   pub last : State
-  pub first : IsFirstText (due limits start whole) last text
+  pub first : IsFirstText (due_lines limits start whole) last text
 
 -- this is what the lines print that a line feed ended
 abbrev pub IsEndedText : Limits → List ℕ → List ℕ → Type 0

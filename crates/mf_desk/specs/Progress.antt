@@ -6,7 +6,7 @@ use Rattle.mf_desk.specs.Fault.{Breaks}
 use Rattle.mf_desk.specs.Streams.{Gets, HasRead, MakesPassage, Streams}
 use Rattle.mf_session.specs.Sessions.{HasPerformed, limits}
 use Rattle.mf_session.specs.States.{start}
-use Rattle.mf_session.specs.Transcript.{due}
+use Rattle.mf_session.specs.Transcript.{due_lines}
 use Rattle.mf_desk.specs.declared.fault.RunFault.{RunFault}
 use Rattle.mf_desk.specs.declared.line_buffer.TheConstants.{MAX_KEPT}
 use Rattle.mf_desk.specs.declared.performer.Performer.{Performer}
@@ -14,7 +14,7 @@ use Rattle.mf_desk.specs.declared.progress.Progress.{Progress}
 
 -- these lines have been performed from the start on, and the bytes of their texts are counted
 pub record HasCounted (held : Option (List ℕ)) (ls : List (List ℕ)) (performer : Performer) (holds : Option (List ℕ)) : Type 0 where
-  pub done : HasPerformed (due (limits performer.session) start ls) performer.session held holds
+  pub done : HasPerformed (due_lines (limits performer.session) start ls) performer.session held holds
   pub counted : performer.written ≡ length done.text
 
 -- the run after these bytes of the script: the lines that a line feed ended have been performed, and of the unended line enough is

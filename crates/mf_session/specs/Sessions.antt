@@ -5,7 +5,7 @@ use Rattle.logbook.specs.Pages.{Book}
 use Rattle.mf_gf.specs.Keeping.{Keeps, max_bytes_of}
 use Rattle.mf_session.specs.declared.session.Session.{Session}
 use Rattle.mf_session.specs.States.{Answer, Limits, State, answer_with}
-use Rattle.mf_session.specs.Transcript.{Due, Perform}
+use Rattle.mf_session.specs.Transcript.{DueLines, Perform}
 use Rattle.mf_session.specs.Variables as variables
 
 -- a session has the pictures and the turning check of a state, and its font file keeps the state's characters
@@ -29,7 +29,7 @@ pub record HasAnswered (session : Session) (text : List ℕ) (IsSuch : Answer �
   pub stands : StandsFor session next
 
 -- a session has performed all these lines and represents the state after them; a writer, which held some bytes, has got their texts
-pub record HasPerformed (d : Due) (session : Session) (held holds : Option (List ℕ)) : Type 0 where
+pub record HasPerformed (d : DueLines) (session : Session) (held holds : Option (List ℕ)) : Type 0 where
   pub text : List ℕ
   pub last : State
   pub performed : Perform d.limits d.from d.whole (answer_with text last)

@@ -11,17 +11,17 @@ Perform limits s (line ∷ more) a =
     (first : Answer) × (rest : Answer) × Answers limits s line first × Perform limits first.next more rest × (a ≡ answers_in_turn first rest)
 
 -- lines that are due to be performed from a state on
-pub record Due : Type 0 where
+pub record DueLines : Type 0 where
   pub limits : Limits
   pub from : State
   pub whole : List (List ℕ)
 
 -- lines with these three, in this order
-abbrev pub due : Limits → State → List (List ℕ) → Due
-due limits from whole = record { limits = limits; from = from; whole = whole }
+abbrev pub due_lines : Limits → State → List (List ℕ) → DueLines
+due_lines limits from whole = record { limits = limits; from = from; whole = whole }
 
 -- the first of these lines have led to this state, and these are their texts
-pub record IsFirstText (d : Due) (last : State) (written : List ℕ) : Type 0 where
+pub record IsFirstText (d : DueLines) (last : State) (written : List ℕ) : Type 0 where
   pub done : List (List ℕ)
   pub more : List (List ℕ)
   pub first : d.whole ≡ done ++ more

@@ -12,7 +12,7 @@ use Rattle.mf_live.specs.Entries.{Entry, picture_at, revision_at}
 use Rattle.mf_session.proofs.Performing.{Perform-append, Perform-one}
 use Rattle.mf_session.specs.Answers.{Answers}
 use Rattle.mf_session.specs.States.{Limits, State, answer_with}
-use Rattle.mf_session.specs.Transcript.{Due, IsFirstText, Perform, due}
+use Rattle.mf_session.specs.Transcript.{DueLines, IsFirstText, Perform, due_lines}
 use Rattle.mf_stage.proofs.Performed.{published-all}
 use Rattle.mf_stage.proofs.Scripts.{AreFirstLines, IsUnderWay, under_way-line, under_way-start}
 use Rattle.mf_stage.specs.Faults.{BreaksLines, BreaksScript, ConcernsPlate, AreBrokenOff, IsCutText, IsOfPlate, IsPublishedAs, TellsOfScript}
@@ -30,7 +30,7 @@ use Rattle.mf_stage.specs.declared.stage.Stage.{Stage}
 regroup : (a b c d : List (List ℕ)) → (a ++ (b ++ c)) ++ d ≡ (a ++ b) ++ (c ++ d)
 regroup a b c d = simp append_assoc
 
-tells-between : (d : Due) (last : State) (fault : StageFault) (written : List ℕ) → (fault ≡ OutOfMemory) ⊎ (fault ≡ ReadFault)
+tells-between : (d : DueLines) (last : State) (fault : StageFault) (written : List ℕ) → (fault ≡ OutOfMemory) ⊎ (fault ≡ ReadFault)
     → IsFirstText d last written → TellsOfScript d last fault written
 tells-between d last fault written (inl is) first = subst (λ f. TellsOfScript d last f written) (sym is) first
 tells-between d last fault written (inr is) first = subst (λ f. TellsOfScript d last f written) (sym is) first
@@ -42,8 +42,8 @@ between-plates fault (inr is) concerns = subst ConcernsPlate is concerns
 
 module _ (limits : Limits) (s t : State) (done mid more : List (List ℕ)) (text : List ℕ) (before : Perform limits s done (answer_with text t)) where
   -- lines that were performed go before the first of others
-  first-after : (last : State) (written : List ℕ) → IsFirstText (due limits t mid) last written
-      → IsFirstText (due limits s ((done ++ mid) ++ more)) last (text ++ written)
+  first-after : (last : State) (written : List ℕ) → IsFirstText (due_lines limits t mid) last written
+      → IsFirstText (due_lines limits s ((done ++ mid) ++ more)) last (text ++ written)
   first-after last written f = record {
     done = done ++ f.done;
     more = f.more ++ more;
@@ -51,8 +51,8 @@ module _ (limits : Limits) (s t : State) (done mid more : List (List ℕ)) (text
     performed = Perform-append limits s done f.done (answer_with text t) (answer_with written last) before f.performed;
   }
 
-  cut-after : (last : State) (written : List ℕ) → IsCutText (due limits t mid) last written
-      → IsCutText (due limits s ((done ++ mid) ++ more)) last (text ++ written)
+  cut-after : (last : State) (written : List ℕ) → IsCutText (due_lines limits t mid) last written
+      → IsCutText (due_lines limits s ((done ++ mid) ++ more)) last (text ++ written)
   cut-after last written f = record {
     done = done ++ f.done;
     line = f.line;
@@ -67,8 +67,8 @@ module _ (limits : Limits) (s t : State) (done mid more : List (List ℕ)) (text
     written_is = ap (λ w. text ++ w) f.written_is ∙ sym (append_assoc text f.texts f.front);
   }
 
-  tells-after : (last : State) (fault : StageFault) (written : List ℕ) → TellsOfScript (due limits t mid) last fault written
-      → TellsOfScript (due limits s ((done ++ mid) ++ more)) last fault (text ++ written)
+  tells-after : (last : State) (fault : StageFault) (written : List ℕ) → TellsOfScript (due_lines limits t mid) last fault written
+      → TellsOfScript (due_lines limits s ((done ++ mid) ++ more)) last fault (text ++ written)
   tells-after last OutOfMemory written told = first-after last written told
   tells-after last FileTooLong written told = told
   tells-after last ReadFault written told = first-after last written told
@@ -88,7 +88,7 @@ broken-after before now after s done mid more fault held holds last same same_pl
       stands = broken.stands;
       out = Appends-trans held holds last first.text broken.written first.out broken.out;
       told = tells-after (limits before) s first.last done mid more first.text first.performed broken.last fault broken.written
-          (subst (λ l. TellsOfScript (due l first.last mid) broken.last fault broken.written) same broken.told);
+          (subst (λ l. TellsOfScript (due_lines l first.last mid) broken.last fault broken.written) same broken.told);
       asked = λ concerns. subst IsSome same_plates (broken.asked concerns);
     }
 
@@ -113,7 +113,7 @@ under_way-broken act unread left fault was between =
             written = performed.text;
             stands = performed.stands;
             out = performed.out;
-            told = tells-between (due (limits act.before) s (lines input)) performed.last fault performed.text between
+            told = tells-between (due_lines (limits act.before) s (lines input)) performed.last fault performed.text between
                 (record { done = was.done; more = more; first = first; performed = performed.performed });
             asked = λ concerns. absurd (between-plates fault between concerns);
           };
@@ -179,11 +179,11 @@ line-cut act s next line text answer stands (front, rest, is, out) = record {
 
 -- a line was performed and its text was written
 line-first : (limits : Limits) (s next : State) (line text : List ℕ) → Answers limits s line (answer_with text next)
-    → IsFirstText (due limits s (line ∷ [])) next text
+    → IsFirstText (due_lines limits s (line ∷ [])) next text
 line-first limits s next line text answer =
     record { done = line ∷ []; more = []; first = refl; performed = Perform-one limits s line (answer_with text next) answer }
 
-tells-published : (d : Due) (next : State) (fault : StageFault) (text : List ℕ) → IsFirstText d next text
+tells-published : (d : DueLines) (next : State) (fault : StageFault) (text : List ℕ) → IsFirstText d next text
     → next.pictures.published ≡ next.pictures.accepted → IsOfPlate next.pictures.published fault → TellsOfScript d next fault text
 tells-published d next fault text first all is =
     let published : IsPublishedAs (revision_at next.pictures.published) next = record { all = all; revision_is = refl } in
@@ -201,7 +201,7 @@ line-published act s next line text fault answer stands out all is some = record
   written = text;
   stands = stands;
   out = out;
-  told = tells-published (due (limits act.before) s (line ∷ [])) next fault text (line-first (limits act.before) s next line text answer) all is;
+  told = tells-published (due_lines (limits act.before) s (line ∷ [])) next fault text (line-first (limits act.before) s next line text answer) all is;
   asked = λ concerns. some;
 }
 

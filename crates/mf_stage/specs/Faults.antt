@@ -7,7 +7,7 @@ use Rattle.mf_live.specs.Entries.{Entry, picture_at, revision_at}
 use Rattle.mf_rows.specs.Dots.{Dot}
 use Rattle.mf_session.specs.Answers.{Answers}
 use Rattle.mf_session.specs.States.{State, answer_with}
-use Rattle.mf_session.specs.Transcript.{Due, IsFirstText, Perform, due}
+use Rattle.mf_session.specs.Transcript.{DueLines, IsFirstText, Perform, due_lines}
 use Rattle.mf_stage.specs.Scripts.{Act}
 use Rattle.mf_stage.specs.Stages.{StandsFor, limits, plates_of}
 use Rattle.mf_stage.specs.declared.fault.StageFault.{StageFault}
@@ -15,7 +15,7 @@ use Rattle.mf_stage.specs.declared.fault.StageFault.TheVariants.{OutOfMemory, Fi
 
 -- the first of these lines have led to this state, and the text of the last of them is cut: these are the texts of all lines before it,
 -- and a front of its own
-pub record IsCutText (d : Due) (last : State) (written : List ℕ) : Type 0 where
+pub record IsCutText (d : DueLines) (last : State) (written : List ℕ) : Type 0 where
   pub done : List (List ℕ)
   pub line : List ℕ
   pub more : List (List ℕ)
@@ -37,7 +37,7 @@ pub record IsPublishedAs (revision : ℕ) (s : State) : Type 0 where
 -- the last line that was performed may be cut, and after each other fault the texts of all of them have been written; after the faults
 -- of an image these lines have published its revision, and the picture that they have published is too large after `ImageTooLarge`, and
 -- not after `PlateFault`
-abbrev pub TellsOfScript : Due → State → StageFault → List ℕ → Type 0
+abbrev pub TellsOfScript : DueLines → State → StageFault → List ℕ → Type 0
 TellsOfScript d last OutOfMemory written = IsFirstText d last written
 TellsOfScript d last FileTooLong written = ⊥
 TellsOfScript d last ReadFault written = IsFirstText d last written
@@ -67,7 +67,7 @@ pub record AreBrokenOff (act : Act) (s : State) (whole : List (List ℕ)) (fault
   pub written : List ℕ
   pub stands : StandsFor act.after last
   pub out : Appends act.held act.holds written
-  pub told : TellsOfScript (due (limits act.before) s whole) last fault written
+  pub told : TellsOfScript (due_lines (limits act.before) s whole) last fault written
   pub asked : ConcernsPlate fault → IsSome (plates_of act.before)
 
 -- in this act the fault has broken the lines off, whatever state the stage represented

@@ -5,7 +5,7 @@ use Rattle.std.specs.Str.Lines.{lines}
 use Rattle.mf_session.specs.Answers.{Answers}
 use Rattle.mf_session.specs.Sessions.{HasPerformed}
 use Rattle.mf_session.specs.States.{State, answer_with}
-use Rattle.mf_session.specs.Transcript.{due}
+use Rattle.mf_session.specs.Transcript.{due_lines}
 use Rattle.mf_stage.specs.Publications.{Announces}
 use Rattle.mf_stage.specs.Stages.{StandsFor, limits, plates_of, session_of}
 use Rattle.mf_stage.specs.declared.stage.Publication.{Publication}
@@ -34,7 +34,7 @@ pub record HasPerformedLine (act : Act) (s : State) (line : List ℕ) (made : Op
 
 -- in this act the stage, which represented this state, has performed lines and written their texts
 abbrev pub PerformsFrom : Act → State → List (List ℕ) → Type 0
-PerformsFrom act s done = HasPerformed (due (limits act.before) s done) (session_of act.after) act.held act.holds
+PerformsFrom act s done = HasPerformed (due_lines (limits act.before) s done) (session_of act.after) act.held act.holds
 
 -- in this act the stage has performed these lines, whatever state it represented
 abbrev pub PerformsLines : Act → List (List ℕ) → Type 0

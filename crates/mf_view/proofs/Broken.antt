@@ -5,7 +5,7 @@ use Rattle.std.specs.Str.Lines.{lines}
 use Rattle.std.specs.Prelude.{IsSome}
 use Rattle.mf_gf.specs.declared.file.GfFile.{GfFile}
 use Rattle.mf_session.specs.States.{State, answer_with, start}
-use Rattle.mf_session.specs.Transcript.{Due, Perform, due}
+use Rattle.mf_session.specs.Transcript.{DueLines, Perform, due_lines}
 use Rattle.mf_stage.specs.Faults as stage_faults
 use Rattle.mf_stage.specs.Faults.{BreaksScript, TellsOfScript}
 use Rattle.mf_stage.specs.Scripts.{PerformsAll, act_of}
@@ -37,7 +37,11 @@ module _ (before after : Stage) (unread told tells : Option (List ℕ)) (limited
         last = stopped.last;
         written = stopped.written;
         out = stopped.out;
-        tells_is = inl (cause, refl, subst (λ l. TellsOfScript (due l start (lines broken.input)) stopped.last cause stopped.written) limited stopped.told);
+        tells_is = inl (
+          cause,
+          refl,
+          subst (λ l. TellsOfScript (due_lines l start (lines broken.input)) stopped.last cause stopped.written) limited stopped.told,
+        );
       }
 
   broken-end : (fault : ProgramFault) → PerformsAll (act_of before after told tells) unread
@@ -120,7 +124,7 @@ roomy-stage stages.WriteFault is = cc
 roomy-stage (stages.ImageTooLarge revision) is = cc
 roomy-stage (stages.PlateFault revision) is = cc
 
-roomy-tells : (d : Due) (last : State) (written : List ℕ) → TellsOfPerformance d last TooSmall written → ⊥
+roomy-tells : (d : DueLines) (last : State) (written : List ℕ) → TellsOfPerformance d last TooSmall written → ⊥
 roomy-tells d last written (inl (cause, is, told)) = roomy-stage cause is
 roomy-tells d last written (inr (inl (done, late))) = late
 roomy-tells d last written (inr (inr (is, nothing))) = cc

@@ -5,7 +5,7 @@ use Rattle.std.specs.Str.Lines.{lines}
 use Rattle.mf_image.specs.Boxes.{IsTooLargeForImage}
 use Rattle.mf_live.specs.Entries.{Entry, picture_at, revision_at}
 use Rattle.mf_session.specs.States.{State, answer_with, start}
-use Rattle.mf_session.specs.Transcript.{Due, Perform, due}
+use Rattle.mf_session.specs.Transcript.{DueLines, Perform, due_lines}
 use Rattle.mf_stage.specs.Faults.{TellsOfScript}
 use Rattle.mf_stage.specs.declared.fault.StageFault.{StageFault}
 use Rattle.mf_view.specs.Causes.{fault_of_stage}
@@ -24,7 +24,7 @@ IsOfEnd last _ = ⊥
 
 -- what a fault says of the lines of a script, the first of which have led to this state, and of what was written of their transcript: what
 -- the same fault of the stage says; or it came at the end, after all of them; or there was no place for the viewer, and nothing was written
-abbrev pub TellsOfPerformance : Due → State → ProgramFault → List ℕ → Type 0
+abbrev pub TellsOfPerformance : DueLines → State → ProgramFault → List ℕ → Type 0
 TellsOfPerformance d last fault written =
     ((cause : StageFault) × (fault ≡ fault_of_stage cause) × TellsOfScript d last cause written)
     ⊎ ((Perform d.limits d.from d.whole (answer_with written last) × IsOfEnd last.pictures.accepted fault) ⊎ ((fault ≡ NoPlace) × (written ≡ [])))
@@ -37,4 +37,4 @@ pub record IsBrokenOff (unread told tells : Option (List ℕ)) (fault : ProgramF
   pub last : State
   pub written : List ℕ
   pub out : Appends told tells written
-  pub tells_is : TellsOfPerformance (due script_limits start (lines input)) last fault written
+  pub tells_is : TellsOfPerformance (due_lines script_limits start (lines input)) last fault written
