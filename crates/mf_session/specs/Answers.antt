@@ -12,7 +12,7 @@ use Rattle.mf_text.specs.declared.command.Command.TheVariants.{Nothing, Turning,
 use Rattle.mf_text.specs.declared.command.Command.TheVariants.{Total, Show, Proof, Ship, Publish}
 use Rattle.mf_text.specs.declared.fault.TextFault.{TextFault}
 use Rattle.mf_text.specs.declared.fault.TextFault.TheVariants.{OutOfMemory}
-use Rattle.mf_session.specs.Changes.{OpOn, pictures_after_publish, on, pictures_unless_refused, operation_text, published_line}
+use Rattle.mf_session.specs.Changes.{OpOn, op_on, pictures_after_publish, pictures_unless_refused, operation_text, published_line}
 use Rattle.mf_session.specs.Pictures.{source_picture}
 use Rattle.mf_session.specs.Refusals.{refusal_line}
 use Rattle.mf_session.specs.Shipments.{Ships}
@@ -50,13 +50,13 @@ ProofAnswers ds text = IsRefusedProof ds text ⊎ IsProof ds text
 abbrev pub AnswersTo : Limits → State → Command → Answer → Type 0
 AnswersTo limits s Nothing a = Prints s [] a
 AnswersTo limits s (Turning check) a = a ≡ answer_with [] (record s { check = check })
-AnswersTo limits s (Contour name cycle weight) a = Operates limits s (on name (ops.Contour cycle weight s.check)) a
-AnswersTo limits s (Also name source sign) a = Operates limits s (on name (ops.Also (source_picture s.pictures source) sign)) a
-AnswersTo limits s (Cull name cull) a = Operates limits s (on name (ops.Cull cull)) a
-AnswersTo limits s (Clear name) a = Operates limits s (on name ops.Clear) a
-AnswersTo limits s (Shift name dx dy) a = Operates limits s (on name (ops.Shift dx dy)) a
-AnswersTo limits s (Scale name factors) a = Operates limits s (on name (ops.Scale factors)) a
-AnswersTo limits s (Quarter name quarter) a = Operates limits s (on name (ops.Quarter quarter)) a
+AnswersTo limits s (Contour name cycle weight) a = Operates limits s (op_on name (ops.Contour cycle weight s.check)) a
+AnswersTo limits s (Also name source sign) a = Operates limits s (op_on name (ops.Also (source_picture s.pictures source) sign)) a
+AnswersTo limits s (Cull name cull) a = Operates limits s (op_on name (ops.Cull cull)) a
+AnswersTo limits s (Clear name) a = Operates limits s (op_on name ops.Clear) a
+AnswersTo limits s (Shift name dx dy) a = Operates limits s (op_on name (ops.Shift dx dy)) a
+AnswersTo limits s (Scale name factors) a = Operates limits s (op_on name (ops.Scale factors)) a
+AnswersTo limits s (Quarter name quarter) a = Operates limits s (op_on name (ops.Quarter quarter)) a
 AnswersTo limits s (Total source) a = Prints s (total_line (source_picture s.pictures source)) a
 AnswersTo limits s (Show source) a = Prints s (run_text (source_picture s.pictures source)) a
 AnswersTo limits s (Proof source) a = ProofAnswers (source_picture s.pictures source) a.text × (a.next ≡ s)

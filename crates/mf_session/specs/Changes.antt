@@ -43,8 +43,8 @@ pub record OpOn : Type 0 where
   pub op : Op
 
 -- these two, in this order
-abbrev pub on : Name → Op → OpOn
-on name op = record { name = name; op = op }
+abbrev pub op_on : Name → Op → OpOn
+op_on name op = record { name = name; op = op }
 
 -- what an operation on a picture prints
 abbrev pub operation_text : ℕ → Pictures → OpOn → List ℕ

@@ -30,7 +30,7 @@ impl Variables {
     ghost use Rattle.mf_ops.specs.declared.op.Op.TheVariants as ops;
     ghost use Rattle.mf_text.specs.Registers.{IsName, IsSource, register_count};
     ghost use Rattle.mf_text.specs.declared.command.Name.TheVariants as names;
-    ghost use Rattle.mf_session.specs.Changes.{IsClearable, on};
+    ghost use Rattle.mf_session.specs.Changes.{IsClearable, op_on};
     ghost use Rattle.mf_session.specs.Pictures.{blank_pictures, picture, source_picture};
     ghost use Rattle.mf_session.specs.Variables.{OperatesOn, PublishesAll, identity, max_ops, pictures};
 
@@ -98,7 +98,7 @@ impl Variables {
         requires name { IsName name }
         requires source { IsSource source }
         ensures answer { IfOk result (λ text. OperatesOn self.old
-            (on name (ops.Also (source_picture (pictures self.old) source) sign)) text.items self.new) }
+            (op_on name (ops.Also (source_picture (pictures self.old) source) sign)) text.items self.new) }
         ensures unchanged { OnErr result (pictures self.new ≡ pictures self.old) }
         ensures max_ops { max_ops self.new ≡ max_ops self.old }
         ensures identity { identity self.new ≡ identity self.old }
@@ -121,7 +121,7 @@ impl Variables {
     /// Changes a picture by an operation, and answers with what that prints.
     pub fn operate(&mut self, alloc: Global, name: Name, op: Op) -> Result<Vec<u8>, OutOfMemory>
         requires { IsName name }
-        ensures answer { IfOk result (λ text. OperatesOn self.old (on name op) text.items self.new) }
+        ensures answer { IfOk result (λ text. OperatesOn self.old (op_on name op) text.items self.new) }
         ensures unchanged { OnErr result (pictures self.new ≡ pictures self.old) }
         ensures clears { op ≡ ops.Clear → IsClearable (max_ops self.old) (pictures self.old) name → IsOk result }
         ensures max_ops { max_ops self.new ≡ max_ops self.old }
@@ -135,7 +135,7 @@ impl Variables {
 
     /// Changes `currentpicture`.
     fn operate_on_current(&mut self, alloc: Global, op: Op) -> Result<Vec<u8>, OutOfMemory>
-        ensures answer { IfOk result (λ text. OperatesOn self.old (on names.Current op) text.items self.new) }
+        ensures answer { IfOk result (λ text. OperatesOn self.old (op_on names.Current op) text.items self.new) }
         ensures unchanged { OnErr result (pictures self.new ≡ pictures self.old) }
         ensures clears { op ≡ ops.Clear → IsClearable (max_ops self.old) (pictures self.old) names.Current → IsOk result }
         ensures max_ops { max_ops self.new ≡ max_ops self.old }
@@ -155,7 +155,7 @@ impl Variables {
         op: Op,
     ) -> Result<Vec<u8>, OutOfMemory>
         requires { number < register_count }
-        ensures answer { IfOk result (λ text. OperatesOn self.old (on (names.Register number) op) text.items self.new) }
+        ensures answer { IfOk result (λ text. OperatesOn self.old (op_on (names.Register number) op) text.items self.new) }
         ensures unchanged { OnErr result (pictures self.new ≡ pictures self.old) }
         ensures clears { op ≡ ops.Clear → IsOk result }
         ensures max_ops { max_ops self.new ≡ max_ops self.old }
