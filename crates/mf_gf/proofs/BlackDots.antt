@@ -72,10 +72,7 @@ black_runs-ones [] = All-nil IsBlack
 black_runs-ones (r ∷ rs) = grind (arith, ints, cond_both, All-cons, black_runs-ones rs)
 
 pub black_runs_in_order : (ds : List Dot) → IsPicture ds → AreBlackRuns (black_runs (runs_of ds))
-black_runs_in_order ds picture = record {
-  order = record { runs = black_runs-from start_of_field (runs_of ds) (ordered_runs_of ds picture).runs };
-  ones = black_runs-ones (runs_of ds);
-}
+black_runs_in_order ds picture = grind (arith, ints, black_runs-from, ordered_runs_of, black_runs-ones)
 
 -- ---- the runs of an iterator, passed one after another
 

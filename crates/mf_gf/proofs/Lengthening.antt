@@ -30,10 +30,7 @@ pub record IsBegun (all : List Run) (r : Run) (rs : List Run) : Type 0 where
 -- two stretches side by side are one
 equal_dots-joined : (y x w : ℤ) (m n : ℕ) → equal_dots y x w (m + n) ≡ equal_dots y x w m ++ equal_dots y (x +ℤ pos m) w n
 unfolding equal_dots
-equal_dots-joined y x w zero n =
-    let count : 0 + n ≡ n = omega arith in
-    let column : x +ℤ pos 0 ≡ x = omega (arith, ints) in
-    rw (count, column) refl
+equal_dots-joined y x w zero n = grind (arith, ints)
 equal_dots-joined y x w (suc m) n =
     let count : suc m + n ≡ suc (m + n) = omega arith in
     let column : (x +ℤ pos 1) +ℤ pos m ≡ x +ℤ pos (suc m) = omega (arith, ints) in
@@ -118,9 +115,7 @@ module _ (all : List Run) (r : Run) (o : Option Run) (rs others : List Run) (ahe
   order_ahead = blacks-rest r (with_next o others) so_far.blacks
 
   pub both_are_runs : (s : Run) → o ≡ Some s → IsRun r × IsRun s
-  both_are_runs s some =
-      let runs = (before_run s some).blacks.order.runs in
-      (runs.0, runs.2.0)
+  both_are_runs s some = grind (arith, ints, before_run)
 
   pub one_more_joined : (s : Run) → o ≡ Some s → IsAdjacent r s → IsBegun all (with_more r s) others
   one_more_joined s some next = lengthened all r s others next (before_run s some)

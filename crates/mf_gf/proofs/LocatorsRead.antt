@@ -34,11 +34,7 @@ read_as l rest = Some (record { locator = Some l; rest = rest })
 head_reads : (l : Locator) (rest : List ℕ) (short : Option ℕ) → IsReadable l → short_dx l.dx ≡ short
     → read_item (locator_head l.code l.dx short ++ (word l.width ++ (word (pos l.place) ++ rest))) ≡ read_as l rest
 unfolding read_item
-head_reads l rest (Some pixels) fits short =
-    let dx = sym (short_dx-is l.dx pixels short).whole in
-    let width = word-reads_back l.width (word (pos l.place) ++ rest) fits.width in
-    let place = big_number-reads_back 4 l.place rest (omega (arith, fits.place)) in
-    λ t. Some (record { locator = Some (record { code = l.code; dx = dx t; width = width t; place = place t }); rest = rest })
+head_reads l rest (Some pixels) fits short = grind (arith, ints, sym, short_dx-is, word-reads_back)
 head_reads l rest None fits short =
     let dx = word-reads_back l.dx (word (pos 0) ++ word l.width ++ word (pos l.place) ++ rest) fits.dx in
     let width = word-reads_back l.width (word (pos l.place) ++ rest) fits.width in

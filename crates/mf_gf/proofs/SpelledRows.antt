@@ -65,9 +65,7 @@ module _ (before out : Spelling) (text : List ℕ) (c : Coming) where
 
   pub all_spelled : c.runs ≡ [] → AreSpelled before out text c → Writes before out text
   unfolding stretches_text
-  all_spelled none so_far =
-      write_same _ _ _ _
-      (sym (append-nil so_far.written) ∙ ap (λ rs. so_far.written ++ stretches_text c.left c.row c.column rs) (sym none) ∙ so_far.rest) so_far.writes
+  all_spelled none so_far = grind (arith, ints, write_same, sym, append-nil)
 
 pub spell-is : (code : ℕ) (p : ℤ) (ds : List Dot) (b : CharacterBox) (rs : List Run) → b ≡ box_of_pixels ds → rs ≡ runs_of ds
     → begin code p b ++ stretches_text b.min_m b.max_n b.min_m rs ++ gf.eoc ∷ [] ≡ spell code p ds

@@ -1,5 +1,5 @@
 -- The bytes of painting commands, by the number of bytes of their parameters.
-use Rattle.std.proofs.Common.{◌≡◌, ◌≢◌, ◌&&◌, if◌then◌else◌, ℕ, ◌-◌, ◌<◌, ◌≤◌, ℤ, [], ◌∷◌, ◌++◌, refl, ◌∙◌, arith}
+use Rattle.std.proofs.Common.{◌≡◌, ◌≢◌, ◌&&◌, if◌then◌else◌, ℕ, ◌-◌, ◌<◌, ◌≤◌, ℤ, [], ◌∷◌, ◌++◌, arith}
 use Rattle.std.specs.Prelude.{◌==◌, nat_le}
 use Rattle.std.specs.Ordering.{int_eq}
 use Rattle.std.proofs.lemmas.Bool.{cond-true, cond-false, le-leb, lt-leb, leb-true, eq-eqb, ne_eqb, eqb-true, and_from, and_parts, false_from_ne_true}
@@ -27,30 +27,15 @@ skip_some n some = cond-false _ (gf.skip0 ∷ []) (with_parameter gf.skip1 n) (n
 module _ (left row column : ℤ) (r : Run) where
   pub stroke_near : r.y ≡ row → distance r.x column ≤ gf.most_painted → r.len ≤ gf.most_painted
       → approach left row column r ++ paint r.len ≡ distance r.x column ∷ r.len ∷ []
-  stroke_near same near short =
-      rw (
-        cond-true (int_eq r.y row) (paint (distance r.x column)) _ ((Decides-int_eq r.y row).1 same),
-        paint_short (distance r.x column) near,
-        paint_short r.len short,
-      ) refl
+  stroke_near same near short = grind (arith, cond-true, Decides-int_eq, paint_short)
 
   approach_elsewhere : r.y ≢ row → approach left row column r ≡ (if distance row r.y == 1 && nat_le
       (distance r.x left) gf.most_new_row then new_row (distance r.x left) else skip (distance row r.y - 1) ++ paint (distance r.x left))
   approach_elsewhere other = cond-false (int_eq r.y row) _ _ (false_from_ne_true (int_eq r.y row) (λ same. other ((Decides-int_eq r.y row).0 same)))
 
   pub approach_next_row : r.y ≢ row → distance row r.y ≡ 1 → distance r.x left ≤ gf.most_new_row → approach left row column r ≡ new_row (distance r.x left)
-  approach_next_row other next near =
-      approach_elsewhere other
-      ∙ cond-true (distance row r.y == 1 && nat_le (distance r.x left) gf.most_new_row) _ _
-      (and_from _ _ (eq-eqb (distance row r.y) 1 next) (le-leb (distance r.x left) gf.most_new_row near))
+  approach_next_row other next near = grind (arith, approach_elsewhere, cond-true, and_from, eq-eqb, le-leb)
 
   pub approach_by_skip : r.y ≢ row → (distance row r.y ≡ 1 → gf.most_new_row < distance r.x left)
       → approach left row column r ≡ skip (distance row r.y - 1) ++ paint (distance r.x left)
-  approach_by_skip other far =
-      approach_elsewhere other
-      ∙ cond-false (distance row r.y == 1 && nat_le (distance r.x left) gf.most_new_row) _ _
-      (false_from_ne_true _ (λ test.
-      let parts = and_parts (distance row r.y == 1) (nat_le (distance r.x left) gf.most_new_row) test in
-      let lies_far = far (eqb-true (distance row r.y) 1 parts.0) in
-      let lies_near = leb-true (distance r.x left) gf.most_new_row parts.1 in
-      omega arith))
+  approach_by_skip other far = grind (arith, approach_elsewhere, cond-false, false_from_ne_true, and_parts, eqb-true, leb-true)

@@ -18,10 +18,4 @@ returns-then-is_short_side c =
     ∙ and_assoc (is_byte (b.max_m -ℤ b.min_m)) (is_byte b.max_m) (is_byte (b.max_n -ℤ b.min_n) && is_byte b.max_n)
 
 pub returns-else-is_short_side : goal.returns-else-is_short_side
-returns-else-is_short_side c =
-    let b = c.args.bounds.now in
-    let min_m : to_z w32 (of_z w32 b.min_m) ≡ b.min_m = omega (arith, ints) in
-    let max_m : to_z w32 (of_z w32 b.max_m) ≡ b.max_m = omega (arith, ints) in
-    let columns = rw (max_m, min_m) at c.is_short_side.ensures in
-    let rows = is_byte (b.max_n -ℤ b.min_n) && is_byte b.max_n in
-    and_else _ _ rows c.if-is_short_side.false columns ∙ and_assoc (is_byte (b.max_m -ℤ b.min_m)) (is_byte b.max_m) rows
+returns-else-is_short_side c = grind (arith, ints, and_else, and_assoc)

@@ -1,9 +1,9 @@
-use Rattle.std.proofs.Common.{◌≡◌, true, ℤ, pos, ◌<ℤ◌, int_lt, List, [], ◌∷◌, inl, inr, refl, sym, ◌∙◌, arith}
+use Rattle.std.proofs.Common.{◌≡◌, true, ℤ, pos, ◌<ℤ◌, int_lt, List, [], ◌∷◌, refl, sym, arith}
 use Rattle.std.specs.List.{All}
 use Rattle.std.proofs.lemmas.Bool.{cases_Bool, cond_both}
 use Rattle.std.proofs.lemmas.Int.{ints}
 use Rattle.std.proofs.lemmas.List.Elements.{All-cons, All-nil}
-use Rattle.mf_rows.specs.Dots.{Dot, start_of_field, weight_at}
+use Rattle.mf_rows.specs.Dots.{Dot}
 use Rattle.mf_gf.specs.Pixels.{black}
 use Rattle.mf_gf.proofs.BlackDots.{black_picture}
 use Rattle.mf_gf.proofs.BlackWeights.{is_black, black_at}
@@ -16,25 +16,16 @@ blackened d = record { y = d.y; x = d.x; weight = pos 1 }
 ones-black : (ds : List Dot) → All (λ d. d.weight ≡ pos 1) (black ds)
 unfolding black
 ones-black [] = All-nil (λ d. d.weight ≡ pos 1)
-ones-black (d ∷ ds) =
-    let One = λ (d : Dot). d.weight ≡ pos 1 in
-    cond_both (int_lt (pos 0) d.weight) (blackened d ∷ black ds) (black ds) (All One)
-    (λ yes. All-cons One (blackened d) (black ds) refl (ones-black ds))
-    (λ no. ones-black ds)
+ones-black (d ∷ ds) = grind (arith, ints, cond_both, All-cons, ones-black ds)
 
 positive : (w : ℤ) → is_black w ≡ pos 1 → pos 0 <ℤ w
-positive w one = elim (cases_Bool (int_lt (pos 0) w)) [
-  | inl above ↦ grind (arith, ints)
-  | inr below ↦ absurd (grind (arith, ints))
-]
+positive w one = grind (arith, ints, cases_Bool)
 
 black_one : (w : ℤ) → pos 0 <ℤ w → is_black w ≡ pos 1
 black_one w above = let yes : int_lt (pos 0) w ≡ true = grind (arith, ints) in rw yes refl
 
 pub returns-clause-which : goal.returns-clause-which
-returns-clause-which c ds x y picture =
-    let is = black_at start_of_field ds x y picture.dots in
-    (λ one. positive (weight_at ds x y) (sym is ∙ one), λ above. is ∙ black_one (weight_at ds x y) above)
+returns-clause-which c ds x y picture = grind (arith, ints, black_at, sym)
 
 pub returns-clause-set : goal.returns-clause-set
 returns-clause-set c = λ ds picture. record { picture = black_picture ds picture; ones = ones-black ds }

@@ -1,6 +1,7 @@
 use Rattle.std.proofs.Common.{sym, ◌∙◌}
 use Rattle.mf_gf.proofs.BlackBoxes.{black_box, box_fits, no_black_box}
 use Rattle.mf_gf.proofs.boxes.CharacterBox.of_black.Goals as goal
+use Rattle.std.proofs.Common.{arith}
 
 pub returns-in_default-clause-value : goal.returns-in_default-clause-value
 returns-in_default-clause-value c = c.none.ensures ∙ sym (no_black_box _ c.in_default.ensures.lawful c.in_default.ensures.bounds)
@@ -9,6 +10,4 @@ pub overflow_add-result : goal.overflow_add-result
 overflow_add-result c = let fits = box_fits _ _ c.in-Some.ensures.lawful c.in-Some.ensures.bounds in rw fits.right fits.fits
 
 pub returns-clause-value : goal.returns-clause-value
-returns-clause-value c =
-    let fits = box_fits _ _ c.in-Some.ensures.lawful c.in-Some.ensures.bounds in
-    rw (fits.left, fits.right, fits.after_right, fits.bottom, fits.top) (sym (black_box _ _ c.in-Some.ensures.lawful c.in-Some.ensures.bounds))
+returns-clause-value c = grind (arith, box_fits, sym, black_box)

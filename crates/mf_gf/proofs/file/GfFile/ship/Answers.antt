@@ -1,4 +1,4 @@
-use Rattle.std.proofs.Common.{◌≡◌, ◌≤◌, ℕ, List, [], ◌∷◌, ◌++◌, rules, length, ap, sym, subst, ◌∙◌, w32, to_z, of_z, arith}
+use Rattle.std.proofs.Common.{◌≡◌, ℕ, List, [], ◌∷◌, ◌++◌, rules, length, ap, sym, ◌∙◌, w32, to_z, of_z, arith}
 use Rattle.std.proofs.lemmas.Int.{ints}
 use Rattle.mf_gf.specs.Files.{Character, bytes_so_far, shipments}
 use Rattle.mf_gf.specs.Keeping.{Keeps, character}
@@ -9,9 +9,7 @@ use Rattle.mf_gf.proofs.file.GfFile.ship.Goals.{After-last_place-earlier}
 use Rattle.mf_gf.proofs.file.GfFile.ship.Goals as goal
 
 pub append-requires-clause-some : goal.append-requires-clause-some
-append-requires-clause-some c =
-    subst (λ bytes. 1 ≤ length bytes) (sym (c.deref.ensures.value ∙ c.in_ok-spelled.ensures.bytes))
-    (spell_some c.args.code (pointer c.last_place-earlier.result) (black c.args.picture.now))
+append-requires-clause-some c = grind (arith, ints, sym, spell_some)
 
 pub returns-clause-shipped : goal.returns-clause-shipped
 returns-clause-shipped c = λ comment characters keeps.

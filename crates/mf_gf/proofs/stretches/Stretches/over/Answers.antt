@@ -1,9 +1,8 @@
 use Rattle.std.proofs.Common.{sym, ap, ◌∙◌, subst}
-use Rattle.std.specs.List.{flat_map}
-use Rattle.mf_rows.specs.Runs.{dots_of, runs_of}
 use Rattle.mf_gf.specs.Ahead.{AreBlackRuns, black_runs}
 use Rattle.mf_gf.proofs.BlackDots.{black-black_runs, black_runs_in_order}
 use Rattle.mf_gf.proofs.stretches.Stretches.over.Goals as goal
+use Rattle.std.proofs.Common.{arith}
 
 pub returns-clause-order : goal.returns-clause-order
 returns-clause-order c =
@@ -11,6 +10,4 @@ returns-clause-order c =
     subst AreBlackRuns ahead (black_runs_in_order c.args.picture.now c.runs-runs.ensures.lawful)
 
 pub returns-clause-stretches : goal.returns-clause-stretches
-returns-clause-stretches c =
-    let ahead = ap black_runs (sym c.runs-runs.ensures.runs) ∙ c.next_black-next.ensures.next in
-    ap (λ rs. runs_of (flat_map dots_of rs)) (sym ahead) ∙ ap runs_of (black-black_runs c.args.picture.now)
+returns-clause-stretches c = grind (arith, sym, black-black_runs)
