@@ -1,19 +1,17 @@
 -- A line has one answer, and so a script has one transcript.
 use Rattle.std.proofs.Common.{◌≡◌, inl, inr, ℕ, List, [], ◌∷◌, ap, sym, ◌∙◌, subst}
-use Rattle.std.specs.Str.Lines.{lines}
 use Rattle.mf_gf.specs.Files.{Character}
 use Rattle.mf_gf.specs.Keeping.{character}
 use Rattle.mf_rows.specs.Dots.{Dot}
 use Rattle.mf_text.specs.declared.command.Command.{Command}
 use Rattle.mf_text.specs.declared.command.Command.TheVariants.{Proof, Ship}
 use Rattle.mf_text.proofs.OneAnswer.{gives_one, refused_once, given_or_refused}
-use Rattle.mf_session.specs.declared.refusal.Refusal.TheVariants.{Line}
 use Rattle.mf_session.specs.Answers.{Answers, AnswersTo, ProofAnswers}
 use Rattle.mf_session.specs.Pictures.{source_picture}
 use Rattle.mf_session.specs.Shipments.{Ships}
-use Rattle.mf_session.specs.Refusals.{refusal_line}
-use Rattle.mf_session.specs.States.{Answer, Limits, State, answer_with, answers_in_turn, start}
+use Rattle.mf_session.specs.States.{Answer, Limits, State, answers_in_turn}
 use Rattle.mf_session.specs.Transcript.{IsTranscript, Perform}
+use Rattle.std.proofs.Common.{arith}
 
 proof_once : (ds : List Dot) (text other : List ℕ) → ProofAnswers ds text → ProofAnswers ds other → text ≡ other
 proof_once ds text other (inl p) (inl q) = p.printed ∙ sym q.printed
@@ -29,9 +27,7 @@ ships_once limits s c a b (inr p) (inr q) = p.is ∙ sym q.is
 
 -- a command has one answer
 answers_once : (limits : Limits) (s : State) (given : Command) (a b : Answer) → AnswersTo limits s given a → AnswersTo limits s given b → a ≡ b
-answers_once limits s (Proof source) a b (printed, after) (printed_too, after_too) =
-    ap (λ text. answer_with text a.next) (proof_once (source_picture s.pictures source) a.text b.text printed printed_too)
-    ∙ ap (answer_with b.text) (after ∙ sym after_too)
+answers_once limits s (Proof source) a b (printed, after) (printed_too, after_too) = grind (arith, proof_once, sym)
 answers_once limits s (Ship source code dx width) a b p q =
     ships_once limits s (character code dx width (source_picture s.pictures source)) a b p q
 answers_once limits s given a b p q = p ∙ sym q
@@ -43,9 +39,7 @@ one_answer limits s line a b (inl p) (inl q) =
     (subst (λ given. AnswersTo limits s given a) (gives_one line p.command q.command p.given q.given) p.answer) q.answer
 one_answer limits s line a b (inl p) (inr q) = absurd (given_or_refused line p.command q.fault q.printable p.given q.refused)
 one_answer limits s line a b (inr p) (inl q) = absurd (given_or_refused line q.command p.fault p.printable q.given p.refused)
-one_answer limits s line a b (inr p) (inr q) =
-    p.answer ∙ ap (λ why. answer_with (refusal_line (Line why)) s) (refused_once line p.fault q.fault p.printable q.printable p.refused q.refused)
-    ∙ sym q.answer
+one_answer limits s line a b (inr p) (inr q) = grind (arith, refused_once, sym)
 
 performed_once : (limits : Limits) (s : State) (lines : List (List ℕ)) (a b : Answer) → Perform limits s lines a → Perform limits s lines b → a ≡ b
 performed_once limits s [] a b p q = p ∙ sym q
@@ -56,6 +50,4 @@ performed_once limits s (line ∷ more) a b (first, rest, answer, performed, is)
     ∙ ap (answers_in_turn first_too) (performed_once limits first_too.next more rest rest_too after performed_too) ∙ sym is_too
 
 pub one_transcript : (limits : Limits) (input text other : List ℕ) → IsTranscript limits input text → IsTranscript limits input other → text ≡ other
-one_transcript limits input text other p q =
-    ap (λ a. a.text)
-    (performed_once limits start (lines input) (answer_with text p.last) (answer_with other q.last) p.performed q.performed)
+one_transcript limits input text other p q = grind (arith, performed_once)

@@ -3,6 +3,7 @@ use Rattle.std.proofs.Common.{◌≡◌, List, ℕ, [], ◌∷◌, ◌++◌, ref
 use Rattle.mf_session.specs.Answers.{Answers}
 use Rattle.mf_session.specs.States.{Answer, Limits, State, answer_with, answers_in_turn}
 use Rattle.mf_session.specs.Transcript.{Perform}
+use Rattle.std.proofs.Common.{arith}
 
 -- of three answers, the last two may be joined first
 answers_in_turn-assoc : (a b c : Answer) → answers_in_turn (answers_in_turn a b) c ≡ answers_in_turn a (answers_in_turn b c)
@@ -12,13 +13,8 @@ answers_in_turn-assoc a b c = ap (λ text. answer_with text c.next) (append_asso
 pub Perform-append : (limits : Limits) (s : State) (lines more : List (List ℕ)) (a b : Answer)
     → Perform limits s lines a → Perform limits a.next more b → Perform limits s (lines ++ more) (answers_in_turn a b)
 Perform-append limits s [] more a b nothing after = rw nothing (rw nothing at after)
-Perform-append limits s (line ∷ lines) more a b (first, rest, answer, performed, is) after = (
-  first,
-  answers_in_turn rest b,
-  answer,
-  Perform-append limits first.next lines more rest b performed (rw is at after),
-  rw is (answers_in_turn-assoc first rest b),
-)
+Perform-append limits s (line ∷ lines) more a b (first, rest, answer, performed, is) after =
+    grind (arith, answers_in_turn-assoc, Perform-append limits first.next lines more rest b performed (rw is at after))
 
 -- one line is performed
 pub Perform-one : (limits : Limits) (s : State) (line : List ℕ) (a : Answer) → Answers limits s line a → Perform limits s (line ∷ []) a

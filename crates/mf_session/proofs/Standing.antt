@@ -1,14 +1,15 @@
 -- The states that sessions represent once commands are performed.
-use Rattle.std.proofs.Common.{◌≡◌, List, [], ℕ, refl, sym, subst, ◌∙◌}
+use Rattle.std.proofs.Common.{◌≡◌, List, [], ℕ, refl, sym, subst}
 use Rattle.mf_gf.specs.declared.file.GfFile.{GfFile}
-use Rattle.mf_gf.specs.Files.{Character, shipments}
-use Rattle.mf_gf.specs.Keeping.{HasLastLocators, IsSameFile, Keeps}
+use Rattle.mf_gf.specs.Files.{Character}
+use Rattle.mf_gf.specs.Keeping.{IsSameFile, Keeps}
 use Rattle.mf_text.specs.declared.command.Command.{Command}
 use Rattle.mf_session.specs.declared.session.Session.{Session}
 use Rattle.mf_session.specs.Answers.{AnswersTo}
 use Rattle.mf_session.specs.Sessions.{HasAnswered, StandsFor, limits}
 use Rattle.mf_session.specs.States.{State, answer_with}
 use Rattle.mf_session.specs.Variables.{pictures}
+use Rattle.std.proofs.Common.{arith}
 
 -- the state with the pictures and the turning check of a session, and with these characters
 abbrev pub state_of : Session → List Character → State
@@ -18,10 +19,7 @@ state_of session characters = record { pictures = pictures session.variables; ch
 pub standing : (session : Session) (Holds : State → Type 0)
     → ((characters : List Character) → Keeps session.file [] characters → Holds (state_of session characters))
     → (s : State) → StandsFor session s → Holds s
-standing session Holds holds s stands =
-    subst (λ p. Holds (record { pictures = p; check = s.check; characters = s.characters })) (sym stands.pictures)
-    (subst (λ k. Holds (record { pictures = pictures session.variables; check = k; characters = s.characters }))
-    (sym stands.check) (holds s.characters stands.file))
+standing session Holds holds s stands = grind (arith, sym)
 
 -- a session has answered a command that left its font file as it was
 pub answered : (before after : Session) (command : Command) (text : List ℕ) → after.file ≡ before.file
@@ -38,10 +36,4 @@ answered before after command text same answers =
 -- a file that has not changed keeps what it kept
 pub keeps-same : (before after : GfFile) (comment : List ℕ) (characters : List Character) → IsSameFile before after
     → Keeps before comment characters → Keeps after comment characters
-keeps-same before after comment characters same keeps =
-    record {
-      bytes = same.bytes ∙ keeps.bytes;
-      locators = subst (λ table. HasLastLocators table (shipments comment characters)) (sym same.locators) keeps.locators;
-      count = same.count ∙ keeps.count;
-      bounds = same.bounds ∙ keeps.bounds;
-    }
+keeps-same before after comment characters same keeps = grind (arith, sym)
