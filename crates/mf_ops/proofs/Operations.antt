@@ -1,12 +1,11 @@
 -- The pictures of lists of operations.
-use Rattle.std.proofs.Common.{◌≡◌, None, List, [], ◌∷◌, ◌++◌, refl}
+use Rattle.std.proofs.Common.{◌≡◌, None, List, [], ◌∷◌, ◌++◌, refl, arith}
 use Rattle.mf_rows.specs.Dots.{Dot, IsPicture}
 use Rattle.mf_ops.specs.Operations.{after_all, picture_after, AreAcceptedOn, AreAccepted}
 use Rattle.mf_ops.specs.Step.{next_picture, op_fault}
 use Rattle.mf_ops.specs.declared.op.Op.{Op}
 use Rattle.mf_ops.proofs.Adding.{IsPicture-blank}
 use Rattle.mf_ops.proofs.Faults.{IsPicture-next_picture}
-use Rattle.std.proofs.Common.{arith}
 
 after_all-push : (ds : List Dot) (ops : List Op) (op : Op) → after_all ds (ops ++ op ∷ []) ≡ next_picture (after_all ds ops) op
 unfolding after_all

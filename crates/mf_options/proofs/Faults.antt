@@ -1,11 +1,10 @@
 -- What clap's errors say about the words.
-use Rattle.std.proofs.Common.{◌≡◌, [], inl, inr, subst}
+use Rattle.std.proofs.Common.{◌≡◌, [], inl, inr, subst, arith}
 use Rattle.clap.specs.Kinds.{HasKind, IsAmong, Kinds}
 use Rattle.clap.specs.Words.{kind_of}
 use Rattle.clap.specs.declared.error.Error.{Error}
 use Rattle.mf_options.specs.Faults.{words_fault}
 use Rattle.mf_options.specs.declared.fault.WordsFault.TheVariants.{BadWords}
-use Rattle.std.proofs.Common.{arith}
 
 -- an error of clap that is not OutOfMemory means that clap finds a fault in the words
 pub has_fault : (found : Kinds) (error : Error) → HasKind found error → words_fault (kind_of error) ≡ BadWords → found ≡ [] → ⊥

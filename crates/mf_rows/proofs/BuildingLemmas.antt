@@ -161,7 +161,7 @@ pushed all rs old new r lawful fits rows above row has weights =
     let below : AreAbove new.y rs = subst (λ y. AreAbove y rs) (sym has.row) above in
     let own : IsEdgeRow new = record { bottom = rw has.row run.bottom; top = rw has.row run.top; some = some_edge old new r run has; edges = has.edges } in
     let outside : (x y : ℤ) → (IsOnRun r x y → ⊥) → weight_in_rows (rs ++ new ∷ []) x y ≡ weight_in_rows (rs ++ old ∷ []) x y =
-        grind (arith, ints, by_same, weight-in_last, sym, weight-in_others) in
+    grind (arith, ints, by_same, weight-in_last, sym, weight-in_others) in
     record {
       rows = rows-push rs new rows below own;
       picture = sym (picture_of_rows-from_weights (ds ++ dots_of r) (rs ++ new ∷ []) (picture-push ds r (lawful_picture_of_rows all lawful) fits) (record {

@@ -1,5 +1,5 @@
 -- Pictures are equal exactly where a walk over the runs of both finds them equal.
-use Rattle.std.proofs.Common.{◌≡◌, Bool, true, false, Option, Some, None, MatchOption, IfSome, List, [], ◌∷◌, refl, ap, sym, subst, ◌∙◌}
+use Rattle.std.proofs.Common.{◌≡◌, Bool, true, false, Option, Some, None, MatchOption, IfSome, List, [], ◌∷◌, refl, ap, sym, subst, ◌∙◌, arith}
 use Rattle.std.specs.Bool.{Decides}
 use Rattle.std.specs.Iterator.{YieldsFirst, YieldsThen, ComparesItemsByEq}
 use Rattle.std.specs.List.{AllZip, flat_map}
@@ -12,7 +12,6 @@ use Rattle.mf_rows.specs.Runs.{dots_of, runs_of}
 use Rattle.mf_rows.specs.Weights.{HaveSameWeights}
 use Rattle.mf_rows.proofs.RunsLemmas.{dots_of-runs_of}
 use Rattle.mf_rows.proofs.WeightsLemmas.{same_pictures}
-use Rattle.std.proofs.Common.{arith}
 
 same_run : (r s : Run) → r.y ≡ s.y → r.x ≡ s.x → r.len ≡ s.len → r.weight ≡ s.weight → r ≡ s
 same_run r s row column length weight = λ i. record { y = row i; x = column i; len = length i; weight = weight i }

@@ -140,7 +140,7 @@ module _ (p : Pixels) (all rest : List EdgeRow) (bounds : Option Box4) (r : Edge
   pub bounds_grown : (c : Columns) → AreColumns p r.edges c → AreBoundsBefore p all others (Some (with_columns bounds r.y c))
   bounds_grown c columns =
       let between : (x : ℤ) → among_rows p (so_far.passed ++ r ∷ []) x r.y ≡ true → (c.first ≤ℤ x) × (x ≤ℤ c.last) =
-          grind (arith, ints, by_lt_z, false≢true, sym, in_row) in
+      grind (arith, ints, by_lt_z, false≢true, sym, in_row) in
       record {
         passed = so_far.passed ++ r ∷ [];
         split = split;

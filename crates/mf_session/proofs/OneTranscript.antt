@@ -1,5 +1,5 @@
 -- A line has one answer, and so a script has one transcript.
-use Rattle.std.proofs.Common.{◌≡◌, inl, inr, ℕ, List, [], ◌∷◌, ap, sym, ◌∙◌, subst}
+use Rattle.std.proofs.Common.{◌≡◌, inl, inr, ℕ, List, [], ◌∷◌, ap, sym, ◌∙◌, subst, arith}
 use Rattle.mf_gf.specs.Files.{Character}
 use Rattle.mf_gf.specs.Keeping.{character}
 use Rattle.mf_rows.specs.Dots.{Dot}
@@ -11,7 +11,6 @@ use Rattle.mf_session.specs.Pictures.{source_picture}
 use Rattle.mf_session.specs.Shipments.{Ships}
 use Rattle.mf_session.specs.States.{Answer, Limits, State, answers_in_turn}
 use Rattle.mf_session.specs.Transcript.{IsTranscript, Perform}
-use Rattle.std.proofs.Common.{arith}
 
 proof_once : (ds : List Dot) (text other : List ℕ) → ProofAnswers ds text → ProofAnswers ds other → text ≡ other
 proof_once ds text other (inl p) (inl q) = p.printed ∙ sym q.printed

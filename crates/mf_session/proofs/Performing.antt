@@ -1,9 +1,8 @@
 -- Lines that are performed one after another.
-use Rattle.std.proofs.Common.{◌≡◌, List, ℕ, [], ◌∷◌, ◌++◌, refl, sym, ap, ◌∙◌, append_assoc, append-nil}
+use Rattle.std.proofs.Common.{◌≡◌, List, ℕ, [], ◌∷◌, ◌++◌, refl, sym, ap, ◌∙◌, append_assoc, append-nil, arith}
 use Rattle.mf_session.specs.Answers.{Answers}
 use Rattle.mf_session.specs.States.{Answer, Limits, State, answer_with, answers_in_turn}
 use Rattle.mf_session.specs.Transcript.{Perform}
-use Rattle.std.proofs.Common.{arith}
 
 -- of three answers, the last two may be joined first
 answers_in_turn-assoc : (a b c : Answer) → answers_in_turn (answers_in_turn a b) c ≡ answers_in_turn a (answers_in_turn b c)

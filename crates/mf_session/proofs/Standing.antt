@@ -1,5 +1,5 @@
 -- The states that sessions represent once commands are performed.
-use Rattle.std.proofs.Common.{◌≡◌, List, [], ℕ, refl, sym, subst}
+use Rattle.std.proofs.Common.{◌≡◌, List, [], ℕ, refl, sym, subst, arith}
 use Rattle.mf_gf.specs.declared.file.GfFile.{GfFile}
 use Rattle.mf_gf.specs.Files.{Character}
 use Rattle.mf_gf.specs.Keeping.{IsSameFile, Keeps}
@@ -9,7 +9,6 @@ use Rattle.mf_session.specs.Answers.{AnswersTo}
 use Rattle.mf_session.specs.Sessions.{HasAnswered, StandsFor, limits}
 use Rattle.mf_session.specs.States.{State, answer_with}
 use Rattle.mf_session.specs.Variables.{pictures}
-use Rattle.std.proofs.Common.{arith}
 
 -- the state with the pictures and the turning check of a session, and with these characters
 abbrev pub state_of : Session → List Character → State

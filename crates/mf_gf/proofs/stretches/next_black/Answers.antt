@@ -1,8 +1,7 @@
-use Rattle.std.proofs.Common.{◌∙◌}
+use Rattle.std.proofs.Common.{◌∙◌, arith}
 use Rattle.std.proofs.lemmas.Int.{to_z-of_z}
 use Rattle.mf_gf.proofs.BlackDots.{black_taken, other_passed, black_runs-none}
 use Rattle.mf_gf.proofs.stretches.next_black.Goals as goal
-use Rattle.std.proofs.Common.{arith}
 
 pub returns-then-run-gt0 : goal.returns-then-run-gt0
 returns-then-run-gt0 c = grind (arith, black_taken, to_z-of_z)

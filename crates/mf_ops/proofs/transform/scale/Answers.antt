@@ -1,4 +1,4 @@
-use Rattle.std.proofs.Common.{IsTrue, refl, ap, ◌∙◌}
+use Rattle.std.proofs.Common.{IsTrue, refl, ap, ◌∙◌, arith}
 use Rattle.std.proofs.lemmas.Bool.{both_ways}
 use Rattle.mf_ops.specs.Moves.{scale_by}
 use Rattle.mf_ops.specs.declared.op.Op.TheVariants.{Scale}
@@ -7,7 +7,6 @@ use Rattle.mf_ops.proofs.Leaving.{some_leaves, stays_in_field-scale}
 use Rattle.mf_ops.proofs.Scaling.{factor_passed, stretches_made, IsStretch-made, HasWeights-scale, PixelsStayInside-scale}
 use Rattle.mf_ops.proofs.transform.scale.Goals.{After-pixels_stay_inside}
 use Rattle.mf_ops.proofs.transform.scale.Goals as goal
-use Rattle.std.proofs.Common.{arith}
 
 pub returns-then-not-pixels_stay_inside-clause-refused : goal.returns-then-not-pixels_stay_inside-clause-refused
 returns-then-not-pixels_stay_inside-clause-refused c other =

@@ -1,10 +1,9 @@
-use Rattle.std.proofs.Common.{◌≡◌, true}
+use Rattle.std.proofs.Common.{◌≡◌, true, arith}
 use Rattle.clap.specs.Words.{app_of}
 use Rattle.clap.specs.declared.builder.command.Command.{Command}
 use Rattle.clap.specs.declared.builder.command.Command.TheViews.{out-Command}
 use Rattle.mf_options.specs.Options.{without_flags}
 use Rattle.mf_options.proofs.command.new_command.Goals as goal
-use Rattle.std.proofs.Common.{arith}
 
 -- a command after `disable_help_flag(true)` and `disable_version_flag(true)`
 flags_taken : (start helpless bare : Command) → out-Command helpless ≡ record (out-Command start) { disable_help_flag = true }

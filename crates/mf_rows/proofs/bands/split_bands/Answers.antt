@@ -1,7 +1,6 @@
-use Rattle.std.proofs.Common.{sym}
+use Rattle.std.proofs.Common.{sym, arith}
 use Rattle.std.proofs.lemmas.List.{take-append-drop}
 use Rattle.mf_rows.proofs.bands.split_bands.Goals as goal
-use Rattle.std.proofs.Common.{arith}
 
 pub returns : goal.returns
 returns c = grind (arith, sym, take-append-drop)

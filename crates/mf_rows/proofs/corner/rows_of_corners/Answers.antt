@@ -1,4 +1,4 @@
-use Rattle.std.proofs.Common.{pos, rules}
+use Rattle.std.proofs.Common.{pos, rules, arith}
 use Rattle.std.specs.List.Sorted.{IsSortedBy}
 use Rattle.std.specs.Ordering.{int_cmp, is_lt}
 use Rattle.std.proofs.lemmas.List.{drop_all}
@@ -7,7 +7,6 @@ use Rattle.mf_rows.specs.declared.corner.Corner.{Corner}
 use Rattle.mf_rows.proofs.CornersLemmas.{swept_none, swept_edges, swept_all, corner_read, corner_weight_is_lawful}
 use Rattle.mf_rows.proofs.CornersLemmas.{level, corners_permuted, added_by_permuted, falling_from_sorted}
 use Rattle.mf_rows.proofs.corner.rows_of_corners.Goals as goal
-use Rattle.std.proofs.Common.{arith}
 
 -- a corner in place of one outside the list
 abbrev any : Corner

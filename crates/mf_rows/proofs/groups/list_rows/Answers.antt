@@ -1,9 +1,8 @@
-use Rattle.std.proofs.Common.{sym, subst, append-nil, append_assoc}
+use Rattle.std.proofs.Common.{sym, subst, append-nil, append_assoc, arith}
 use Rattle.std.proofs.lemmas.List.{map-append}
 use Rattle.mf_rows.specs.EdgeRows.{AreRows}
 use Rattle.mf_rows.proofs.GroupsLemmas.{rows_of_groups_are_rows}
 use Rattle.mf_rows.proofs.groups.list_rows.Goals as goal
-use Rattle.std.proofs.Common.{arith}
 
 pub loop-row-preserved : goal.loop-row-preserved
 loop-row-preserved c = grind (arith, map-append, append_assoc, sym)

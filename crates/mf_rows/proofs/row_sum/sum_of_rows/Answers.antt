@@ -1,11 +1,10 @@
-use Rattle.std.proofs.Common.{◌≡◌, to_z, of_z, w32, refl, rules}
+use Rattle.std.proofs.Common.{◌≡◌, to_z, of_z, w32, refl, rules, arith}
 use Rattle.std.proofs.lemmas.Int.{to_z-of_z}
 use Rattle.std.proofs.lemmas.Result.{err_from_is_err_and}
 use Rattle.mf_rows.specs.Bands.{edge_row}
 use Rattle.mf_rows.proofs.RowSums.{sum_none, rows_left, rest_from, added_split, sum_with_above}
 use Rattle.mf_rows.proofs.RowSumSteps.{sum_more, sum_all_rows, sum_all_weights, unlawful_somewhere, stay_within}
 use Rattle.mf_rows.proofs.row_sum.sum_of_rows.Goals as goal
-use Rattle.std.proofs.Common.{arith}
 
 pub loop-added-init : goal.loop-added-init
 loop-added-init c = grind (arith, sum_none)

@@ -1,9 +1,8 @@
-use Rattle.std.proofs.Common.{refl, sym, ◌∙◌}
+use Rattle.std.proofs.Common.{refl, sym, ◌∙◌, arith}
 use Rattle.std.proofs.lemmas.Result.{err_from_is_err_and}
 use Rattle.mf_rows.proofs.BoxesOfDots.{least_box_of_field}
 use Rattle.mf_show.proofs.GridTexts.{blank_fits, grid_of_blank, large_box, neither, small_box_fits}
 use Rattle.mf_show.proofs.grid.proof_grid.Goals as goal
-use Rattle.std.proofs.Common.{arith}
 
 pub returns-in_err-blank-clause-too_large : goal.returns-in_err-blank-clause-too_large
 returns-in_err-blank-clause-too_large c = grind (arith, err_from_is_err_and, neither, blank_fits)

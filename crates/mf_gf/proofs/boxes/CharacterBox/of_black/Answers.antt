@@ -1,7 +1,6 @@
-use Rattle.std.proofs.Common.{sym, ◌∙◌}
+use Rattle.std.proofs.Common.{sym, ◌∙◌, arith}
 use Rattle.mf_gf.proofs.BlackBoxes.{black_box, box_fits, no_black_box}
 use Rattle.mf_gf.proofs.boxes.CharacterBox.of_black.Goals as goal
-use Rattle.std.proofs.Common.{arith}
 
 pub returns-in_default-clause-value : goal.returns-in_default-clause-value
 returns-in_default-clause-value c = c.none.ensures ∙ sym (no_black_box _ c.in_default.ensures.lawful c.in_default.ensures.bounds)

@@ -1,8 +1,7 @@
-use Rattle.std.proofs.Common.{sym}
+use Rattle.std.proofs.Common.{sym, arith}
 use Rattle.std.proofs.lemmas.Result.{IfOk-weaker}
 use Rattle.mf_gf.proofs.TailTexts.{file_of-kept, wanting_only}
 use Rattle.mf_gf.proofs.file.GfFile.finish.Goals as goal
-use Rattle.std.proofs.Common.{arith}
 
 pub returns-in-Ok-clause-finished : goal.returns-in-Ok-clause-finished
 returns-in-Ok-clause-finished c = grind (arith, IfOk-weaker, sym, file_of-kept)

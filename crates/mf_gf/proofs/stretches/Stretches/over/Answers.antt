@@ -1,8 +1,7 @@
-use Rattle.std.proofs.Common.{sym, ap, ◌∙◌, subst}
+use Rattle.std.proofs.Common.{sym, ap, ◌∙◌, subst, arith}
 use Rattle.mf_gf.specs.Ahead.{AreBlackRuns, black_runs}
 use Rattle.mf_gf.proofs.BlackDots.{black-black_runs, black_runs_in_order}
 use Rattle.mf_gf.proofs.stretches.Stretches.over.Goals as goal
-use Rattle.std.proofs.Common.{arith}
 
 pub returns-clause-order : goal.returns-clause-order
 returns-clause-order c =

@@ -1,9 +1,8 @@
-use Rattle.std.proofs.Common.{to_z-of_z}
+use Rattle.std.proofs.Common.{to_z-of_z, arith}
 use Rattle.std.proofs.lemmas.Result.{err_from_is_err_and}
 use Rattle.mf_edges.proofs.ReachesLemmas.{reach_is}
 use Rattle.mf_rows.proofs.RowListLemmas.{heads_kept, heads_push, rows_push, rows_kept}
 use Rattle.mf_rows.proofs.row_list.RowList.push.Goals as goal
-use Rattle.std.proofs.Common.{arith}
 
 pub returns-in_err-push-clause-unchanged : goal.returns-in_err-push-clause-unchanged
 returns-in_err-push-clause-unchanged c = grind (arith, err_from_is_err_and, rows_kept)

@@ -1,8 +1,7 @@
-use Rattle.std.proofs.Common.{◌≡◌, to_z, of_z, w32, rules}
+use Rattle.std.proofs.Common.{◌≡◌, to_z, of_z, w32, rules, arith}
 use Rattle.std.proofs.lemmas.Int.{to_z-of_z}
 use Rattle.mf_rows.proofs.CopiesLemmas.{moved_none, moved_next, moved_all, head_movable}
 use Rattle.mf_rows.proofs.row_list.copies.push_relocated.Goals as goal
-use Rattle.std.proofs.Common.{arith}
 
 pub loop-head-init : goal.loop-head-init
 loop-head-init c = rw c.in_ok-reserve.ensures.items (moved_none c.args.edges.now c.args.heads.now.items c.requires.heads)

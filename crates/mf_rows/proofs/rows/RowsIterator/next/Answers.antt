@@ -1,7 +1,6 @@
-use Rattle.std.proofs.Common.{sym}
+use Rattle.std.proofs.Common.{sym, arith}
 use Rattle.std.proofs.lemmas.List.{nil_from_length}
 use Rattle.mf_rows.proofs.rows.RowsIterator.next.Goals as goal
-use Rattle.std.proofs.Common.{arith}
 
 -- the group was the last
 pub returns-in_err-group-clause-steps : goal.returns-in_err-group-clause-steps

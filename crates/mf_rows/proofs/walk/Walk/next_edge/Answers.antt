@@ -1,8 +1,7 @@
-use Rattle.std.proofs.Common.{refl, sym, append_assoc, ◌∙◌}
+use Rattle.std.proofs.Common.{refl, sym, append_assoc, ◌∙◌, arith}
 use Rattle.mf_rows.specs.Walk.{runs_of_edges}
 use Rattle.mf_rows.proofs.EdgeRuns.{edge_taken}
 use Rattle.mf_rows.proofs.walk.Walk.next_edge.Goals as goal
-use Rattle.std.proofs.Common.{arith}
 
 pub overflow_add-self : goal.overflow_add-self
 overflow_add-self c = (edge_taken _ _ _ _ c.in_ok-edge.ensures.first c.enter_row.new.self.rest).fits
