@@ -1,11 +1,9 @@
 -- Sums over one axis of the field, and over the field, of weights that were moved.
-use Rattle.std.proofs.Common.{◌≡◌, ◌≢◌, ℕ, zero, suc, ◌+◌, ◌*◌, ◌<◌, inl, inr, Bool, true, false, ◌&&◌}
+use Rattle.std.proofs.Common.{◌≡◌, ◌≢◌, ℕ, zero, suc, ◌+◌, ◌*◌, ◌<◌, ◌⊎◌, inl, inr}
 use Rattle.std.proofs.Common.{ℤ, pos, ◌+ℤ◌, ◌-ℤ◌, ◌*ℤ◌, ◌≤ℤ◌, ◌<ℤ◌, nat_abs, refl, sym, ◌∙◌, ap, arith}
-use Rattle.std.specs.Bool.{Decides}
-use Rattle.std.specs.Ordering.{int_eq}
+use lib.IntN.{ℤ_discrete}
 use Rattle.std.proofs.Math.IntN.{*ℤ_comm, *ℤ-zero, zero-*ℤ}
-use Rattle.std.proofs.lemmas.Bool.{cases_eq, cases_Bool, and_left, and_right, both_ways}
-use Rattle.std.proofs.lemmas.Bool.Decides.{Decides-int_eq}
+use Rattle.std.proofs.lemmas.Bool.{cases_eq}
 use Rattle.std.proofs.lemmas.Int.{ints, by_lt_z}
 use Rattle.mf_geom.specs.Coordinates.{least_coordinate, greatest_coordinate, last_in_field, field_size}
 use Rattle.mf_geom.specs.Crossing.{unit_step}
@@ -15,6 +13,7 @@ use Rattle.mf_geom.proofs.Areas.{sum_below-unit_step_in_field}
 use Rattle.mf_geom.proofs.Crossings.{unit_step-reached, unit_step-beyond}
 use Rattle.mf_geom.proofs.Sums.{sum_below-same, sum_below-zero, sum_below-next, sum_below-sub, sum_below-mul, sum_below-swap}
 use Rattle.mf_edges.specs.Axes.{opposite}
+use Rattle.mf_ops.specs.Moves.{IsColumnOrRow}
 use borrow.Author.Differences.{up, down, product_is}
 
 -- the sum over the columns, or rows, of the field
@@ -57,8 +56,8 @@ axis_sum-same f g same = λ t. sum_below field_size (λ i. same (least_coordinat
 axis_sum-none : (g : ℤ → ℤ) → ((q : ℤ) → g q ≡ pos 0) → axis_sum g ≡ pos 0
 axis_sum-none g none = axis_sum-same g (λ q. pos 0) none ∙ sum_below-zero field_size
 
-axis_sum-alone : (g : ℤ → ℤ) (p : ℤ) → least_coordinate ≤ℤ p → p ≤ℤ last_in_field → ((q : ℤ) → q ≢ p → g q ≡ pos 0) → axis_sum g ≡ g p
-axis_sum-alone g p least greatest others =
+axis_sum-alone : (g : ℤ → ℤ) (p : ℤ) → IsColumnOrRow p → ((q : ℤ) → q ≢ p → g q ≡ pos 0) → axis_sum g ≡ g p
+axis_sum-alone g p place others =
     let k = nat_abs (p -ℤ least_coordinate) in
     let at_k : least_coordinate +ℤ pos k ≡ p = omega (arith, ints) in
     sum_below-alone field_size k (λ i. g (least_coordinate +ℤ pos i)) (omega (arith, ints))
@@ -90,13 +89,13 @@ sum_over_field-turn_once f =
 
 -- A move of the axis takes each column, or row, p to the n columns from `first p` on, and column q comes from `source q` alone. A
 -- column that is kept lies in the field before and after the move.
-pub record IsMove (n : ℕ) (source : ℤ → ℤ) (kept : ℤ → Bool) : Type 0 where
+pub record IsMove (n : ℕ) (source : ℤ → ℤ) (IsKept : ℤ → Type 0) : Type 0 where
   pub first : ℤ → ℤ
   pub start : (q : ℤ) → first (source q) ≤ℤ q
   pub end : (q : ℤ) → q <ℤ (first (source q) +ℤ pos n)
   pub only : (p q : ℤ) → first p ≤ℤ q → q <ℤ (first p +ℤ pos n) → source q ≡ p
-  pub before : (p : ℤ) → kept p ≡ true → (least_coordinate ≤ℤ p) × (p ≤ℤ last_in_field)
-  pub after : (p : ℤ) → kept p ≡ true → (least_coordinate ≤ℤ first p) × ((first p +ℤ pos n) ≤ℤ greatest_coordinate)
+  pub before : (p : ℤ) → IsKept p → IsColumnOrRow p
+  pub after : (p : ℤ) → IsKept p → (least_coordinate ≤ℤ first p) × ((first p +ℤ pos n) ≤ℤ greatest_coordinate)
 
 -- 1 at the n columns from s on, and 0 elsewhere
 abbrev among : ℕ → ℤ → ℤ → ℤ
@@ -132,68 +131,75 @@ part-zero : (n : ℕ) (s : ℤ) (g : ℤ → ℤ) (q p : ℤ) → g p ≡ pos 0 
 part-zero n s g q p none = ap (λ a. a *ℤ among n s q) none ∙ zero-*ℤ (among n s q)
 
 -- only the source of column q adds anything at q
-from_source : (n : ℕ) (source : ℤ → ℤ) (kept : ℤ → Bool) (g : ℤ → ℤ) (q : ℤ) → (move : IsMove n source kept)
-    → ((p : ℤ) → kept p ≡ false → g p ≡ pos 0) → axis_sum (λ p. part n (move.first p) g q p) ≡ g (source q)
-from_source n source kept g q move none =
+from_source : (n : ℕ) (source : ℤ → ℤ) (IsKept : ℤ → Type 0) (g : ℤ → ℤ) (q : ℤ) → (move : IsMove n source IsKept)
+    → ((p : ℤ) → IsKept p ⊎ (g p ≡ pos 0)) → axis_sum (λ p. part n (move.first p) g q p) ≡ g (source q)
+from_source n source IsKept g q move kept_or_zero =
     let p = source q in
     let parts : ℤ → ℤ = λ o. part n (move.first o) g q o in
     let others : (o : ℤ) → o ≢ p → parts o ≡ pos 0 = λ o other. part-other n (move.first o) g q o (λ start end. other (sym (move.only o q start end))) in
-    elim (cases_Bool (kept p)) [
-      | inl is_kept ↦
-          let inside = move.before p is_kept in
-          axis_sum-alone parts p inside.0 inside.1 others
+    elim (kept_or_zero p) [
+      | inl kept ↦
+          axis_sum-alone parts p (move.before p kept) others
           ∙ ap (λ a. g p *ℤ a) (among-inside n (move.first p) q (move.start q) (move.end q))
           ∙ omega (arith, ints)
-      | inr lost ↦
-          let blank = none p lost in
-          let is_p : (o : ℤ) → Decides (int_eq o p) (o ≡ p) = λ o. Decides-int_eq o p in
-          axis_sum-none parts (λ o. elim (cases_Bool (int_eq o p)) [
-            | inl same ↦ part-zero n (move.first o) g q o (ap g ((is_p o).0 same) ∙ blank)
-            | inr other ↦ others o (λ same. both_ways (int_eq o p) other ((is_p o).1 same))
+      | inr blank ↦
+          axis_sum-none parts (λ o. elim (ℤ_discrete o p) [
+            | yes same ↦ part-zero n (move.first o) g q o (ap g same ∙ blank)
+            | no other ↦ others o other
           ])
           ∙ sym blank
     ]
 
 -- column p adds n times its own value
-to_columns : (n : ℕ) (source : ℤ → ℤ) (kept : ℤ → Bool) (g : ℤ → ℤ) (p : ℤ) → (move : IsMove n source kept)
-    → ((o : ℤ) → kept o ≡ false → g o ≡ pos 0) → axis_sum (λ q. part n (move.first p) g q p) ≡ pos n *ℤ g p
-to_columns n source kept g p move none =
-    elim (cases_Bool (kept p)) [
-      | inl is_kept ↦
-          let inside = move.after p is_kept in
+to_columns : (n : ℕ) (source : ℤ → ℤ) (IsKept : ℤ → Type 0) (g : ℤ → ℤ) (p : ℤ) → (move : IsMove n source IsKept)
+    → IsKept p ⊎ (g p ≡ pos 0) → axis_sum (λ q. part n (move.first p) g q p) ≡ pos n *ℤ g p
+to_columns n source IsKept g p move kept_or_zero =
+    elim kept_or_zero [
+      | inl kept ↦
+          let inside = move.after p kept in
           axis_sum-mul (g p) (among n (move.first p))
           ∙ ap (λ a. g p *ℤ a) (axis_sum-among n (move.first p) inside.0 inside.1)
           ∙ *ℤ_comm (g p) (pos n)
-      | inr lost ↦
-          let blank = none p lost in
+      | inr blank ↦
           axis_sum-none (λ q. part n (move.first p) g q p) (λ q. part-zero n (move.first p) g q p blank)
           ∙ sym (ap (λ a. pos n *ℤ a) blank ∙ *ℤ-zero (pos n))
     ]
 
 -- Where the columns that leave the field have value 0, a move multiplies the sum by the number of columns to which it takes each
 -- one. Both sums add the same parts, one grouped by source and the other by place.
-axis_sum-moved : (n : ℕ) (source : ℤ → ℤ) (kept : ℤ → Bool) (g : ℤ → ℤ) → IsMove n source kept → ((p : ℤ) → kept p ≡ false → g p ≡ pos 0)
+axis_sum-moved : (n : ℕ) (source : ℤ → ℤ) (IsKept : ℤ → Type 0) (g : ℤ → ℤ) → IsMove n source IsKept → ((p : ℤ) → IsKept p ⊎ (g p ≡ pos 0))
     → axis_sum (λ q. g (source q)) ≡ pos n *ℤ axis_sum g
-axis_sum-moved n source kept g move none =
+axis_sum-moved n source IsKept g move kept_or_zero =
     let parts : ℤ → ℤ → ℤ = λ q p. part n (move.first p) g q p in
-    axis_sum-same (λ q. g (source q)) (λ q. axis_sum (parts q)) (λ q. sym (from_source n source kept g q move none))
+    axis_sum-same (λ q. g (source q)) (λ q. axis_sum (parts q)) (λ q. sym (from_source n source IsKept g q move kept_or_zero))
     ∙ axis_sum-swap parts
-    ∙ axis_sum-same (λ p. axis_sum (λ q. parts q p)) (λ p. pos n *ℤ g p) (λ p. to_columns n source kept g p move none)
+    ∙ axis_sum-same (λ p. axis_sum (λ q. parts q p)) (λ p. pos n *ℤ g p) (λ p. to_columns n source IsKept g p move (kept_or_zero p))
     ∙ axis_sum-mul (pos n) g
 
+-- a fact that holds wherever f is not 0 holds, or the sum of f is 0
+holds_or_none : {P : Type 0} (n : ℕ) (f : ℕ → ℤ) → ((i : ℕ) → P ⊎ (f i ≡ pos 0)) → P ⊎ (sum_below n f ≡ pos 0)
+unfolding sum_below
+holds_or_none zero f holds_or_zero = inr refl
+holds_or_none (suc n) f holds_or_zero =
+    elim (holds_or_zero n) [
+      | inl holds ↦ inl holds
+      | inr last ↦ elim (holds_or_none n f holds_or_zero) [
+        | inl holds ↦ inl holds
+        | inr before ↦ inr (omega (arith, ints))
+      ]
+    ]
+
 -- the same for the field: the rows move, and within each row the columns
-pub sum_over_field-moved : (m n : ℕ) (column row : ℤ → ℤ) (kept_column kept_row : ℤ → Bool) (f : ℤ → ℤ → ℤ) → IsMove m column kept_column
-    → IsMove n row kept_row → ((x y : ℤ) → (kept_column x && kept_row y) ≡ false → f x y ≡ pos 0)
+pub sum_over_field-moved : (m n : ℕ) (column row : ℤ → ℤ) (IsKeptColumn IsKeptRow : ℤ → Type 0) (f : ℤ → ℤ → ℤ) → IsMove m column IsKeptColumn
+    → IsMove n row IsKeptRow → ((x y : ℤ) → IsKeptColumn x ⊎ (f x y ≡ pos 0)) → ((x y : ℤ) → IsKeptRow y ⊎ (f x y ≡ pos 0))
     → sum_over_field (λ x y. f (column x) (row y)) ≡ pos (m * n) *ℤ sum_over_field f
-sum_over_field-moved m n column row kept_column kept_row f columns rows none =
+sum_over_field-moved m n column row IsKeptColumn IsKeptRow f columns rows column_or_zero row_or_zero =
     let moved_row : ℤ → ℤ = λ y. axis_sum (λ x. f (column x) y) in
     let whole_row : ℤ → ℤ = λ y. axis_sum (λ x. f x y) in
-    let blank : (y : ℤ) → kept_row y ≡ false → moved_row y ≡ pos 0 =
-    λ y lost. axis_sum-none (λ x. f (column x) y) (λ x. none (column x) y (and_right (kept_column (column x)) (kept_row y) lost)) in
     let times : (y : ℤ) → moved_row y ≡ pos m *ℤ whole_row y =
-    λ y. axis_sum-moved m column kept_column (λ x. f x y) columns (λ x lost. none x y (and_left (kept_column x) (kept_row y) lost)) in
+    λ y. axis_sum-moved m column IsKeptColumn (λ x. f x y) columns (λ x. column_or_zero x y) in
     sum_over_field-axes (λ x y. f (column x) (row y))
-    ∙ axis_sum-moved n row kept_row moved_row rows blank
+    ∙ axis_sum-moved n row IsKeptRow moved_row rows (λ y. holds_or_none field_size _ (λ i. row_or_zero (column (least_coordinate +ℤ pos i)) y))
     ∙ ap (λ s. pos n *ℤ s) (axis_sum-same moved_row (λ y. pos m *ℤ whole_row y) times ∙ axis_sum-mul (pos m) whole_row)
     ∙ times_twice m n (axis_sum whole_row)
     ∙ ap (λ s. pos (m * n) *ℤ s) (sym (sum_over_field-axes f))

@@ -7,6 +7,7 @@ use Rattle.std.proofs.lemmas.List.Elements.{All-nil, All-cons, All-contains}
 use Rattle.std.proofs.lemmas.List.Folds.{list_any_none}
 use Rattle.std.specs.List.{All, Any, list_any}
 use Rattle.mf_geom.specs.Coordinates.{IsCoordinate, is_coordinate}
+use Rattle.mf_geom.specs.Field.{IsInField}
 use borrow.Author.Differences.{up, down}
 use Rattle.mf_rows.proofs.DotsLemmas.{dots_from-lawful}
 use Rattle.mf_rows.specs.Bounds.{IsLeastBox}
@@ -20,20 +21,20 @@ use Rattle.mf_ops.specs.Moves.{Factors, IsColumnOrRow, scale_by, shift_by, stays
 use Rattle.mf_ops.proofs.Faults.{IsForWeights}
 use Rattle.mf_ops.specs.declared.op.Op.TheVariants.{Shift, Scale}
 
-pub is_coordinate-true : (x : ℤ) → (is_coordinate x ≡ true) ↔ IsCoordinate x
+is_coordinate-true : (x : ℤ) → (is_coordinate x ≡ true) ↔ IsCoordinate x
 is_coordinate-true x = (λ passes. record { least = grind (arith, ints); greatest = grind (arith, ints) }, λ point. grind (arith, ints))
 
 pub stays_inside-true : (s : Stretch) (p : ℤ) → (stays_inside s p ≡ true) ↔ PlaceStaysInside s p
 stays_inside-true s p = grind (arith, ints, is_coordinate-true, and_parts, and_from)
 
 -- whether a dot leaves the field where its column and its row are stretched
-abbrev leaves_by : Stretch → Stretch → Dot → Bool
+abbrev pub leaves_by : Stretch → Stretch → Dot → Bool
 leaves_by columns rows d = not (stays_inside columns d.x && stays_inside rows d.y)
 
 none_leaves : (columns rows : Stretch) (ds : List Dot) → PixelsStayInside columns rows ds → list_any (leaves_by columns rows) ds ≡ false
 none_leaves columns rows ds inside = grind (arith, ints, list_any_none, not_from_true, and_from, stays_inside-true)
 
-PixelsStayInside-none_leaves : (columns rows : Stretch) (ds : List Dot) → list_any (leaves_by columns rows) ds ≡ false → PixelsStayInside columns rows ds
+pub PixelsStayInside-none_leaves : (columns rows : Stretch) (ds : List Dot) → list_any (leaves_by columns rows) ds ≡ false → PixelsStayInside columns rows ds
 PixelsStayInside-none_leaves columns rows [] none = grind (arith, ints, All-nil)
 PixelsStayInside-none_leaves columns rows (d ∷ ds) none =
     let parts = or_parts (leaves_by columns rows d) (list_any (leaves_by columns rows) ds) none in
@@ -107,6 +108,13 @@ sides_from_StayInside columns rows ds b box inside =
       top = at_side (PlaceStaysInside rows) (λ d. d.y) ds b.max_y inside.up box.top;
     }
 
+-- a pixel of the field has a column and a row of it
+pub column_inside : (x y : ℤ) → IsInField x y → IsColumnOrRow x
+column_inside x y field = record { least = field.left; greatest = field.right }
+
+pub row_inside : (x y : ℤ) → IsInField x y → IsColumnOrRow y
+row_inside x y field = record { least = field.bottom; greatest = field.top }
+
 -- the sides of the least box of a picture are columns and rows of the field
 pub record AreSidesInField (b : Box4) : Type 0 where
   pub left : IsColumnOrRow b.min_x
@@ -117,8 +125,8 @@ pub record AreSidesInField (b : Box4) : Type 0 where
 sides_in_field : (ds : List Dot) (b : Box4) → IsPicture ds → IsLeastBox ds b → AreSidesInField b
 sides_in_field ds b picture box =
     let dots = dots_from-lawful start_of_field ds picture.dots in
-    let columns : All (λ d. IsColumnOrRow d.x) ds = λ k d lt. let dot = dots k d lt in record { least = dot.in_field.left; greatest = dot.in_field.right } in
-    let rows : All (λ d. IsColumnOrRow d.y) ds = λ k d lt. let dot = dots k d lt in record { least = dot.in_field.bottom; greatest = dot.in_field.top } in
+    let columns : All (λ d. IsColumnOrRow d.x) ds = λ k d lt. column_inside _ _ (dots k d lt).in_field in
+    let rows : All (λ d. IsColumnOrRow d.y) ds = λ k d lt. row_inside _ _ (dots k d lt).in_field in
     record {
       left = at_side IsColumnOrRow (λ d. d.x) ds b.min_x columns box.left;
       right = at_side IsColumnOrRow (λ d. d.x) ds b.max_x columns box.right;

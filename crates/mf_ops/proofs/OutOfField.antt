@@ -30,7 +30,7 @@ use Rattle.mf_ops.specs.declared.op.OpFault.TheVariants.{OutOfField}
 use Rattle.mf_ops.specs.declared.quarter.Quarter.{Quarter}
 use Rattle.mf_ops.specs.declared.quarter.Quarter.TheVariants.{Once, Twice, Thrice}
 use Rattle.mf_ops.proofs.Faults.{leaves-refused, op_fault-leaves}
-use Rattle.mf_ops.proofs.Leaving.{stays_inside-true}
+use Rattle.mf_ops.proofs.Leaving.{column_inside, row_inside, stays_inside-true}
 use Rattle.mf_ops.proofs.Places.{scale_source-covered, scale_source-only, HasPlace-first, HasPlace-last}
 
 -- where the weight is not 0 there is a dot
@@ -67,12 +67,6 @@ some_dot_leaves ds op picture refused =
 
 in_field : (x y : ℤ) → IsColumnOrRow x → IsColumnOrRow y → IsInField x y
 in_field x y column row = record { left = column.least; right = column.greatest; bottom = row.least; top = row.greatest }
-
-column_inside : (x y : ℤ) → IsInField x y → IsColumnOrRow x
-column_inside x y field = record { least = field.left; greatest = field.right }
-
-row_inside : (x y : ℤ) → IsInField x y → IsColumnOrRow y
-row_inside x y field = record { least = field.bottom; greatest = field.top }
 
 shifted_inside : (d p : ℤ) → stays_inside (shift_by d) p ≡ true → IsColumnOrRow (p +ℤ d)
 shifted_inside d p stays = grind (arith, ints, stays_inside-true)
