@@ -1,7 +1,9 @@
-use Rattle.std.proofs.Common.{IsTrue, refl, ap, ◌∙◌, arith}
+use Rattle.std.proofs.Common.{◌≢◌, Some, IsTrue, refl, ap, ◌∙◌, arith}
 use Rattle.std.proofs.lemmas.Bool.{both_ways}
 use Rattle.mf_ops.specs.Moves.{scale_by}
+use Rattle.mf_ops.specs.Step.{op_fault}
 use Rattle.mf_ops.specs.declared.op.Op.TheVariants.{Scale}
+use Rattle.mf_ops.specs.declared.op.OpFault.TheVariants.{OutOfField}
 use Rattle.mf_ops.proofs.Faults.{IsForWeights, made-from_weights, op_fault-leaves, not_out}
 use Rattle.mf_ops.proofs.Leaving.{some_leaves, stays_in_field-scale}
 use Rattle.mf_ops.proofs.Scaling.{factor_passed, stretches_made, IsStretch-made, HasWeights-scale, PixelsStayInside-scale}
@@ -39,13 +41,11 @@ returns c =
     let made = made-from_weights ds (Scale s) _ stays picture has in
     record { step = made.0; accepted = made.1; refused = tt; out_of_field = λ out. absurd (not_out ds (Scale s) stays out) }
 
-stays : (c : After-pixels_stay_inside) → IsTrue c.pixels_stay_inside.result → IsForWeights c.args.picture.now (Scale c.args.scale)
-stays c inside = grind (arith, factor_passed, stays_in_field-scale)
+never_out : (c : After-pixels_stay_inside) → IsTrue c.pixels_stay_inside.result → op_fault c.args.picture.now (Scale c.args.scale) ≢ Some OutOfField
+never_out c inside = let stays : IsForWeights c.args.picture.now (Scale c.args.scale) = grind (arith, factor_passed, stays_in_field-scale) in not_out _ _ stays
 
 pub returns-in_err-reflected-clause-out_of_field : goal.returns-in_err-reflected-clause-out_of_field
-returns-in_err-reflected-clause-out_of_field c out =
-    absurd (not_out _ _ (stays (goal.at.returns-in_err-reflected-clause-out_of_field c).After-pixels_stay_inside c.if-not-pixels_stay_inside.false) out)
+returns-in_err-reflected-clause-out_of_field c = let never = never_out (goal.at.returns-in_err-reflected-clause-out_of_field c).After-pixels_stay_inside in grind arith
 
 pub returns-in_err-stretch-clause-out_of_field : goal.returns-in_err-stretch-clause-out_of_field
-returns-in_err-stretch-clause-out_of_field c out =
-    absurd (not_out _ _ (stays (goal.at.returns-in_err-stretch-clause-out_of_field c).After-pixels_stay_inside c.if-not-pixels_stay_inside.false) out)
+returns-in_err-stretch-clause-out_of_field c = let never = never_out (goal.at.returns-in_err-stretch-clause-out_of_field c).After-pixels_stay_inside in grind arith
