@@ -18,29 +18,7 @@ pub fn add(alloc: Global, picture: &mut Picture, other: &Picture, sign: Sign) ->
     ensures blank { other.now ≡ [] → IsOk result }
 {
     match sign {
-        Sign::Plus => add_plus(alloc, picture, other),
-        Sign::Minus => add_minus(alloc, picture, other),
+        Sign::Plus => Ok(picture.add(alloc, other)?),
+        Sign::Minus => Ok(picture.subtract(alloc, other)?),
     }
-}
-
-/// Adds another picture to a picture.
-fn add_plus(alloc: Global, picture: &mut Picture, other: &Picture) -> Result<(), OpFault>
-    ensures step { OnOk result (picture.new ≡ next_picture picture.old (Also other.now Sign.Plus)) }
-    ensures unchanged { OnErr result (picture.new ≡ picture.old) }
-    ensures accepted { OnOk result (op_fault picture.old (Also other.now Sign.Plus) ≡ None) }
-    ensures refused { IfErr result (λ fault. fault ≢ OpFault.OutOfMemory → op_fault picture.old (Also other.now Sign.Plus) ≡ Some fault) }
-    ensures blank { other.now ≡ [] → IsOk result }
-{
-    Ok(picture.add(alloc, other)?)
-}
-
-/// Subtracts another picture from a picture.
-fn add_minus(alloc: Global, picture: &mut Picture, other: &Picture) -> Result<(), OpFault>
-    ensures step { OnOk result (picture.new ≡ next_picture picture.old (Also other.now Sign.Minus)) }
-    ensures unchanged { OnErr result (picture.new ≡ picture.old) }
-    ensures accepted { OnOk result (op_fault picture.old (Also other.now Sign.Minus) ≡ None) }
-    ensures refused { IfErr result (λ fault. fault ≢ OpFault.OutOfMemory → op_fault picture.old (Also other.now Sign.Minus) ≡ Some fault) }
-    ensures blank { other.now ≡ [] → IsOk result }
-{
-    Ok(picture.subtract(alloc, other)?)
 }
