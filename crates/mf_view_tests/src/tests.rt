@@ -4,5 +4,6 @@ mod assertions;
 mod fonts;
 mod frames;
 mod growths;
+mod messages;
 mod paces;
 mod streams;

@@ -1,9 +1,8 @@
-//! Streams that fail: the name of the fault, its status, and what was written by then.
+//! Streams that fail: the name of the fault, and what was written by then.
 use super::assertions::assert_same;
 use super::paces::Held;
 use mf_frame::{Canvas, Style};
 use mf_testing::{FailsOnce, Pieces, Sink};
-use mf_view::program::{STREAM_FAULT, TOO_SMALL, WANTING, report};
 use mf_view::{ProgramFault, Showing, perform};
 use std::alloc::Global;
 use std::io::Write;
@@ -57,16 +56,19 @@ fn assert_fails<S: Abort + Wait + Threads + Files + Sync>(
     assert_same(rt, transcript.as_slice(), told, "told");
 }
 
+/// The screen has room for all frames, or fails in the first one: a fault of the drawing does not come before one of the script.
 #[test]
 fn reading_fails(rt: HostRuntime) {
-    assert_fails(
-        &rt,
-        rt.alloc(),
-        Pieces::failing(SCRIPT),
-        1000,
-        ProgramFault::ReadFault,
-        TOLD,
-    );
+    for room in [1000, 10] {
+        assert_fails(
+            &rt,
+            rt.alloc(),
+            Pieces::failing(SCRIPT),
+            room,
+            ProgramFault::ReadFault,
+            TOLD,
+        );
+    }
 }
 
 #[test]
@@ -96,51 +98,4 @@ fn no_frame_comes_after_one_that_was_cut(rt: HostRuntime) {
     assert_same(&rt, found, Some(ProgramFault::WriteFault), "fault");
     assert_same(&rt, screen.calls_after(), 0, "calls after the fault");
     assert_same(&rt, transcript.as_slice(), TOLD, "told");
-}
-
-/// Each fault with its message and its status.
-const FAULTS: [(ProgramFault, &str, u8); 10] = [
-    (ProgramFault::OutOfMemory, "mfview: OutOfMemory\n", WANTING),
-    (ProgramFault::NoPlace, "mfview: NoPlace\n", WANTING),
-    (ProgramFault::NoLook, "mfview: NoLook\n", WANTING),
-    (ProgramFault::TooSmall, "mfview: TooSmall\n", TOO_SMALL),
-    (
-        ProgramFault::FileTooLong,
-        "mfview: FileTooLong\n",
-        STREAM_FAULT,
-    ),
-    (ProgramFault::ReadFault, "mfview: ReadFault\n", STREAM_FAULT),
-    (
-        ProgramFault::WriteFault,
-        "mfview: WriteFault\n",
-        STREAM_FAULT,
-    ),
-    (
-        ProgramFault::ImageTooLarge(70),
-        "mfview: ImageTooLarge 70\n",
-        STREAM_FAULT,
-    ),
-    (
-        ProgramFault::PlateFault(1_000_000),
-        "mfview: PlateFault 1000000\n",
-        STREAM_FAULT,
-    ),
-    (
-        ProgramFault::NoCharacters,
-        "mfview: NoCharacters\n",
-        STREAM_FAULT,
-    ),
-];
-
-#[test]
-fn faults_are_reported(rt: HostRuntime) {
-    for (fault, message, status) in FAULTS {
-        assert_reported(&rt, rt.alloc(), fault, message, status);
-    }
-}
-
-fn assert_reported(rt: &impl Abort, alloc: Global, fault: ProgramFault, message: &str, status: u8) {
-    let mut errors = Vec::new(alloc);
-    assert_same(rt, report(&mut errors, fault), status, message);
-    assert_same(rt, errors.as_slice(), message.as_bytes(), message);
 }
