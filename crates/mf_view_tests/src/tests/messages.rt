@@ -1,8 +1,10 @@
-//! Messages: the text and the status of each fault, and which of two faults is told.
+//! Messages: the text and the status of each fault, which of two faults is told, and a stream of messages that fails.
 use super::assertions::assert_same;
-use mf_testing::{Pieces, Sink};
+use mf_testing::{FailsOnce, Pieces, Sink};
 use mf_view::ProgramFault;
-use mf_view::program::{STREAM_FAULT, TOO_SMALL, WANTING, program, report};
+use mf_view::program::{
+    BAD_WORDS, STREAM_FAULT, TOO_SMALL, WANTING, program, refuse_words, report,
+};
 use std::alloc::{AllocError, Global};
 use std::io::Write;
 use std::process::Abort;
@@ -10,6 +12,8 @@ use std::rt::Files;
 use std::sync::Wait;
 use std::thread::Threads;
 use std::time::Clock;
+
+const USAGE: &[u8] = b"usage: mfview [OPTION..] < SCRIPT (mfview --help lists the options)\n";
 
 /// Each fault with its message and its status.
 const FAULTS: [(ProgramFault, &str, u8); 10] = [
@@ -58,6 +62,45 @@ fn assert_reported(rt: &impl Abort, alloc: Global, fault: ProgramFault, message:
     assert_same(rt, errors.as_slice(), message.as_bytes(), message);
 }
 
+/// Asserts that a stream of messages that fails once, instead of each byte of this message in turn, has taken the bytes before that
+/// and is not called again, and that the status stays. One that takes a byte in each write gets all of the message.
+fn assert_breaks_off(
+    rt: &impl Abort,
+    alloc: Global,
+    fault: ProgramFault,
+    message: &str,
+    status: u8,
+) {
+    for room in 0..message.len() {
+        let mut errors = FailsOnce::new(alloc, room);
+        let found = report(&mut errors, fault);
+        let front = message.as_bytes().get(..room).unwrap_or(b"");
+        assert_same(rt, (found, errors.taken()), (status, front), message);
+        assert_same(rt, errors.calls_after(), 0, "calls after the fault");
+    }
+    let mut errors = Sink::bytewise(alloc);
+    assert_same(rt, report(&mut errors, fault), status, message);
+    assert_same(rt, errors.taken(), message.as_bytes(), "in pieces");
+}
+
+#[test]
+fn messages_break_off(rt: HostRuntime) {
+    for (fault, message, status) in FAULTS {
+        assert_breaks_off(&rt, rt.alloc(), fault, message, status);
+    }
+}
+
+#[test]
+fn the_usage_breaks_off(rt: HostRuntime) {
+    for room in 0..USAGE.len() {
+        let mut errors = FailsOnce::new(rt.alloc(), room);
+        let found = refuse_words(&mut errors);
+        let front = USAGE.get(..room).unwrap_or(b"");
+        let end = (found, errors.taken(), errors.calls_after());
+        assert_same(&rt, end, (BAD_WORDS, front, 0), room);
+    }
+}
+
 /// A script of three lines that print, and what they print.
 const SCRIPT: &[u8] = b"show totalweight a\npublish\nshow totalweight b\n";
 
@@ -102,4 +145,59 @@ fn the_fault_of_the_script_is_told_before_that_of_the_screen(rt: HostRuntime) {
     let told: &[u8] = b"totalweight 0\npublished 0\ntotalweight 0\nmfview: ReadFault\n";
     assert_same(&rt, (status, errors.taken()), (STREAM_FAULT, told), "told");
     assert_same(&rt, screen.taken(), b"revision 0".as_slice(), "drawn");
+}
+
+/// A room for bytes of the transcript, and what is told where the stream of messages fails once after that.
+const CUT: [(usize, &[u8]); 4] = [
+    (0, b"mfview: WriteFault\n"),
+    (5, b"totalmfview: WriteFault\n"),
+    (14, b"totalweight 0\nmfview: WriteFault\n"),
+    (
+        39,
+        b"totalweight 0\npublished 0\ntotalweight 0mfview: WriteFault\n",
+    ),
+];
+
+/// No line is performed after one whose text was cut, and the message follows what was taken.
+#[test]
+fn a_transcript_that_is_cut_is_told(rt: HostRuntime) {
+    let alloc = rt.alloc();
+    for (room, told) in CUT {
+        let (mut screen, mut errors) = (Sink::new(alloc), FailsOnce::new(alloc, room));
+        let status = status_of(
+            &rt,
+            alloc,
+            &["mfview"],
+            Pieces::whole(SCRIPT),
+            &mut screen,
+            &mut errors,
+        );
+        assert_same(&rt, (status, errors.taken()), (STREAM_FAULT, told), room);
+    }
+}
+
+/// Asserts that the program, with these words and a script of which reading fails, exits with this status where its stream of messages
+/// has so much room, and that the stream takes the bytes `told`.
+fn assert_keeps<S: Abort + Wait + Threads + Files + Clock + Sync>(
+    rt: &S,
+    alloc: Global,
+    texts: &[&str],
+    room: usize,
+    status: u8,
+    told: &[u8],
+) {
+    let (mut screen, mut errors) = (Sink::new(alloc), Sink::failing(alloc, room));
+    let reader = Pieces::failing(SCRIPT);
+    let found = status_of(rt, alloc, texts, reader, &mut screen, &mut errors);
+    assert_same(rt, (found, errors.taken()), (status, told), texts);
+}
+
+/// A message that cannot be written does not change the exit status.
+#[test]
+fn keeps_the_status(rt: HostRuntime) {
+    let alloc = rt.alloc();
+    assert_keeps(&rt, alloc, &["mfview", "x"], 3, BAD_WORDS, b"usa");
+    let small = ["mfview", "--columns", "49"];
+    assert_keeps(&rt, alloc, &small, 0, TOO_SMALL, b"");
+    assert_keeps(&rt, alloc, &["mfview"], 40, STREAM_FAULT, TOLD);
 }
