@@ -126,6 +126,9 @@ def cases():
     yield Case("a picture made anew", "", tall("a"), {"a": of_tall}, PASS, ROWS)
     yield Case("a copy", tall("a"), "addto b also a\n", {"a": of_tall, "b": of_tall}, LISTS)
     yield Case("a sum of few bands and all", tall("a") + few, "addto b also a\n", {"b": of_tall + 56}, LISTS + 2 * GROUP + 3 * BAND)
+    # The rows that are subtracted are negated first, so each band that both pictures have is made twice.
+    shown = {"a": of_tall - 56, "b": 56}
+    yield Case("a difference of all bands and few", tall("a") + few, "addto a also -b\n", shown, LISTS + 2 * GROUP + 3 * 2 * BAND)
     yield Case("a sum of two halves", halves, "addto b also c\n", {"b": of_tall, "c": 3 * 4110}, LISTS + GROUP + BAND)
     yield Case("nothing is added", tall("a"), "addto a also nullpicture\n", {"a": of_tall}, LINE)
     for bottom, top in [(0, 1), (4078, 4079), (-4095, -4094)]:
