@@ -1,6 +1,6 @@
 -- The picture after an operation, and when the operation is refused.
 use Rattle.std.proofs.Common.{◌≡◌, ◌≢◌, ◌↔◌, ◌⊎◌, inl, inr, Bool, true, false, cond, Option, None}
-use Rattle.std.proofs.Common.{Some, ℤ, pos, ◌+ℤ◌, List, [], ◌∷◌, refl, sym, ap, ◌∙◌, subst, arith}
+use Rattle.std.proofs.Common.{Some, ℤ, pos, ◌+ℤ◌, List, [], ◌∷◌, refl, sym, ap, ◌∙◌, arith}
 use Rattle.std.proofs.lemmas.Int.{ints}
 use Rattle.std.proofs.lemmas.Bool.{cond_both, false_from_ne_true, or_from, true_from_ne_false, or_parts, both_ways}
 use Rattle.std.proofs.lemmas.List.Elements.{All-contains}
@@ -55,10 +55,6 @@ some_too_large f at =
 -- where a picture has the weights f, and g equals f, it has the weights g
 pub HasWeights-same : (f g : ℤ → ℤ → ℤ) (ds : List Dot) → ((x y : ℤ) → f x y ≡ g x y) → HasWeights f ds → HasWeights g ds
 HasWeights-same f g ds same has = record { weights = λ x y in_field. has.weights x y in_field ∙ same x y }
-
-pub IsUnlawfulSomewhere-same : (f g : ℤ → ℤ → ℤ) → ((x y : ℤ) → f x y ≡ g x y) → IsUnlawfulSomewhere f → IsUnlawfulSomewhere g
-IsUnlawfulSomewhere-same f g same at =
-    record { x = at.x; y = at.y; in_field = at.in_field; unlawful = λ lawful. at.unlawful (subst IsLawfulWeight (sym (same at.x at.y)) lawful) }
 
 -- a picture that has the weights of a step is the picture after that step
 pub next_picture-from_weights : (ds : List Dot) (op : Op) (new : List Dot) → IsPicture new → HasWeights (step_at ds op) new → new ≡ next_picture ds op

@@ -28,7 +28,7 @@ pub mod MaximalRuns
 pub mod PassedRuns
 mod PictureGroups
 mod PilesLemmas
-mod PictureRows
+pub mod PictureRows
 mod PixelBoxes
 mod PixelColumns
 pub mod PlacesLemmas

@@ -16,9 +16,9 @@ rows_at_place None = []
 rows_at_place (Some g) = rows_of_bands (arc_value g).bands.items
 
 -- the rows of a group that was found, where one was
-abbrev pub found_rows : Option (Bor (Arc Group Global)) → List EdgeRow
-found_rows None = []
-found_rows (Some g) = rows_of_bands (arc_value g.now).bands.items
+abbrev pub rows_if_any : Option (Bor (Arc Group Global)) → List EdgeRow
+rows_if_any None = []
+rows_if_any (Some g) = rows_of_bands (arc_value g.now).bands.items
 
 -- the rows of groups, one place after another
 abbrev pub rows_of_groups : List (Option (Arc Group Global)) → List EdgeRow

@@ -4,7 +4,7 @@ ghost use Rattle.mf_rows.specs.Addends.{IsAddedFrom, addend_rows};
 ghost use Rattle.mf_rows.specs.BandNumbers.{HaveRisingNumbers};
 ghost use Rattle.mf_rows.specs.Bands.{rows_of_bands};
 ghost use Rattle.mf_rows.specs.EdgeRows.{AreRows};
-ghost use Rattle.mf_rows.specs.Groups.{AreGroups, found_rows, rows_at_place, rows_of_groups};
+ghost use Rattle.mf_rows.specs.Groups.{AreGroups, rows_if_any, rows_at_place, rows_of_groups};
 ghost use Rattle.mf_rows.specs.Signs.{signed};
 ghost use Rattle.mf_rows.specs.Sums.{weight_in_all, HaveRowWeights, IsUnlawfulSomewhere};
 
@@ -51,12 +51,12 @@ pub(crate) fn sum_of_two(
     right: Option<&Arc<Group>>,
     sign: Sign,
 ) -> Result<Option<Arc<Group>>, AddFault>
-    requires left { AreRows (found_rows left) }
-    requires right { AreRows (found_rows right) }
+    requires left { AreRows (rows_if_any left) }
+    requires right { AreRows (rows_if_any right) }
     ensures rows { IfOk result (λ sum. AreRows (rows_at_place sum)) }
-    ensures weights { IfOk result (λ sum. HaveRowWeights (weight_in_all (found_rows left.entry) (signed sign (found_rows right.entry))) (rows_at_place sum)) }
+    ensures weights { IfOk result (λ sum. HaveRowWeights (weight_in_all (rows_if_any left.entry) (signed sign (rows_if_any right.entry))) (rows_at_place sum)) }
     ensures too_large { IfErr result (λ fault. fault ≢ AddFault.OutOfMemory
-        → IsUnlawfulSomewhere (weight_in_all (found_rows left.entry) (signed sign (found_rows right.entry)))) }
+        → IsUnlawfulSomewhere (weight_in_all (rows_if_any left.entry) (signed sign (rows_if_any right.entry)))) }
 {
     match (left, sign) {
         (None, Sign::Plus) => Ok(share_group(right)?),
@@ -70,12 +70,12 @@ pub(crate) fn sum_with(
     group: Option<&Arc<Group>>,
     added: Addend<'_>,
 ) -> Result<Option<Arc<Group>>, AddFault>
-    requires group { AreRows (found_rows group) }
+    requires group { AreRows (rows_if_any group) }
     requires added { IsAddedFrom (pos 0) added }
     ensures rows { IfOk result (λ sum. AreRows (rows_at_place sum)) }
-    ensures weights { IfOk result (λ sum. HaveRowWeights (weight_in_all (found_rows group.entry) (addend_rows added.entry)) (rows_at_place sum)) }
+    ensures weights { IfOk result (λ sum. HaveRowWeights (weight_in_all (rows_if_any group.entry) (addend_rows added.entry)) (rows_at_place sum)) }
     ensures too_large { IfErr result (λ fault. fault ≢ AddFault.OutOfMemory
-        → IsUnlawfulSomewhere (weight_in_all (found_rows group.entry) (addend_rows added.entry))) }
+        → IsUnlawfulSomewhere (weight_in_all (rows_if_any group.entry) (addend_rows added.entry))) }
 {
     if added.is_empty() {
         return Ok(share_group(group)?);
@@ -86,7 +86,7 @@ pub(crate) fn sum_with(
 
 /// The bands of a group that was found, none where none was.
 fn bands_found(group: Option<&Arc<Group>>) -> &[Arc<Band>]
-    ensures rows { rows_of_bands result.now ≡ found_rows group.entry }
+    ensures rows { rows_of_bands result.now ≡ rows_if_any group.entry }
     ensures rising { HaveRisingNumbers result.now }
 {
     match group {

@@ -4,7 +4,7 @@ ghost use Rattle.mf_geom.specs.Coordinates.{least_coordinate, last_in_field};
 ghost use Rattle.mf_rows.specs.BandNumbers.{HaveRisingNumbers};
 ghost use Rattle.mf_rows.specs.Bands.{edge_rows, rows_of_bands, slice_rows, HasRow, HasNoRow};
 ghost use Rattle.mf_rows.specs.EdgeRows.{AreRows};
-ghost use Rattle.mf_rows.specs.Groups.{AreGroups, IsPlaceOfRow, IsSplitAtPlace, found_rows, rows_at_place, rows_of_groups};
+ghost use Rattle.mf_rows.specs.Groups.{AreGroups, IsPlaceOfRow, IsSplitAtPlace, rows_if_any, rows_at_place, rows_of_groups};
 
 use crate::band::Band;
 use crate::bands::{find_row_in, push_shared, split_bands, split_rows};
@@ -40,7 +40,7 @@ pub(crate) fn place_of_row(y: i32) -> usize
 
 /// The group at a place, where there is one.
 pub(crate) fn group_at(groups: &[Option<Arc<Group>>], place: usize) -> Option<&Arc<Group>>
-    ensures { found_rows result ≡ rows_at_place (slice_index_or groups.now place None) }
+    ensures { rows_if_any result ≡ rows_at_place (slice_index_or groups.now place None) }
 {
     groups.get(place)?.as_ref()
 }
@@ -78,7 +78,7 @@ pub(crate) fn share(
 
 /// The same group, which is shared.
 pub(crate) fn share_group(group: Option<&Arc<Group>>) -> Result<Option<Arc<Group>>, OutOfMemory>
-    ensures { IfOk result (λ shared. rows_at_place shared ≡ found_rows group.entry) }
+    ensures { IfOk result (λ shared. rows_at_place shared ≡ rows_if_any group.entry) }
 {
     match group {
         Some(group) => Ok(Some(Arc::try_clone(group)?)),
