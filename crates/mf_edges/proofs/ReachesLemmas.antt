@@ -66,13 +66,10 @@ module _ (es : List Edge) (count : ℕ) (d : Edge) (w reach : ℤ) (changes : Ar
 
   at_edge : weight_in es e.x ≡ w +ℤ e.weight
   at_edge =
-      omega (
-        arith,
-        ints,
-        step_at_edge least_coordinate es count d changes.sorted inside,
-        weight_in-take_after least_coordinate es count d e.x changes.sorted inside (omega (arith, ints)),
-        before e.x (omega (arith, ints)),
-      )
+      let step = step_at_edge least_coordinate es count d changes.sorted inside in
+      let old = weight_in-take_after least_coordinate es count d e.x changes.sorted inside (omega (arith, ints)) in
+      let same = before e.x (omega (arith, ints)) in
+      omega (arith, ints)
 
   pub changes_at : AreChangesAt w e.weight reach
   changes_at = grind (arith, ints, weight_in-take_after, before, sym, at_edge)

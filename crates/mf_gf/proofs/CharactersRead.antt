@@ -83,7 +83,8 @@ stand_from : (f : FileSoFar) (cs : List Character) → All IsShippable cs → Al
 unfolding with_characters
 stand_from f [] shippable stand = stand
 stand_from f (c ∷ cs) shippable stand =
-    grind (arith, ints, All-tail, one_stands, All-head, all_before, stand_from (with_character f c) cs (All-tail IsShippable c cs shippable) (one_stands f c (All-head IsShippable c cs shippable), all_before f.bytes (spell_after f c) f.shipped stand))
+    stand_from (with_character f c) cs (All-tail IsShippable c cs shippable)
+    (one_stands f c (All-head IsShippable c cs shippable), all_before f.bytes (spell_after f c) f.shipped stand)
 
 pub all_stand : (comment : List ℕ) (cs : List Character) → All IsShippable cs → AllStand (bytes_so_far comment cs) (shipments comment cs)
 all_stand comment cs shippable = stand_from _ cs shippable tt

@@ -32,7 +32,8 @@ pub all_fit : (c : Character) (cs : List Character) → All IsShippable (c ∷ c
 unfolding box_of_all
 all_fit c [] each = box_fits c (All-head IsShippable c [] each)
 all_fit c (d ∷ cs) each =
-    omega (arith, ints, join_fits (box_of_character c) (box_of_all (d ∷ cs)) (box_fits c (All-head IsShippable c (d ∷ cs) each)) (all_fit d cs (All-tail IsShippable c (d ∷ cs) each)), box_fits c (All-head IsShippable c (d ∷ cs) each), All-head IsShippable c (d ∷ cs) each, all_fit d cs (All-tail IsShippable c (d ∷ cs) each), All-tail IsShippable c (d ∷ cs) each, each)
+    join_fits (box_of_character c) (box_of_all (d ∷ cs)) (box_fits c (All-head IsShippable c (d ∷ cs) each))
+    (all_fit d cs (All-tail IsShippable c (d ∷ cs) each))
 
 -- ---- it is the least one around the boxes
 

@@ -71,12 +71,10 @@ IsCoordinate-between (negsuc n) o a p b after before first last =
 
 PlaceStaysInside-between : (s : Stretch) (a p b : ℤ) → a ≤ℤ p → p ≤ℤ b → PlaceStaysInside s a → PlaceStaysInside s b → PlaceStaysInside s p
 PlaceStaysInside-between s a p b after before first last =
-    omega (
-      arith,
-      ints,
-      IsCoordinate-between s.factor s.offset a p b after before first.start last.start,
-      IsCoordinate-between s.factor s.offset (a +ℤ pos 1) (p +ℤ pos 1) (b +ℤ pos 1) (omega (arith, ints)) (omega (arith, ints)) first.end last.end,
-    )
+    record {
+      start = IsCoordinate-between s.factor s.offset a p b after before first.start last.start;
+      end = IsCoordinate-between s.factor s.offset (a +ℤ pos 1) (p +ℤ pos 1) (b +ℤ pos 1) (omega (arith, ints)) (omega (arith, ints)) first.end last.end;
+    }
 
 -- what holds for the column, or row, of each dot holds for a side of the least box
 at_side : (P : ℤ → Type 0) (f : Dot → ℤ) (ds : List Dot) (side : ℤ) → All (λ d. P (f d)) ds → Any (λ d. f d ≡ side) ds → P side

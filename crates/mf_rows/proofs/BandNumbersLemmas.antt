@@ -47,13 +47,8 @@ pub at_least : (low high : ℤ) (bs : List (Arc Band Global)) → RiseWithin low
     → All (λ b. low ≤ℤ number_of b) bs
 at_least low high [] rise = All-nil (λ b. low ≤ℤ number_of b)
 at_least low high (b ∷ bs) rise =
-    grind (
-      arith,
-      ints,
-      All-cons,
-      rise-wider,
-      at_least low high bs (rise-wider (number_of b +ℤ pos 1) high low high (numbers_of bs) (omega (arith, ints, rise.0)) (omega (arith, ints)) rise.1),
-    )
+    All-cons (λ c. low ≤ℤ number_of c) b bs rise.0
+    (at_least low high bs (rise-wider (number_of b +ℤ pos 1) high low high (numbers_of bs) (omega (arith, ints, rise.0)) (omega (arith, ints)) rise.1))
 
 -- so all after the first are greater
 greater_after : (n high : ℤ) (bs : List (Arc Band Global)) → RiseWithin (n +ℤ pos 1) high (numbers_of bs)

@@ -28,14 +28,11 @@ All-front P (r ∷ rs) ss all = All-cons P r rs (All-head P r (rs ++ ss) all) (A
 pub weight_between : (above rs below : List EdgeRow) (x y : ℤ) → AreAbove y above → AreBelow y below
     → weight_in_rows (above ++ (rs ++ below)) x y ≡ weight_in_rows rs x y
 weight_between above rs below x y higher lower =
-    omega (
-      arith,
-      ints,
-      weight_in_rows-append above (rs ++ below) x y,
-      weight_in_rows-append rs below x y,
-      weight_in_rows-above above x y higher,
-      weight_in_rows-below below x y lower,
-    )
+    let all = weight_in_rows-append above (rs ++ below) x y in
+    let others = weight_in_rows-append rs below x y in
+    let none_above = weight_in_rows-above above x y higher in
+    let none_below = weight_in_rows-below below x y lower in
+    omega (arith, ints)
 
 -- the first row that is not above row y is row y, or there is no row y
 row_here : (y : ℤ) (above : List EdgeRow) (r : EdgeRow) (below : List EdgeRow) → AreRows (above ++ r ∷ below)
@@ -46,14 +43,11 @@ row_here y above r below lawful higher here =
     record {
       edges = from_here.0.edges;
       weights = λ x.
-          omega (
-            arith,
-            ints,
-            weight_in_rows-append above (r ∷ below) x y,
-            weight_in_rows-above above x y higher,
-            weight_in_rows-here r below x y here,
-            weight_in_rows-below below x y lower,
-          );
+          let all = weight_in_rows-append above (r ∷ below) x y in
+          let none_above = weight_in_rows-above above x y higher in
+          let others = weight_in_rows-here r below x y here in
+          let none_below = weight_in_rows-below below x y lower in
+          omega (arith, ints);
     }
 
 no_row_here : (y : ℤ) (above : List EdgeRow) (r : EdgeRow) (below : List EdgeRow) → AreRows (above ++ r ∷ below)

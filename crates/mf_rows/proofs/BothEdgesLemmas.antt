@@ -92,13 +92,9 @@ pub edges_from-both : (low : ℤ) (es fs : List Edge) → AreEdgesFrom low es �
 unfolding edges_of_both
 edges_from-both low [] fs left right = right
 edges_from-both low (e ∷ es) fs left right =
-    grind (
-      arith,
-      ints,
-      edges_from-with,
-      edges_from-lower,
-      edges_from-both low es fs (edges_from-lower low (e.x +ℤ pos 1) es (omega (arith, ints)) left.2) right,
-    )
+    let start : low ≤ℤ e.x = left.1 in
+    edges_from-with low e (edges_of_both es fs) left.0 start
+    (edges_from-both low es fs (edges_from-lower low (e.x +ℤ pos 1) es (omega (arith, ints)) left.2) right)
 
 -- where all edges of the left row are after the first of the right one, that is the first of both
 pub both-right : (f : Edge) (es fs : List Edge) → AreEdgesFrom (f.x +ℤ pos 1) es → edges_of_both es (f ∷ fs) ≡ f ∷ edges_of_both es fs

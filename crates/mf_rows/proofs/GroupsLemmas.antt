@@ -80,13 +80,11 @@ weight_in_place top x y (g ∷ gs) zero groups place =
     (rows_from-below (top -ℤ GROUP_HEIGHT) y (rows_of_groups gs) (rows_of_groups_from (top -ℤ GROUP_HEIGHT) gs groups.1) (omega (arith, ints, place.bottom))) in
     omega (arith, ints)
 weight_in_place top x y (g ∷ gs) (suc i) groups place =
-    grind (
-      arith,
-      ints,
-      weight_in_rows-append,
-      weight_below_group,
-      weight_in_place (top -ℤ GROUP_HEIGHT) x y gs i groups.1 (record { top = omega (arith, ints, place.top); bottom = omega (arith, ints, place.bottom) }),
-    )
+    let all = weight_in_rows-append (rows_at_place g) (rows_of_groups gs) x y in
+    let first = weight_below_group top x y (rows_at_place g) groups.0 (omega (arith, ints, place.top)) in
+    let rest = weight_in_place (top -ℤ GROUP_HEIGHT) x y gs i groups.1
+    (record { top = omega (arith, ints, place.top); bottom = omega (arith, ints, place.bottom) }) in
+    omega (arith, ints)
 
 in_field : (y : ℤ) (i : ℕ) → IsPlaceOfRow y i → IsPlaceFrom last_in_field y i
 in_field y i place = record { top = place.top; bottom = omega (arith, ints, place.bottom) }

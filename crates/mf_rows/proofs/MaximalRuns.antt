@@ -7,7 +7,7 @@ use Rattle.std.proofs.lemmas.List.Elements.{All-head, All-tail, All-cons, All-ni
 use Rattle.mf_rows.specs.declared.run.Run.{Run}
 use Rattle.mf_rows.specs.Dots.{Dot, IsPicture, place, start_of_field, weight_at}
 use Rattle.mf_rows.specs.Order.{AreRunsFrom}
-use Rattle.mf_rows.specs.Runs.{equal_dots, dots_of, run_from, with_dot, runs_of, AreMaximal, IsFollowedBy, IsMaximalRun}
+use Rattle.mf_rows.specs.Runs.{equal_dots, dots_of, continues, run_from, with_dot, runs_of, AreMaximal, IsFollowedBy, IsMaximalRun}
 use Rattle.mf_rows.proofs.RunsLemmas.{continued, dots_of-runs_of, maximal_runs_of}
 use Rattle.mf_rows.proofs.DotsLemmas.{weight_at-before}
 use Rattle.mf_rows.proofs.PassedRuns.{ordered_runs_of}
@@ -32,14 +32,11 @@ unfolding runs_of equal_dots run_from with_dot
 runs_of-equal_dots y x w zero ds some maximal = absurd (omega arith)
 runs_of-equal_dots y x w (suc zero) ds some maximal = with_dot-alone (record { y = y; x = x; weight = w }) (runs_of ds) maximal
 runs_of-equal_dots y x w (suc (suc n)) ds some maximal =
-    grind (
-      arith,
-      ints,
-      maximal-shifted,
-      cond-true,
-      continued,
-      runs_of-equal_dots y (x +ℤ pos 1) w (suc n) ds (omega arith) (maximal-shifted y x w n (runs_of ds) maximal),
-    )
+    let first : Dot = record { y = y; x = x; weight = w } in
+    let others : Run = record { y = y; x = x +ℤ pos 1; len = suc n; weight = w } in
+    ap (with_dot first) (runs_of-equal_dots y (x +ℤ pos 1) w (suc n) ds (omega arith) (maximal-shifted y x w n (runs_of ds) maximal))
+    ∙ cond-true (continues first others) (run_from first (suc n) ∷ runs_of ds) (run_from first 0 ∷ others ∷ runs_of ds)
+    ((continued first others).1 (record { row = refl; column = refl; weight = refl }))
 
 pub maximal-tail : (r : Run) (rs : List Run) → AreMaximal (r ∷ rs) → AreMaximal rs
 maximal-tail r [] maximal = tt

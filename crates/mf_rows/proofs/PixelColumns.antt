@@ -74,13 +74,9 @@ module _ {es before : List Edge} {e : Edge} {after : List Edge} {w : ℤ} (cut :
 
   weight_before : (x : ℤ) → EndAt x before → x <ℤ e.x → weight_in es x ≡ w
   weight_before x left lt =
-      omega (
-        arith,
-        ints,
-        weight_in-constant before x greatest_coordinate left (omega (arith, ints, among.edge.right)),
-        weight_in-none e.x (e ∷ after) x (among.edge, omega (arith, ints), among.others) (omega (arith, ints)),
-        parts x,
-      )
+      let same = weight_in-constant before x greatest_coordinate left (omega (arith, ints, among.edge.right)) in
+      let none = weight_in-none e.x (e ∷ after) x (among.edge, omega (arith, ints), among.others) (omega (arith, ints)) in
+      omega (arith, ints, parts x, cut.weight)
 
   weight_after : (x : ℤ) → e.x ≤ℤ x → BeginFrom (x +ℤ pos 1) after → weight_in es x ≡ w +ℤ e.weight
   weight_after x le from =

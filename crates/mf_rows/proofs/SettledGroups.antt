@@ -30,13 +30,9 @@ weight_set [] i g x y inside = absurd (omega arith)
 weight_set (h ∷ gs) zero g x y inside =
     omega (arith, ints, weight_in_rows-append (rows_at_place h) (rows_of_groups gs) x y, weight_in_rows-append (rows_at_place g) (rows_of_groups gs) x y)
 weight_set (h ∷ gs) (suc i) g x y inside =
-    omega (
-      arith,
-      ints,
-      weight_in_rows-append (rows_at_place h) (rows_of_groups gs) x y,
-      weight_in_rows-append (rows_at_place h) (rows_of_groups (set gs i g)) x y,
-      weight_set gs i g x y (omega arith),
-    )
+    let old = weight_in_rows-append (rows_at_place h) (rows_of_groups gs) x y in
+    let new = weight_in_rows-append (rows_at_place h) (rows_of_groups (set gs i g)) x y in
+    omega (arith, ints, old, new, weight_set gs i g x y (omega arith))
 
 groups_from-set : (top : ℤ) (gs : Groups) (i : ℕ) (g : Option (Arc Group Global)) → AreGroupsFrom top gs → AreGroupRows (top_of top i) (rows_at_place g)
     → AreGroupsFrom top (set gs i g)

@@ -190,13 +190,9 @@ rows_of-dots : (f : ℤ → ℤ → ℤ) (y : ℤ) (n : ℕ) → (least_coordina
 unfolding rows_of
 rows_of-dots f y zero bottom top = All-nil (IsDotOf f)
 rows_of-dots f y (suc n) bottom top =
-    omega (
-      arith,
-      ints,
-      All-append (IsDotOf f) (row_of f y least_coordinate field_size) (rows_of f (y -ℤ pos 1) n) (row_of-dots f y least_coordinate field_size (record { left = omega (arith, ints); right = omega (arith, ints); bottom = omega (arith, ints); top = top })) (rows_of-dots f (y -ℤ pos 1) n (omega (arith, ints)) (omega (arith, ints))),
-      row_of-dots f y least_coordinate field_size (record { left = omega (arith, ints); right = omega (arith, ints); bottom = omega (arith, ints); top = top }),
-      rows_of-dots f (y -ℤ pos 1) n (omega (arith, ints)) (omega (arith, ints)),
-    )
+    All-append (IsDotOf f) (row_of f y least_coordinate field_size) (rows_of f (y -ℤ pos 1) n)
+    (row_of-dots f y least_coordinate field_size (record { left = omega (arith, ints); right = omega (arith, ints); bottom = omega (arith, ints); top = top }))
+    (rows_of-dots f (y -ℤ pos 1) n (omega (arith, ints)) (omega (arith, ints)))
 
 pub picture_of-dots : (f : ℤ → ℤ → ℤ) → All (IsDotOf f) (picture_of f)
 unfolding picture_of

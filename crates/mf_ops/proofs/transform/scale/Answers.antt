@@ -45,7 +45,9 @@ never_out : (c : After-pixels_stay_inside) → IsTrue c.pixels_stay_inside.resul
 never_out c inside = let stays : IsForWeights c.args.picture.now (Scale c.args.scale) = grind (arith, factor_passed, stays_in_field-scale) in not_out _ _ stays
 
 pub returns-in_err-reflected-clause-out_of_field : goal.returns-in_err-reflected-clause-out_of_field
-returns-in_err-reflected-clause-out_of_field c = let never = never_out (goal.at.returns-in_err-reflected-clause-out_of_field c).After-pixels_stay_inside in grind arith
+returns-in_err-reflected-clause-out_of_field c =
+    let never = never_out (goal.at.returns-in_err-reflected-clause-out_of_field c).After-pixels_stay_inside in grind arith
 
 pub returns-in_err-stretch-clause-out_of_field : goal.returns-in_err-stretch-clause-out_of_field
-returns-in_err-stretch-clause-out_of_field c = let never = never_out (goal.at.returns-in_err-stretch-clause-out_of_field c).After-pixels_stay_inside in grind arith
+returns-in_err-stretch-clause-out_of_field c =
+    let never = never_out (goal.at.returns-in_err-stretch-clause-out_of_field c).After-pixels_stay_inside in grind arith

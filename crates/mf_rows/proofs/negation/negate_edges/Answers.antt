@@ -8,12 +8,8 @@ use Rattle.mf_rows.proofs.negation.negate_edges.Goals as goal
 
 pub overflow_sub-edge : goal.overflow_sub-edge
 overflow_sub-edge c =
-    omega (
-      arith,
-      ints,
-      are_changes c.args.edges.now c.requires c.loop-edge.edge-index (record { x = pos 0; weight = pos 0 }) c.loop-edge-test.true,
-      c.loop-edge-test.true,
-    )
+    let change = are_changes c.args.edges.now c.requires c.loop-edge.edge-index (record { x = pos 0; weight = pos 0 }) c.loop-edge-test.true in
+    omega (arith, ints, change.least, change.greatest)
 
 pub loop-edge-preserved : goal.loop-edge-preserved
 loop-edge-preserved c =

@@ -45,9 +45,5 @@ returns-clause-range c = grind (arith)
 
 pub returns-clause-within : goal.returns-clause-within
 returns-clause-within c =
-    omega (
-      arith,
-      within_all c.loop-head.first c.loop-head.last c.max.result (omega (arith, c.max.ensures)) c.args.rows.heads.now c.loop-head.head-index c.loop-head-test.false c.loop-head.invariant.within,
-      c.loop-head-test.false,
-      c.loop-head.invariant.within,
-    )
+    within_all c.loop-head.first c.loop-head.last c.max.result (omega (arith, c.max.ensures))
+    c.args.rows.heads.now c.loop-head.head-index c.loop-head-test.false c.loop-head.invariant.within
