@@ -1,7 +1,6 @@
 -- An SVG image, read back.
-use Rattle.std.proofs.Common.{◌≡◌, length, ℕ, zero, suc, true, false, ℤ, pos, ◌+ℤ◌, ◌≤ℤ◌, List, [], ◌∷◌, ◌++◌, codes}
+use Rattle.std.proofs.Common.{◌≡◌, length, ℕ, zero, suc, true, ℤ, pos, ◌+ℤ◌, ◌≤ℤ◌, List, [], ◌∷◌, ◌++◌, codes}
 use Rattle.std.proofs.Common.{refl, sym, ap, ◌∙◌, subst, append_assoc, arith}
-use Rattle.std.specs.Fmt.{signed_decimal}
 use Rattle.std.specs.List.{All, flat_map}
 use Rattle.std.specs.Ordering.{int_eq}
 use Rattle.std.proofs.lemmas.Bool.{cond_both}
@@ -20,11 +19,11 @@ use Rattle.mf_show.specs.Grid.{extent}
 use Rattle.mf_rows.proofs.BoxesOfDots.{least_box_of_dots, least_box_of_field}
 use Rattle.mf_image.specs.declared.svg_image.ViewBox.{ViewBox}
 use Rattle.mf_image.specs.Boxes.{image_box}
-use Rattle.mf_image.specs.Reading.{rest_after, number, dots_in, read_svg}
+use Rattle.mf_image.specs.Reading.{rest_after, dots_in, read_svg}
 use Rattle.mf_image.specs.Svg.{IsSmall, IsSmallBox, axes, color, cover, greatest_weight_of, image, least_weight_of, opening}
 use Rattle.mf_image.specs.Svg.{path_of_weight, paths, paths_from, rectangle, rectangle_of, svg_text, view_box_of, weights_of}
 use Rattle.mf_image.proofs.ImageBoxes.{box_of_blank, small_box}
-use Rattle.mf_image.proofs.ReadTexts.{IsEnd, IsPassed, axes_read, cover_read, end_after, number_passed, number_read, opening_read, rectangle_read}
+use Rattle.mf_image.proofs.ReadTexts.{IsPassed, axes_read, cover_read, end_after, number_passed, number_read, opening_read, rectangle_read}
 use Rattle.mf_image.proofs.ReadWeights.{dots_with, dots_with-append, dots_with-other, dots_with-same, found, gathered, weight_of_runs}
 
 -- ---- the rectangles of a path
@@ -67,21 +66,7 @@ unfolding dots_in rest_after
 path_read w v [] dots rest later small drawn others =
     let none : dots ≡ [] = sym (append-nil dots) ∙ sym (drawn []) in
     others v ∙ ap (λ ds. ds ++ later) (sym none)
-path_read w v (b ∷ bs) dots rest later small drawn others =
-    let weight = small b bs refl in
-    let t1 = codes "\" d=\"\n" in
-    let t2 = color w ++ t1 in
-    let t3 = codes "\" fill=\"" ++ t2 in
-    let e1 : IsEnd w t1 = λ rest. refl in
-    let e2 : IsEnd w t2 = end_after w (color w) t1 (color_passed w w) e1 in
-    let e3 : IsEnd w t3 = end_after w (codes "\" fill=\"") t2 (λ rest. refl) e2 in
-    let e4 : IsEnd w (signed_decimal w ++ t3) = end_after w (signed_decimal w) t3 (number_passed w w weight) e3 in
-    let body = (b ∷ bs) ++ (codes "\"/>\n" ++ rest) in
-    let line = (signed_decimal w ++ t3) ++ body in
-    let text : path_of_weight w (b ∷ bs) ++ rest ≡ codes "<path id=\"weight" ++ line = simp append_assoc in
-    let named : number line ≡ w =
-    ap number (append_assoc (signed_decimal w) t3 body) ∙ number_read w _ _ weight refl in
-    ap (dots_in true v) text ∙ ap (λ u. dots_in false u line) named ∙ e4 body ∙ drawn (codes "\"/>\n" ++ rest) ∙ ap (λ ds. dots ++ ds) (others w)
+path_read w v (b ∷ bs) dots rest later small drawn others = grind (arith, ints, end_after, color_passed, number_passed, append_assoc, number_read)
 
 -- the paths of n weights from w on draw the dots of these weights
 paths_read : (rs : List Run) (w : ℤ) (n : ℕ) (v : ℤ) (rest : List ℕ) → All IsRun rs → ((u : ℤ) → dots_in true u rest ≡ [])

@@ -6,11 +6,10 @@ use Rattle.mf_show.proofs.GridTexts.{neither}
 use Rattle.mf_image.specs.Boxes.{greatest_side}
 use Rattle.mf_image.proofs.ImageBoxes.{blank_is_small, box_of_blank, box_of_picture}
 use Rattle.mf_image.proofs.bounds.image_box.Goals as goal
+use Rattle.std.proofs.Common.{arith}
 
 pub returns-in_default : goal.returns-in_default
-returns-in_default c =
-    let blank = c.bounds.ensures.blank.0 (rw c.in_default.is refl) in
-    record { bounds = box_of_blank _ blank; too_large = neither (blank_is_small _ blank) (λ same. cc same) }
+returns-in_default c = grind (arith, box_of_blank, neither, blank_is_small)
 
 pub is_larger_than-requires : goal.is_larger_than-requires
 is_larger_than-requires c = least_box_of_field _ _ c.bounds.ensures.lawful c.in-Some.ensures.least
