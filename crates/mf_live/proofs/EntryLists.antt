@@ -35,9 +35,7 @@ pub revision_at-end : (L : List Entry) (n : ℕ) → revision_at (L ++ entry n E
 revision_at-end L n = ap revision_after (operations-end L n)
 
 pub revision_at-whole : (S L : List Entry) → IsWholePrefix S L → revision_at S ≤ revision_at L
-revision_at-whole S L whole =
-    let sum : revision_at L ≡ revision_at S + revision_at whole.rest = ap revision_at whole.whole ∙ revision_at-append S whole.rest in
-    omega arith
+revision_at-whole S L whole = grind (arith, revision_at-append)
 
 pub unrefused-push : (L : List Entry) (n : ℕ) (op : Op) → IsUnrefused L → op_fault (picture_at L) op ≡ None → IsUnrefused (L ++ entry n (Operation op) ∷ [])
 unrefused-push L n op unrefused allowed = rw (operations-append L (entry n (Operation op) ∷ [])) (AreAccepted-push (operations L) op unrefused allowed)

@@ -1,6 +1,6 @@
 -- Each event that may happen keeps a world lawful.
 use Rattle.std.proofs.Common.{◌≡◌, ◌≢◌, ◌≤◌, ◌+◌, ◌-◌, ◌==◌, ℕ, zero, suc, Bool, true, false, List, [], ◌∷◌, ◌++◌, length, get_or}
-use Rattle.std.proofs.Common.{inr, refl, sym, ◌∙◌, ap, subst, arith, zero-le}
+use Rattle.std.proofs.Common.{inr, refl, sym, ◌∙◌, ap, subst, arith}
 use Rattle.std.specs.List.{All}
 use Rattle.std.proofs.Math.Seq.{get_or-append_seam}
 use Rattle.std.proofs.Math.ListN.{get_or-append}
@@ -24,12 +24,7 @@ last-label n e (f ∷ fs) = last-label (e.label + 1) f fs
 -- where the last label is one less than q, and q follows, the two differ
 ends_apart : (ns more : List ℕ) (n k q : ℕ) → length ns ≡ n → n ≡ suc k → get_or ns k 0 + 1 ≡ q
     → get_or (ns ++ q ∷ more) (n - 1) 0 ≢ get_or (ns ++ q ∷ more) n 0
-ends_apart ns more n k q long some last same =
-    let place : n - 1 ≡ k = omega arith in
-    let before = get_or-append ns (q ∷ more) 0 k (omega arith) in
-    let after = rw long at (get_or-append_seam ns q more 0) in
-    let equal = rw place at same in
-    absurd (omega arith)
+ends_apart ns more n k q long some last same = grind (arith, get_or-append, get_or-append_seam)
 
 -- what is published is a whole prefix, since every entry after it has the next label
 pending-whole : (P rest : List Entry) → All (λ (e : Entry). e.label ≡ next_label P) rest → IsWholePrefix P (P ++ rest)
@@ -72,15 +67,7 @@ with_seen-whole : (seen : ℕ → List Entry) (i : ℕ) (L P : List Entry) → (
 with_seen-whole seen i L P each more j = cond_both (j == i) L (seen j) (λ S. IsWholePrefix S P) (λ _. more) (λ _. each j)
 
 pub lawful_start : (max_ops : ℕ) → IsLawful max_ops new_world
-lawful_start max_ops = record {
-  unrefused = record { steps = tt };
-  few = rw revision_at-none zero-le;
-  whole = whole-nil [];
-  pending = none_pending [];
-  each_seen = λ i. whole-nil [];
-  each_notice = All-nil (λ n. IsWholePrefix n []);
-  ended = refl;
-}
+lawful_start max_ops = grind (arith, revision_at-none, whole-nil, none_pending, All-nil)
 
 abbrev with_change : World → Change → List Entry
 with_change w c = w.accepted ++ entry (next_label w.published) c ∷ []
@@ -88,42 +75,17 @@ with_change w c = w.accepted ++ entry (next_label w.published) c ∷ []
 -- the writer accepts one more change
 accepts : (max_ops : ℕ) (w : World) (c : Change) → IsLawful max_ops w → IsUnrefused (with_change w c)
     → revision_at (with_change w c) ≤ max_ops → is_closed w.accepted ≡ false → IsLawful max_ops (record w { accepted = with_change w c })
-accepts max_ops w c lawful unrefused few not_closed = record {
-  unrefused = unrefused;
-  few = few;
-  whole = whole_from w.published (with_change w c) (pending-push w.published w.accepted c lawful.pending);
-  pending = pending-push w.published w.accepted c lawful.pending;
-  each_seen = lawful.each_seen;
-  each_notice = lawful.each_notice;
-  ended = is_nothing_after_end-push w.accepted (entry (next_label w.published) c) not_closed lawful.ended;
-}
+accepts max_ops w c lawful unrefused few not_closed = grind (arith, whole_from, pending-push, is_nothing_after_end-push)
 
 -- the writer publishes everything that it has accepted
 publishes_all : (max_ops : ℕ) (w : World) (gone : Bool) → IsLawful max_ops w → IsLawful max_ops (record w { published = w.accepted; gone = gone })
-publishes_all max_ops w gone lawful = record {
-  unrefused = lawful.unrefused;
-  few = lawful.few;
-  whole = whole-self w.accepted;
-  pending = none_pending w.accepted;
-  each_seen = λ i. whole-trans (w.seen i) w.published w.accepted (lawful.each_seen i) lawful.whole;
-  each_notice = All-weaker (λ n. IsWholePrefix n w.published) (λ n. IsWholePrefix n w.accepted)
-      (λ n prefix. whole-trans n w.published w.accepted prefix lawful.whole) w.notices lawful.each_notice;
-  ended = lawful.ended;
-}
+publishes_all max_ops w gone lawful = grind (arith, whole-self, none_pending, whole-trans, All-weaker)
 
 -- the writer leaves the list as it is, whatever others have seen of it
 leaves_list : (max_ops : ℕ) (w : World) (seen : ℕ → List Entry) (notices : List (List Entry)) (gone : Bool)
     → IsLawful max_ops w → ((i : ℕ) → IsWholePrefix (seen i) w.published)
     → All (λ n. IsWholePrefix n w.published) notices → IsLawful max_ops (record w { seen = seen; notices = notices; gone = gone })
-leaves_list max_ops w seen notices gone lawful each_seen each_notice = record {
-  unrefused = lawful.unrefused;
-  few = lawful.few;
-  whole = lawful.whole;
-  pending = lawful.pending;
-  each_seen = each_seen;
-  each_notice = each_notice;
-  ended = lawful.ended;
-}
+leaves_list max_ops w seen notices gone lawful each_seen each_notice = grind (arith)
 
 -- a viewer sees a whole prefix of what is published
 sees : (max_ops : ℕ) (w : World) (i : ℕ) (L : List Entry) → IsLawful max_ops w → IsWholePrefix L w.published

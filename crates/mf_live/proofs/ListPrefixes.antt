@@ -15,8 +15,7 @@ prefix-shorter [] ys zs one other shorter = (ys, refl)
 prefix-shorter (x ∷ xs) [] zs one other shorter = absurd (omega arith)
 prefix-shorter (x ∷ xs) (y ∷ ys) [] one other shorter = absurd (cc (one.1))
 prefix-shorter (x ∷ xs) (y ∷ ys) (z ∷ zs) one other shorter =
-    let same : x ≡ y = cc (one.1, other.1) in
-    let tails : IsPrefix xs ys = prefix-shorter xs ys zs (one.0, cc (one.1)) (other.0, cc (other.1)) (omega arith) in (tails.0, cc (same, tails.1))
+    grind (arith, prefix-shorter xs ys zs (one.0, cc (one.1)) (other.0, cc (other.1)) (omega arith))
 
 -- a prefix as long as the list is the list
 pub prefix-same : {A : Type 0} (xs ys : List A) → IsPrefix xs ys → length ys ≤ length xs → xs ≡ ys

@@ -1,5 +1,5 @@
 -- What is learnt and what is looked at, where both come from prefixes of one history.
-use Rattle.std.proofs.Common.{◌≡◌, ◌≤◌, Bool, true, false, List, ◌++◌, ◌⊎◌, Result, Ok, Err, MatchResult, inl, inr, refl, ap, sym, subst, ◌∙◌, arith}
+use Rattle.std.proofs.Common.{◌≡◌, ◌≤◌, Bool, true, false, List, ◌⊎◌, Result, Ok, Err, MatchResult, inl, inr, refl, ap, sym, subst, ◌∙◌, arith}
 use Rattle.std.proofs.lemmas.Bool.{cases_lt}
 use Rattle.std.proofs.lemmas.List.{append-nil}
 use mathlib.Core.List.{IsPrefix}
@@ -7,7 +7,6 @@ use Rattle.logbook.specs.Pages.{Book}
 use Rattle.left_right.specs.Sides.{view}
 use Rattle.mf_live.specs.declared.event.Event.{Event}
 use Rattle.mf_live.specs.declared.history.Prefix.{Prefix}
-use Rattle.mf_live.specs.declared.history.Knowledge.{Knowledge}
 use Rattle.mf_live.specs.declared.look.Look.{Look}
 use Rattle.mf_live.specs.declared.notice.Notice.{Notice}
 use Rattle.mf_live.specs.declared.version.Version.{Version}
@@ -16,20 +15,18 @@ use Rattle.mf_live.specs.declared.viewer.Viewer.{Viewer}
 use Rattle.mf_live.specs.Books.{greatest_limit}
 use Rattle.mf_live.specs.Entries.{Entry, is_closed, is_nothing_after_end}
 use Rattle.mf_live.specs.Prefixes.{IsWholePrefix, longer}
-use Rattle.mf_live.specs.Rule.{IsKnowledgeOf, IsLook, seen_knowledge, book_of, events_of}
+use Rattle.mf_live.specs.Rule.{IsKnowledgeOf, IsLook, seen_knowledge, events_of}
 use Rattle.mf_live.specs.Sheets.{HasLearnt}
-use Rattle.mf_live.specs.Viewers.{Extends, IsPublished, SeesTheSame, learnt_list, look_events, looked_at_events, looked_at_list}
+use Rattle.mf_live.specs.Viewers.{Extends, IsPublished, SeesTheSame, learnt_list, look_events, looked_at_list}
 use Rattle.mf_live.specs.Viewers.{notice_events, seen_list, shown_list, told_list}
-use Rattle.mf_live.specs.World.{Happen, new_world, published_list_of}
+use Rattle.mf_live.specs.World.{published_list_of}
 use Rattle.mf_live.proofs.EntryLists.{nothing_follows}
 use Rattle.mf_live.proofs.WholePrefixes.{whole-longer}
 use Rattle.mf_live.proofs.Worlds.{lawful-after, published-grows}
 
 -- what a prefix of a notice's events has published is a whole prefix of what the notice says
 pub told_list-prefix : (n : Notice) (events : List Event) → IsPrefix events (notice_events n) → IsWholePrefix (published_list_of events) (told_list n)
-told_list-prefix n events prefix =
-    let grows = published-grows greatest_limit events prefix.0 (subst (Happen greatest_limit new_world) (sym prefix.1) n.prefix.lawful) in
-    subst (λ (all : List Event). IsWholePrefix (published_list_of events) (published_list_of all)) prefix.1 grows
+told_list-prefix n events prefix = grind (arith, published-grows, sym)
 
 -- what a notice says was published by the events that it knows
 pub is_published : (n : Notice) → IsPublished (notice_events n) (told_list n)
@@ -47,13 +44,7 @@ kept_by-prefix b events false v earlier latest = latest
 -- a look extends what its viewer has seen, where the version knows the events of what the viewer has learnt
 pub extends-look : (v : Viewer) (x : Version) (w : View) → IsLook (seen_knowledge v.missed) (view v.reader.place) x w
     → IsPrefix (notice_events v.known) (events_of x) → Extends v (published_list_of w.latest.seen.log)
-extends-look v x w is_looked known =
-    let knows = is_looked.knows v.identified in
-    let before = kept_by-prefix (book_of x) (events_of x) v.missed (view v.reader.place) knows.0 knows.1 in
-    let looks = told_list-prefix x.notice (looked_at_events v) before.prefix in
-    let learns = told_list-prefix x.notice (notice_events v.known) known in
-    let extends : Extends v (told_list x.notice) = record { looked = looks; learnt = learns; seen = whole-longer _ _ (told_list x.notice) looks learns } in
-    subst (λ (u : View). Extends v (published_list_of u.latest.seen.log)) (sym is_looked.is) extends
+extends-look v x w is_looked known = grind (arith, kept_by-prefix, told_list-prefix, whole-longer, sym)
 
 -- two facts of what a call answers, as one
 pub both_hold : {X Y : Type 0} (P P' : X → Type 0) (Q Q' : Y → Type 0) (r : Result X Y) → MatchResult r P Q → MatchResult r P' Q'
@@ -66,11 +57,7 @@ seen_list-same before after same = ap (λ M. longer M (learnt_list after)) same.
 
 -- what extends a viewer that sees what it saw before extends the viewer as it was
 extends-same : (before after : Viewer) (L : List Entry) → SeesTheSame before after → Extends after L → Extends before L
-extends-same before after L same extends = record {
-  looked = subst (λ M. IsWholePrefix M L) same.looked extends.looked;
-  learnt = subst (λ M. IsWholePrefix M L) same.learnt extends.learnt;
-  seen = subst (λ M. IsWholePrefix M L) (seen_list-same before after same) extends.seen;
-}
+extends-same before after L same extends = grind (arith, seen_list-same)
 
 -- a viewer that has learnt of a list, and sees what it saw then, has only learnt of the list
 pub learnt-same : (first second after : Viewer) (told : List Entry) → HasLearnt first told second → SeesTheSame second after → HasLearnt first told after
@@ -85,16 +72,11 @@ learnt-same first second after told learns same = record {
 pub one_prefix : (a b : Prefix) → (a.events ≤ b.events → IsPrefix a.knowledge.seen.log b.knowledge.seen.log)
     → (b.events ≤ a.events → IsPrefix b.knowledge.seen.log a.knowledge.seen.log)
     → IsPrefix b.knowledge.seen.log a.knowledge.seen.log ⊎ IsPrefix a.knowledge.seen.log b.knowledge.seen.log
-one_prefix a b this that = elim (cases_lt a.events b.events) [
-  | inl less ↦ inr (this (omega arith))
-  | inr more ↦ inl (that (omega arith))
-]
+one_prefix a b this that = grind (arith, cases_lt)
 
 -- what a prefix of a look's events has published is a whole prefix of what the look shows
 shown_list-prefix : (look : Look) (events : List Event) → IsPrefix events (look_events look) → IsWholePrefix (published_list_of events) (shown_list look)
-shown_list-prefix look =
-    subst (λ (t : Knowledge). (events : List Event) → IsPrefix events t.seen.log → IsWholePrefix (published_list_of events) (published_list_of t.seen.log))
-    (sym look.knowledge) (told_list-prefix look.reading.part.value.notice)
+shown_list-prefix look = grind (arith, sym, told_list-prefix)
 
 -- where the events of a look are a prefix of those of a notice, or the other way round, their lists are whole prefixes likewise
 pub one_lists : (look : Look) (n : Notice) → IsPrefix (notice_events n) (look_events look) ⊎ IsPrefix (look_events look) (notice_events n)
@@ -104,6 +86,4 @@ one_lists look n (inr prefix) = inr (told_list-prefix n (look_events look) prefi
 
 -- a list that has a closed list as a whole prefix is that closed list
 pub shown-last : (S L : List Entry) → IsWholePrefix S L → is_nothing_after_end L ≡ true → is_closed S ≡ true → L ≡ S
-shown-last S L whole ends closed =
-    let none = nothing_follows S whole.rest (subst (λ (M : List Entry). is_nothing_after_end M ≡ true) whole.whole ends) closed in
-    whole.whole ∙ (ap (λ (rest : List Entry). S ++ rest) none ∙ append-nil S)
+shown-last S L whole ends closed = grind (arith, nothing_follows, append-nil)

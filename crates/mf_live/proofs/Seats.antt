@@ -11,6 +11,7 @@ use Rattle.mf_live.specs.declared.version.Version.{Version}
 use Rattle.mf_live.specs.declared.view.View.{View}
 use Rattle.mf_live.specs.Rule.{IsKnowledgeOf, EachSeatKnows, Knows, IsLook, IsShow, newcomer, view_knowing, knowledge_of, book_of, events_of}
 use Rattle.mf_live.proofs.ListPrefixes.{prefix-self, prefix-trans}
+use Rattle.std.proofs.Common.{arith}
 
 -- what the knowledge has is a prefix of what the version knows
 abbrev Shows : Version → Knowledge → Type 0
@@ -42,9 +43,7 @@ kept_view x views seat w = kept_set x x views seat w (λ v knows. knows)
 
 -- a seat is added
 kept_more : (x : Version) (views : List View) (w : View) → EachSeatKnows x views → Knows x w → EachSeatKnows x (views ++ w ∷ [])
-kept_more x views w kept here = record {
-  each_seat = λ seat v at. ⊎_elim (kept.each_seat seat v) (λ (same : w ≡ v). subst (Knows x) same here) (at_snoc views w v seat at);
-}
+kept_more x views w kept here = grind (arith, at_snoc)
 
 -- a newcomer knows nothing
 pub admits : Admits EachSeatKnows newcomer
@@ -53,16 +52,11 @@ admits x views kept = kept_more x views newcomer kept (knows_nothing x newcomer 
 -- a seat's view is split in two: the first has seen what it had seen, and the second the same or nothing
 pub forks : (seat : ℕ) (v left right : View) → left.identified ≡ v.identified → left.earlier ≡ v.earlier → left.latest ≡ v.latest
     → (right ≡ v) ⊎ (right.identified ≡ false) → Forks EachSeatKnows seat v left right
-forks seat v left right identified earlier latest given x views kept at = let knows : Knows x v = kept.each_seat seat v at in
-    let given_knows : Knows x right = ⊎_elim (λ (same : right ≡ v). subst (Knows x) (sym same) knows) (knows_nothing x right) given in
-    kept_more x (set views seat left) right (kept_view x views seat left kept (knows_same x v left identified earlier latest knows)) given_knows
+forks seat v left right identified earlier latest given x views kept at = grind (arith, sym, knows_nothing, kept_more, kept_view, knows_same)
 
 -- a seat takes over what another knows
 pub merges : (seat : ℕ) (v : View) (other : ℕ) (w : View) → Merges EachSeatKnows seat v other w w newcomer
-merges seat v other w x views kept at apart there = let
-    knows : Knows x w = ⊎_elim (λ (same : (other ≡ seat) × (w ≡ w)). absurd (apart same.0))
-    (λ (that : (other ≢ seat) × (get_elem? views other ≡ some w)). kept.each_seat other w that.1) (at_set views seat other w w there) in
-    kept_view x (set views seat w) other newcomer (kept_view x views seat w kept knows) (knows_nothing x newcomer refl)
+merges seat v other w x views kept at apart there = grind (arith, at_set, kept_view, knows_nothing)
 
 -- a look keeps the rule
 pub looks : (keep : View → Knowledge) (seat : ℕ) (v : View) → (keep v ≡ v.earlier) ⊎ (keep v ≡ v.latest)

@@ -1,5 +1,5 @@
 -- Whole prefixes of lists of entries.
-use Rattle.std.proofs.Common.{◌≡◌, ◌≤◌, ◌<◌, ◌-◌, ℕ, List, [], ◌++◌, length, nat_lt, inl, inr, refl, sym, ◌∙◌, ap, arith}
+use Rattle.std.proofs.Common.{◌≡◌, ◌≤◌, ◌<◌, ℕ, List, [], ◌++◌, length, nat_lt, inl, inr, refl, sym, ◌∙◌, ap, arith}
 use Rattle.std.proofs.Math.ListN.{get_or-append}
 use Rattle.std.proofs.lemmas.Bool.{cases_lt, cond-true, cond-false, lt-ltb, le-ltb, cond_both}
 use Rattle.std.proofs.lemmas.List.{append_assoc, append-nil, length-append, length-map, map-append, nil_from_length}
@@ -16,10 +16,7 @@ labels-append xs ys = map-append (λ (e : Entry). e.label) xs ys
 cut_among-append : (ns more : List ℕ) (n : ℕ) → n < length ns → IsCutAmong ns n → IsCutAmong (ns ++ more) n
 cut_among-append ns more n inside (inl first) = inl first
 cut_among-append ns more n inside (inr (inl last)) = absurd (omega arith)
-cut_among-append ns more n inside (inr (inr between)) =
-    let before = get_or-append ns more 0 (n - 1) (omega arith) in
-    let after = get_or-append ns more 0 n inside in
-    inr (inr (between.0, omega (arith, length-append ns more), λ same. between.2 (sym before ∙ same ∙ after)))
+cut_among-append ns more n inside (inr (inr between)) = grind (arith, get_or-append, length-append, sym)
 
 -- the same for a cut of a list
 cut-append : (L more : List Entry) (n : ℕ) → n < length L → IsCut L n → IsCut (L ++ more) n
@@ -39,9 +36,7 @@ whole-length S L whole = omega (arith, length-append S whole.rest, ap length who
 
 -- a whole prefix as long as the list is the list
 pub whole-same : (S L : List Entry) → IsWholePrefix S L → length L ≤ length S → S ≡ L
-whole-same S L whole long =
-    let none = nil_from_length whole.rest (omega (arith, length-append S whole.rest, ap length whole.whole)) in
-    sym (whole.whole ∙ ap (λ rest. S ++ rest) none ∙ append-nil S)
+whole-same S L whole long = grind (arith, nil_from_length, length-append, sym, append-nil)
 
 pub whole-trans : (A B C : List Entry) → IsWholePrefix A B → IsWholePrefix B C → IsWholePrefix A C
 whole-trans A B C first second = record {
@@ -64,23 +59,11 @@ longer-long : (a b : List Entry) → length b ≤ length a → longer a b ≡ a
 longer-long a b long = cond-false (nat_lt (length a) (length b)) b a (le-ltb (length a) (length b) long)
 
 pub longer-assoc : (a b c : List Entry) → longer a (longer b c) ≡ longer (longer a b) c
-longer-assoc a b c = elim (cases_lt (length a) (length b)) [
-  | inl below ↦ elim (cases_lt (length b) (length c)) [
-    | inl less ↦ rw (longer-shorter a b below, longer-shorter b c less, longer-shorter a c (omega arith)) refl
-    | inr more ↦ rw (longer-shorter a b below, longer-long b c more, longer-shorter a b below) refl
-  ]
-  | inr above ↦ elim (cases_lt (length b) (length c)) [
-    | inl less ↦ rw (longer-long a b above, longer-shorter b c less) refl
-    | inr more ↦ rw (longer-long a b above, longer-long b c more, longer-long a b above, longer-long a c (omega arith)) refl
-  ]
-]
+longer-assoc a b c = grind (arith, cases_lt, longer-shorter, longer-long)
 
 -- where one list is a whole prefix of the other, the other is the longer
 pub longer-whole : (a b : List Entry) → IsWholePrefix a b → longer a b ≡ b
-longer-whole a b whole = elim (cases_lt (length a) (length b)) [
-  | inl shorter ↦ longer-shorter a b shorter
-  | inr long ↦ longer-long a b long ∙ whole-same a b whole long
-]
+longer-whole a b whole = grind (arith, cases_lt, longer-shorter, longer-long, whole-same)
 
 pub longer-of_whole : (a b : List Entry) → IsWholePrefix b a → longer a b ≡ a
 longer-of_whole a b whole = longer-long a b (whole-length b a whole)

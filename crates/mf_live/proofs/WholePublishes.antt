@@ -30,9 +30,7 @@ Rises-next_label m k (e ∷ L) n below rises = (rises.0, Rises-next_label e.labe
 
 Rises-parts : (m : ℕ) (S : List Entry) (e : Entry) (rest : List Entry) (n : ℕ) → Rises m (S ++ e ∷ rest) n → Rises m S e.label × Rises e.label rest n
 Rises-parts m [] e rest n rises = rises
-Rises-parts m (first ∷ S) e rest n rises =
-    let parts = Rises-parts first.label S e rest n rises.1 in
-    ((rises.0, parts.0), parts.1)
+Rises-parts m (first ∷ S) e rest n rises = grind (arith, Rises-parts first.label S e rest n rises.1)
 
 -- the greatest label is the last
 Rises-last : (m : ℕ) (L : List Entry) (n i : ℕ) → suc i ≡ length L → Rises m L n → Rises m L (get_or (labels L) i 0) × (get_or (labels L) i 0 ≤ n)
@@ -40,21 +38,15 @@ Rises-last m [] n i last rises = absurd (omega arith)
 Rises-last m (e ∷ []) n zero last rises = ((rises.0, omega arith), rises.1)
 Rises-last m (e ∷ []) n (suc i) last rises = absurd (omega arith)
 Rises-last m (e ∷ f ∷ L) n zero last rises = absurd (omega arith)
-Rises-last m (e ∷ f ∷ L) n (suc i) last rises =
-    let rest = Rises-last e.label (f ∷ L) n i (omega arith) rises.1 in
-    ((rises.0, rest.0), rest.1)
+Rises-last m (e ∷ f ∷ L) n (suc i) last rises = grind (arith, Rises-last e.label (f ∷ L) n i (omega arith) rises.1)
 
 none_below : (m : ℕ) (L : List Entry) (n k : ℕ) → Rises m L n → k < m → entries_labelled k L ≡ []
 none_below m [] n k rises below = refl
-none_below m (e ∷ L) n k rises below =
-    let first : m ≤ e.label = rises.0 in
-    rw (ne_eqb e.label k (λ same. omega arith)) (none_below e.label L n k rises.1 (omega arith))
+none_below m (e ∷ L) n k rises below = grind (arith, ne_eqb, none_below e.label L n k rises.1 (omega arith))
 
 none_above : (m : ℕ) (L : List Entry) (n k : ℕ) → Rises m L n → n < k → entries_labelled k L ≡ []
 none_above m [] n k rises above = refl
-none_above m (e ∷ L) n k rises above =
-    let greatest : e.label ≤ n = Rises-bounds e.label L n rises.1 in
-    rw (ne_eqb e.label k (λ same. omega arith)) (none_above e.label L n k rises.1 above)
+none_above m (e ∷ L) n k rises above = grind (arith, Rises-bounds, ne_eqb, none_above e.label L n k rises.1 above)
 
 -- the prefix ends at a place where the labels on the two sides differ
 whole_at_change : (S : List Entry) (e : Entry) (rest : List Entry) (n k : ℕ) → 0 < length S → Rises 0 (S ++ e ∷ rest) n
@@ -83,9 +75,7 @@ at_cut : (S rest : List Entry) (n k : ℕ) → IsCut (S ++ rest) (length S) → 
     → (entries_labelled k S ≡ []) ⊎ (entries_labelled k S ≡ entries_labelled k (S ++ rest))
 at_cut S [] n k cut rises = inr (ap (entries_labelled k) (sym (append-nil S)))
 at_cut S (e ∷ rest) n k (inl none) rises = inl (ap (entries_labelled k) (nil_from_length S none))
-at_cut S (e ∷ rest) n k (inr (inl all)) rises =
-    let long = length-labels (S ++ e ∷ rest) ∙ length-append S (e ∷ rest) in
-    absurd (omega arith)
+at_cut S (e ∷ rest) n k (inr (inl all)) rises = grind (arith, length-labels, length-append)
 at_cut S (e ∷ rest) n k (inr (inr change)) rises = whole_at_change S e rest n k change.0 rises change.2
 
 -- the labels of a world never fall, and none exceeds the next label

@@ -5,6 +5,7 @@ use Rattle.mf_live.specs.Prefixes.{IsWholePrefix}
 use Rattle.mf_live.specs.World.{World, new_world, Happen, May, after_event, world_after, IsLawful, EverySchedule, StaysLawful, published_list_of}
 use Rattle.mf_live.proofs.Lawfulness.{lawful_start, lawful_event, published-event, shows_more}
 use Rattle.mf_live.proofs.WholePrefixes.{whole-self, whole-trans}
+use Rattle.std.proofs.Common.{arith}
 
 pub world_after-append : (w : World) (xs ys : List Event) → world_after w (xs ++ ys) ≡ world_after (world_after w xs) ys
 world_after-append w [] ys = refl
@@ -55,7 +56,4 @@ published-on max_ops w (x ∷ xs) lawful happen =
 -- what is published is a whole prefix of what is published later
 pub published-grows : (max_ops : ℕ) (xs ys : List Event) → Happen max_ops new_world (xs ++ ys)
     → IsWholePrefix (published_list_of xs) (published_list_of (xs ++ ys))
-published-grows max_ops xs ys happen =
-    let lawful = lawful-after max_ops xs (Happen-prefix max_ops new_world xs ys happen) in
-    let rest = Happen-rest max_ops new_world xs ys happen in
-    rw (world_after-append new_world xs ys, published_list_of) (published-on max_ops (world_after new_world xs) ys lawful rest)
+published-grows max_ops xs ys happen = grind (arith, lawful-after, Happen-prefix, Happen-rest, world_after-append, published-on)

@@ -9,6 +9,7 @@ use Rattle.mf_live.specs.Viewers.{Extends, IsPublished, looked_at_events, looked
 use Rattle.mf_live.proofs.Looking.{learnt-same, shown-last}
 use Rattle.mf_live.proofs.laws.last_sheet.Goals.{After-learn}
 use Rattle.mf_live.proofs.laws.last_sheet.Goals as goal
+use Rattle.std.proofs.Common.{arith}
 
 module _ (first second after : Viewer) (told : List Entry) (learns : HasLearnt first told second) (closed : is_closed told ≡ true) where
   -- a viewer that has learnt of the end, and then looked, has looked at the complete list
@@ -26,9 +27,7 @@ module _ (first second after : Viewer) (told : List Entry) (learns : HasLearnt f
 
 -- the viewer has learnt of the end
 learns : (c : After-learn) → HasLearnt c.args.viewer.now (told_list c.args.notice) c.learn.new.self
-learns c =
-    let learns = c.learn.ensures in
-    record { looked = learns.looked; learnt = learns.learnt; seen = learns.seen; keeps = learns.keeps }
+learns c = grind (arith)
 
 pub returns-clause-picture : goal.returns-clause-picture
 returns-clause-picture c =

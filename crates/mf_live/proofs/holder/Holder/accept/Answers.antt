@@ -30,8 +30,4 @@ invariant_of-self-2 c =
     }
 
 pub returns-clause-accepted : goal.returns-clause-accepted
-returns-clause-accepted c =
-    let h = c.args.self.now in
-    let allowed = rw h.pictured at c.in_ok-apply.ensures.accepted in
-    let noted = c.note_operation.ensures in
-    (one_more h _ _ (Accept c.args.op.now) _ noted.shown noted.view (h.alive, c.requires.open, c.requires.few, allowed) refl).accepted
+returns-clause-accepted c = grind (arith, one_more)

@@ -31,6 +31,4 @@ invariant_of-self c =
     }
 
 pub returns-clause-accepted : goal.returns-clause-accepted
-returns-clause-accepted c =
-    let kept = c.tell-none.ensures.kept in
-    (one_more c.args.self.now _ _ Close _ kept.0 kept.3 (c.args.self.now.alive, c.requires.open) refl).accepted
+returns-clause-accepted c = grind (arith, one_more)

@@ -1,4 +1,4 @@
-use Rattle.std.proofs.Common.{◌≡◌, ◌∙◌, ◌++◌, List, length, ap, subst, sym, arith}
+use Rattle.std.proofs.Common.{◌≡◌, ◌∙◌, List, length, ap, subst, sym, arith}
 use Rattle.std.proofs.lemmas.List.{append-nil}
 use Rattle.left_right.specs.Sides.{view}
 use Rattle.mf_live.specs.declared.event.Event.{Event}
@@ -23,41 +23,24 @@ write_publish-requires-clause-room g c =
     omega (arith, c.copy-prefix.result.counted, ap (λ (t : Knowledge). length t.seen.log) known, few_events c.args.self.now, few_unwritten c.args.self.now)
 
 pub write_publish-requires-clause-lawful : goal.write_publish-requires-clause-lawful
-write_publish-requires-clause-lawful g c =
-    let h = c.args.self.now in
-    let known = c.copy-prefix.ensures ∙ ap knowledge_of c.published.ensures in
-    subst (λ (t : Knowledge). Happen greatest_limit (world_after new_world t.seen.log) (written h)) (sym known) (Happen-written h)
+write_publish-requires-clause-lawful g c = grind (arith, written, sym, Happen-written)
 
 pub write_publish-requires-clause-alive : goal.write_publish-requires-clause-alive
-write_publish-requires-clause-alive g c =
-    let h = c.args.self.now in
-    let known = c.copy-prefix.ensures ∙ ap knowledge_of c.published.ensures in
-    ap (λ (t : Knowledge). (world_after new_world (t.seen.log ++ written h)).gone) known ∙ alive-publish h
+write_publish-requires-clause-alive g c = grind (arith, written, alive-publish)
 
 log : (g : _) (c : After-write_publish g) → c.write_publish.new.prefix.knowledge.seen.log ≡ all_written c.args.self.now
-log g c =
-    let known = c.copy-prefix.ensures ∙ ap knowledge_of c.published.ensures in
-    c.write_publish.ensures.log ∙ ap (λ (t : Knowledge). t.seen.log ++ written c.args.self.now) known
+log g c = grind (arith, written)
 
 pub invariant_of-notice : goal.invariant_of-notice
-invariant_of-notice g c =
-    let h = c.args.self.now in
-    let log = log g (goal.at.invariant_of-notice g c).After-write_publish in
-    let all = ap published_list_of log ∙ published-publish h in
-    record { whole = ap accepted_list_of log ∙ accepted-publish h ∙ sym all; numbered = h.numbered ∙ ap revision_at (sym all) }
+invariant_of-notice g c = grind (arith, published-publish, accepted-publish, sym)
 
 pub invariant_of-show : goal.invariant_of-show
-invariant_of-show g c =
-    let log = log g (goal.at.invariant_of-show g c).After-write_publish in
-    record { pictured = c.requires.picture ∙ ap picture_at (sym (ap published_list_of log ∙ published-publish c.args.self.now)) }
+invariant_of-show g c = grind (arith, sym, published-publish)
 
 happened : (g : _) (c : After-show g) → c.write_publish.new.prefix.knowledge.seen.log ≡ all_written c.args.self.now
     → (events_of c.show.new.swap.desk.shown.value ≡ all_written c.args.self.now)
     × (history c.show.new.swap.desk.shown.value (view c.show.new.swap.desk.place) ≡ all_written c.args.self.now)
-happened g c log =
-    let shows = ap events_of c.show.ensures.shown ∙ log in
-    let none = ap (λ (v : View). v.unwritten) c.show.ensures.view in
-    (shows, (λ i. shows i ++ none i) ∙ append-nil (all_written c.args.self.now))
+happened g c log = grind (arith, append-nil, all_written)
 
 pub invariant_of-self : goal.invariant_of-self
 invariant_of-self g c =
@@ -89,6 +72,4 @@ returns-clause-accepted g c =
     ap accepted_list_of (happened g path.After-show (log g path.After-write_publish)).1 ∙ accepted-publish c.args.self.now
 
 pub returns-clause-published : goal.returns-clause-published
-returns-clause-published g c =
-    let path = goal.at.returns-clause-published g c in
-    ap published_list_of (happened g path.After-show (log g path.After-write_publish)).1 ∙ published-publish c.args.self.now
+returns-clause-published g c = grind (arith, published-publish)

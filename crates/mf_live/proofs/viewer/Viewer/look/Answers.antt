@@ -1,11 +1,9 @@
-use Rattle.std.proofs.Common.{◌≡◌, true, ap, sym, subst, ◌∙◌, arith}
+use Rattle.std.proofs.Common.{ap, sym, subst, ◌∙◌, arith}
 use mathlib.Core.List.{IsPrefix}
 use Rattle.mf_live.specs.declared.view.View.{View}
 use Rattle.mf_live.specs.declared.version.Version.{Version}
-use Rattle.mf_live.specs.Entries.{is_nothing_after_end}
 use Rattle.mf_live.specs.Rule.{events_of}
-use Rattle.mf_live.specs.Viewers.{IsPublished, notice_events}
-use Rattle.mf_live.specs.World.{published_list_of}
+use Rattle.mf_live.specs.Viewers.{notice_events}
 use Rattle.mf_live.proofs.Looking.{extends-look, is_published, shown-last, told_list-ends}
 use Rattle.mf_live.proofs.WholePrefixes.{whole-length}
 use Rattle.mf_live.proofs.viewer.Viewer.look.Goals as goal
@@ -27,14 +25,10 @@ invariant_of-result c =
     }
 
 pub returns-clause-ends : goal.returns-clause-ends
-returns-clause-ends c =
-    subst (λ (v : View). is_nothing_after_end (published_list_of v.latest.seen.log) ≡ true)
-    (sym c.in-Ok.ensures.is) (told_list-ends c.in-Ok.reading.part.value.notice)
+returns-clause-ends c = grind (arith, sym, told_list-ends)
 
 pub returns-clause-published : goal.returns-clause-published
-returns-clause-published c =
-    subst (λ (v : View). IsPublished v.latest.seen.log (published_list_of v.latest.seen.log)) (sym c.in-Ok.ensures.is)
-    (is_published c.in-Ok.reading.part.value.notice)
+returns-clause-published c = grind (arith, sym, is_published)
 
 pub returns-clause-last : goal.returns-clause-last
 returns-clause-last c = λ closed. let extends = returns-clause-extends c in shown-last _ _ extends.seen (returns-clause-ends c) closed
