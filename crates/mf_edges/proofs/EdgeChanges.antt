@@ -109,11 +109,7 @@ mirrored_of es row =
     let weights : (x : ℤ) → weight_in (all_flipped es) x ≡ weight_in es (opposite x) =
     λ x. let sum = flipped-weights least_coordinate es x row.sorted in omega (arith, ints, row.closed) in
     record {
-      edges = record {
-        sorted = flipped-sorted least_coordinate es row.sorted;
-        lawful = λ x. rw (weights x) (row.lawful (opposite x));
-        closed = weights greatest_coordinate ∙ weight_in-before least_coordinate es (opposite greatest_coordinate) row.sorted (omega (arith, ints));
-      };
+      edges = grind (arith, ints, flipped-sorted, weight_in-before);
       weights = record { weights = weights };
     }
 

@@ -4,7 +4,7 @@ use Rattle.std.specs.List.{All}
 use Rattle.std.proofs.lemmas.Int.{ints, by_lt_z}
 use Rattle.std.proofs.lemmas.List.{drop_more}
 use Rattle.std.proofs.lemmas.List.Elements.{All-nil}
-use Rattle.mf_geom.specs.Coordinates.{least_coordinate, greatest_coordinate}
+use Rattle.mf_geom.specs.Coordinates.{least_coordinate}
 use Rattle.mf_edges.specs.declared.edge.Edge.{Edge}
 use Rattle.mf_edges.specs.declared.row_change.RowChange.TheVariants.{Weights}
 use Rattle.mf_edges.specs.declared.weight_map.WeightMap.{WeightMap}
@@ -107,10 +107,6 @@ unfolding weight_in image_in
 mapped_all m es mapped weight image row map so_far =
     let weights : (x : ℤ) → weight_in mapped x ≡ mapped_weight m (weight_in es x) = λ x. mapped_where_none m es mapped [] weight image so_far x refl in
     record {
-      edges = record {
-        sorted = so_far.sorted;
-        lawful = λ x. rw (weights x) (map.lawful (weight_in es x) (row.lawful x));
-        closed = weights greatest_coordinate ∙ (ap (mapped_weight m) row.closed ∙ map.zero);
-      };
+      edges = grind (arith, ints);
       weights = record { weights = weights };
     }

@@ -41,11 +41,7 @@ with_edge_in-none es x c =
 
 pub split_first : (e : Edge) (es : List Edge) (x : ℤ) → AreEdgesLeft x (e ∷ es) → e.x ≡ x → IsSplitAt (e ∷ es) x e.weight es
 split_first e es x left here = record {
-  weights = record {
-    weights = λ c. by_lt_z c x
-        (λ before. weight_in-right e es c (omega (arith, ints)) ∙ sym (with_edge_in-before es x e.weight c before))
-        (λ after. let whole = weight_in-left e es c (omega (arith, ints)) in let split = with_edge_in-after es x e.weight c after in omega (arith, ints));
-  };
+  weights = grind (arith, ints, by_lt_z, weight_in-right, sym, with_edge_in-before, weight_in-left, with_edge_in-after);
   difference = All-head (λ e. IsDifference e.weight) e es left.differences;
   left = record { sorted = rw (← here) left.sorted.2; differences = All-tail (λ e. IsDifference e.weight) e es left.differences };
   no_longer = omega arith;

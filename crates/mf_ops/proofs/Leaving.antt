@@ -147,12 +147,7 @@ read_back-place p place = omega (arith, ints, place.least, place.greatest)
 pub IsLeastBox-read_back : (ds : List Dot) (b : Box4) → IsPicture ds → IsLeastBox ds b → IsLeastBox ds (read_back b)
 IsLeastBox-read_back ds b picture box =
     let sides = sides_in_field ds b picture box in
-    let same : read_back b ≡ b = λ t. record {
-      min_x = read_back-place b.min_x sides.left t;
-      max_x = read_back-place b.max_x sides.right t;
-      min_y = read_back-place b.min_y sides.bottom t;
-      max_y = read_back-place b.max_y sides.top t;
-    } in
+    let same : read_back b ≡ b = grind (arith, ints, read_back-place) in
     subst (IsLeastBox ds) (sym same) box
 
 pub sides_read_back : (ds : List Dot) (b : Box4) → IsPicture ds → IsLeastBox ds b → AreSidesInField (read_back b)

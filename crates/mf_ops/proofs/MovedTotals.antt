@@ -84,10 +84,7 @@ scale_move (negsuc n) factor =
       end = λ q. rw (opposite-opposite (source_of (times n) q)) (source_of-end (times n) q stretch);
       only = λ p q start end. ap opposite (source_of-only (times n) (opposite p) q stretch start end) ∙ opposite-opposite p;
       before = λ p kept. kept.0;
-      after = λ p kept.
-          let start = times-opposite_start n p in
-          let end = times-opposite_end n p in
-          (rw start kept.1.end.least, rw end kept.1.start.greatest);
+      after = λ p kept. grind (arith, ints, times-opposite_start, times-opposite_end);
     }
 
 -- what holds of all dots holds of each pixel, or it has weight 0

@@ -98,10 +98,7 @@ some_outside f p factor leaves =
     by_lt_z greatest_coordinate high
     (λ lt. record { q = high -ℤ pos 1; has = HasPlace-last f p factor; outside = λ inside. let greatest = inside.greatest in omega (arith, ints) })
     (λ greatest.
-    let ends : PlaceStaysInside (scale_by f) p = record {
-      start = record { least = omega (arith, ints, clamps); greatest = omega (arith, ints, clamps) };
-      end = record { least = omega (arith, ints, clamps); greatest = omega (arith, ints, clamps) };
-    } in
+    let ends : PlaceStaysInside (scale_by f) p = grind (arith, ints, clamps) in
     absurd (both_ways (stays_inside (scale_by f) p) leaves ((stays_inside-true (scale_by f) p).1 ends))))
 
 -- ---- shifts
@@ -115,11 +112,7 @@ shift-refused ds dx dy picture refused =
     record {
       x = d.x +ℤ dx;
       y = d.y +ℤ dy;
-      outside = λ field.
-          both_ways _ (not-true _ found.1.leaving)
-          (and_from (stays_inside (shift_by dx) d.x) (stays_inside (shift_by dy) d.y)
-          (stays-inside dx d.x (column_inside (d.x +ℤ dx) (d.y +ℤ dy) field))
-          (stays-inside dy d.y (row_inside (d.x +ℤ dx) (d.y +ℤ dy) field)));
+      outside = λ field. grind (arith, ints, both_ways, not-true, and_from, stays-inside, column_inside, row_inside);
       nonzero = rw (back_x, back_y) found.1.nonzero;
     }
 

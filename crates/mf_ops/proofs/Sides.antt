@@ -126,9 +126,7 @@ AreSides-joined ps w n ks ls sides =
     record {
       few = omega (arith, length-append ks ls, length-append (reverse ks) ls, length-reverse ks, sides.few);
       corners = All-permutation IsCorner (ks ++ ls) (reverse ks ++ ls) turned sides.corners;
-      added = λ x y.
-          let one = added_by_all-append ks ls x y in
-          omega (arith, ints, one, added_by_all-append (reverse ks) ls x y, added_by_all-reverse ks x y, sides.added x y);
+      added = λ x y. grind (arith, ints, added_by_all-append, added_by_all-reverse);
     }
 
 -- the sides of the complete cycle add nothing to the right of the field
