@@ -16,9 +16,7 @@ use Rattle.mf_frame.specs.Windows.{lesser_scales, line_of, window_at, fits_on, f
 use Rattle.mf_frame.proofs.Floors.{IsCellInField, cell-le, cell_in_field, cell_at_greatest, line-within, line-le}
 
 line_in_field : (j : ℤ) → IsCellInField j → IsCellInField (line_of j)
-line_in_field j field =
-    let within = line-within j in
-    omega (arith, ints, within.1, field, within.0)
+line_in_field j field = omega (arith, ints, line-within j, field)
 
 -- the columns and lines of a box of the field
 pub record IsWindowOfField (b : Box4) (s : ℤ) : Type 0 where
@@ -153,9 +151,7 @@ unfolding first_fitting
 first-fits canvas b s zero size box last =
     let same : s ≡ greatest_coordinate = omega (arith, ints) in
     rw same (fits_at_greatest canvas b size box)
-first-fits canvas b s (suc n) size box last =
-    cond_both (fits_on canvas (window_at b s)) s (first_fitting canvas b (s +ℤ pos 1) n) (λ first. fits_on canvas (window_at b first) ≡ true)
-    (λ yes. yes) (λ _. first-fits canvas b (s +ℤ pos 1) n size box (omega (arith, ints)))
+first-fits canvas b s (suc n) size box last = grind (arith, ints, cond_both, first-fits canvas b (s +ℤ pos 1) n size box (omega (arith, ints)))
 
 first-within : (canvas : Size) (b : Box4) (s : ℤ) (n : ℕ) → (s ≤ℤ first_fitting canvas b s n) × (first_fitting canvas b s n ≤ℤ (s +ℤ pos n))
 unfolding first_fitting

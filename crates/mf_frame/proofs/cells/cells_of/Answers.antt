@@ -1,11 +1,9 @@
-use Rattle.std.proofs.Common.{refl}
 use Rattle.mf_frame.proofs.Painting.{next_in_window, painted_all, painted_more, painted_none}
 use Rattle.mf_frame.proofs.cells.cells_of.Goals as goal
+use Rattle.std.proofs.Common.{arith}
 
 pub loop-run-init : goal.loop-run-init
-loop-run-init c =
-    painted_none _ _ _ _ _ c.runs-run-items.ensures.lawful (rw c.into_iter-run-iterator.ensures.into_iter_gives c.runs-run-items.ensures.runs)
-    (c.in_ok-shades.ensures.items_if_clones_equal (λ y same. same)) refl
+loop-run-init c = grind (arith, painted_none)
 
 pub paint-requires-clause-run : goal.paint-requires-clause-run
 paint-requires-clause-run c = next_in_window _ _ _ _ _ _ c.requires.dots c.in-Some.ensures.steps c.loop-run.invariant
