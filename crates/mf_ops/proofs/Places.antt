@@ -65,8 +65,8 @@ by_size f = scale_by (pos (nat_abs f))
 
 pub IsStretch-size : (f : ℤ) → IsFactor f → IsStretch (by_size f)
 IsStretch-size (pos zero) is_factor = absurd (is_factor.nonzero refl)
-IsStretch-size (pos (suc n)) is_factor = let greatest = is_factor.greatest in record { least = omega (arith, ints); greatest = omega (arith, ints) }
-IsStretch-size (negsuc n) is_factor = let least = is_factor.least in record { least = omega (arith, ints); greatest = omega (arith, ints) }
+IsStretch-size (pos (suc n)) is_factor = let greatest = is_factor.range.greatest in record { least = omega (arith, ints); greatest = omega (arith, ints) }
+IsStretch-size (negsuc n) is_factor = let least = is_factor.range.least in record { least = omega (arith, ints); greatest = omega (arith, ints) }
 
 pub opposite-opposite : (p : ℤ) → opposite (opposite p) ≡ p
 opposite-opposite p = omega (arith, ints)
@@ -90,7 +90,7 @@ scale_source-only (negsuc n) p q factor has =
 -- a reflection takes a column to the other side of 0
 pub scale_source-reflection : (q : ℤ) → scale_source (negsuc 0) q ≡ opposite q
 scale_source-reflection q =
-    let one : IsFactor (negsuc 0) = record { least = omega (arith, ints); greatest = omega (arith, ints); nonzero = λ same. omega (arith, ints) } in
+    let one : IsFactor (negsuc 0) = grind (arith, ints) in
     scale_source-only (negsuc 0) (opposite q) q one record { start = omega (arith, ints, clamps); end = omega (arith, ints, clamps) }
 
 -- the part of p is not empty: it has a first and a last column

@@ -2,7 +2,7 @@
 -- plane: the new weight of a pixel is the old weight of the pixel whose moved square contains it.
 use Rattle.std.specs.Prelude.{◌≢◌, ◌&&◌, Bool, ℤ, pos, nat_abs, ◌+ℤ◌, ◌*ℤ◌, ◌≤ℤ◌, int_lt}
 use Rattle.std.specs.Int.{int_max, int_min}
-use Rattle.mf_geom.specs.Coordinates.{least_coordinate, greatest_coordinate, last_in_field, is_coordinate}
+use Rattle.mf_geom.specs.Coordinates.{IsCoordinate, least_coordinate, last_in_field, is_coordinate}
 use Rattle.mf_edges.specs.Axes.{opposite, source_of, target_of}
 use Rattle.mf_edges.specs.declared.stretch.Stretch.{Stretch}
 use Rattle.mf_ops.specs.Reflections.{on_side}
@@ -19,10 +19,9 @@ pub record IsColumnOrRow (p : ℤ) : Type 0 where
   pub least : least_coordinate ≤ℤ p
   pub greatest : p ≤ℤ last_in_field
 
--- f may be a factor of a scale: it is in -4095..4095 and not 0
+-- f may be a factor of a scale: it is in -4095..4095, as a coordinate is, and not 0
 pub record IsFactor (f : ℤ) : Type 0 where
-  pub least : least_coordinate ≤ℤ f
-  pub greatest : f ≤ℤ greatest_coordinate
+  pub range : IsCoordinate f
   pub nonzero : f ≢ pos 0
 
 -- both factors of a scale are lawful

@@ -33,19 +33,19 @@ use Rattle.mf_text.proofs.LineReading.{goes_wrong, is_line}
 
 weight_or_not : (w : ℤ) → IsContourWeight w ⊎ (IsContourWeight w → ⊥)
 weight_or_not w =
-    by_lt_z w (negsuc 2) (λ below. inr (λ is. omega (arith, ints, is.least)))
-    (λ least. by_lt_z (pos 3) w (λ above. inr (λ is. omega (arith, ints, is.greatest)))
+    by_lt_z w (negsuc 2) (λ below. inr (λ is. omega (arith, ints, is.range.least)))
+    (λ least. by_lt_z (pos 3) w (λ above. inr (λ is. omega (arith, ints, is.range.greatest)))
     (λ greatest. elim (ℤ_discrete w (pos 0)) [
-      | no nonzero ↦ inl (record { least = least; greatest = greatest; nonzero = nonzero })
+      | no nonzero ↦ inl (record { range = record { least = least; greatest = greatest }; nonzero = nonzero })
       | yes zero ↦ inr (λ is. is.nonzero zero)
     ]))
 
 factor_or_not : (f : ℤ) → IsFactor f ⊎ (IsFactor f → ⊥)
 factor_or_not f =
-    by_lt_z f least_coordinate (λ below. inr (λ is. omega (arith, ints, is.least)))
-    (λ least. by_lt_z greatest_coordinate f (λ above. inr (λ is. omega (arith, ints, is.greatest)))
+    by_lt_z f least_coordinate (λ below. inr (λ is. omega (arith, ints, is.range.least)))
+    (λ least. by_lt_z greatest_coordinate f (λ above. inr (λ is. omega (arith, ints, is.range.greatest)))
     (λ greatest. elim (ℤ_discrete f (pos 0)) [
-      | no nonzero ↦ inl (record { least = least; greatest = greatest; nonzero = nonzero })
+      | no nonzero ↦ inl (record { range = record { least = least; greatest = greatest }; nonzero = nonzero })
       | yes zero ↦ inr (λ is. is.nonzero zero)
     ]))
 
