@@ -16,7 +16,7 @@ use Rattle.mf_ops.specs.Moves.{scale_by, scale_source, shift_by, stays_inside, t
 use Rattle.mf_ops.specs.declared.op.Op.{Op}
 use Rattle.mf_ops.specs.declared.op.Op.TheVariants.{Contour, Also, Cull, Shift, Scale, Quarter, Clear}
 use Rattle.mf_ops.specs.declared.op.OpFault.{OpFault}
-use Rattle.mf_ops.specs.declared.op.OpFault.TheVariants.{OutOfField, WeightTooLarge}
+use Rattle.mf_ops.specs.declared.op.OpFault.TheVariants.{OutOfField, WeightTooLarge, OutOfMemory}
 
 -- the weight of the pixel (x, y) after an operation on the picture ds
 abbrev pub step_at : List Dot → Op → ℤ → ℤ → ℤ
@@ -78,6 +78,10 @@ pub record TurnsLawfully (op : Op) : Type 0 where
 -- the refusal of an operation on the picture ds, if there is one: how its cycle turns is decided before any pixel
 unfoldable pub op_fault : List Dot → Op → Option OpFault
 op_fault ds op = option_or (cycle_fault op) (pixel_fault ds op)
+
+-- a call may refuse the operation on the picture ds with this fault: the definition does, or an allocation failed
+abbrev pub IsRefusal : List Dot → Op → OpFault → Type 0
+IsRefusal ds op fault = fault ≢ OutOfMemory → op_fault ds op ≡ Some fault
 
 -- the weights f are not 0 at some pixel outside the field
 pub record LiesOutside (f : ℤ → ℤ → ℤ) : Type 0 where

@@ -1,6 +1,6 @@
 //! Adds one picture to another, or subtracts it.
-ghost use Rattle.std.specs.Prelude.{◌≡◌, ◌≢◌, [], None, Some, IsOk, IfErr, OnOk, OnErr};
-ghost use Rattle.mf_ops.specs.Step.{next_picture, op_fault};
+ghost use Rattle.std.specs.Prelude.{◌≡◌, [], None, IsOk, IfErr, OnOk, OnErr};
+ghost use Rattle.mf_ops.specs.Step.{IsRefusal, next_picture, op_fault};
 ghost use Rattle.mf_ops.specs.declared.op.Op.TheVariants.{Also};
 
 use crate::op::OpFault;
@@ -14,7 +14,7 @@ pub fn add(alloc: Global, picture: &mut Picture, other: &Picture, sign: Sign) ->
     ensures step { OnOk result (picture.new ≡ next_picture picture.old (Also other.now sign)) }
     ensures unchanged { OnErr result (picture.new ≡ picture.old) }
     ensures accepted { OnOk result (op_fault picture.old (Also other.now sign) ≡ None) }
-    ensures refused { IfErr result (λ fault. fault ≢ OpFault.OutOfMemory → op_fault picture.old (Also other.now sign) ≡ Some fault) }
+    ensures refused { IfErr result (IsRefusal picture.old (Also other.now sign)) }
     ensures blank { other.now ≡ [] → IsOk result }
 {
     match sign {

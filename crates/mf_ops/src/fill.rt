@@ -1,5 +1,5 @@
 //! Filling a contour: the sides of its cycle become corners, and these are added to the picture.
-ghost use Rattle.std.specs.Prelude.{◌≡◌, ◌≢◌, None, Some, IfOk, IfErr, OnOk, OnErr, ◌*ℤ◌, List};
+ghost use Rattle.std.specs.Prelude.{◌≡◌, None, Some, IfOk, IfErr, OnOk, OnErr, ◌*ℤ◌, List};
 ghost use Rattle.std.specs.Int.{int_signum};
 ghost use Rattle.mf_geom.specs.Path.{IsInRange, IsRectilinear};
 ghost use Rattle.mf_geom.specs.Turning.{turning};
@@ -8,7 +8,7 @@ ghost use Rattle.mf_geom.specs.declared.check.Check.TheVariants.{Off};
 ghost use Rattle.mf_rows.specs.Corners.{IsCornerWeight, AreCorners};
 ghost use Rattle.mf_rows.specs.Dots.{Dot};
 ghost use Rattle.mf_ops.specs.Sides.{HasSide, AddWinding, FillsWith};
-ghost use Rattle.mf_ops.specs.Step.{next_picture, op_fault};
+ghost use Rattle.mf_ops.specs.Step.{IsRefusal, next_picture, op_fault};
 ghost use Rattle.mf_ops.specs.declared.op.Op.TheVariants.{Contour};
 
 use crate::op::OpFault;
@@ -64,7 +64,7 @@ pub fn fill(alloc: Global, picture: &mut Picture, cycle: &Cycle, weight: i32) ->
     ensures step { OnOk result (picture.new ≡ next_picture picture.old (Contour cycle.now weight Off)) }
     ensures unchanged { OnErr result (picture.new ≡ picture.old) }
     ensures accepted { OnOk result (op_fault picture.old (Contour cycle.now weight Off) ≡ None) }
-    ensures refused { IfErr result (λ fault. fault ≢ OpFault.OutOfMemory → op_fault picture.old (Contour cycle.now weight Off) ≡ Some fault) }
+    ensures refused { IfErr result (IsRefusal picture.old (Contour cycle.now weight Off)) }
 {
     let corners = corners_of(alloc, cycle, weight)?;
     Ok(picture.add_corners(alloc, corners)?)

@@ -1,9 +1,9 @@
 //! Operations on pictures, and what they do to a picture.
-ghost use Rattle.std.specs.Prelude.{◌≡◌, ◌≢◌, [], None, Some, Err, IsOk, IfOk, IfErr, OnOk, OnErr};
+ghost use Rattle.std.specs.Prelude.{◌≡◌, [], None, Some, Err, IsOk, IfOk, IfErr, OnOk, OnErr};
 ghost use Rattle.mf_geom.specs.declared.cycle.CycleFault.{CycleFault};
 ghost use Rattle.mf_rows.specs.declared.sign.Sign.{Sign};
 ghost use Rattle.mf_ops.specs.Operations.{HoldsNoList};
-ghost use Rattle.mf_ops.specs.Step.{next_picture, op_fault};
+ghost use Rattle.mf_ops.specs.Step.{IsRefusal, next_picture, op_fault};
 ghost use Rattle.mf_ops.specs.declared.cull.CullRule.{CullRule};
 ghost use Rattle.mf_ops.specs.declared.op.Op.TheVariants as ops;
 
@@ -137,7 +137,7 @@ impl Op {
 pub fn after(alloc: Global, picture: &Picture, op: &Op) -> Result<Picture, OpFault>
     ensures step { IfOk result (λ new. new ≡ next_picture picture.now op.now) }
     ensures accepted { OnOk result (op_fault picture.now op.now ≡ None) }
-    ensures refused { IfErr result (λ fault. fault ≢ OpFault.OutOfMemory → op_fault picture.now op.now ≡ Some fault) }
+    ensures refused { IfErr result (IsRefusal picture.now op.now) }
     ensures turning { (fault : CycleFault) → op_fault picture.now op.now ≡ Some (OpFault.Cycle fault) → result ≡ Err (OpFault.Cycle fault) }
     ensures out_of_field { op_fault picture.now op.now ≡ Some OpFault.OutOfField → result ≡ Err OpFault.OutOfField }
     ensures clears { op.now ≡ ops.Clear → IsOk result }
@@ -145,6 +145,7 @@ pub fn after(alloc: Global, picture: &Picture, op: &Op) -> Result<Picture, OpFau
     ensures culls_blank { (cull : CullRule) → picture.now ≡ [] → op.now ≡ ops.Cull cull → IsOk result }
 {
     match op {
+        // The turning check comes before the copy, and so this is not `apply` on a copy: a failed copy must not hide a refusal.
         Op::Contour(cycle, weight, check) => {
             let filling = filling_weight(cycle, *weight, *check)?;
             let mut filled = picture.copy(alloc)?;
@@ -171,7 +172,7 @@ pub fn apply(alloc: Global, picture: &mut Picture, op: &Op) -> Result<(), OpFaul
     ensures step { OnOk result (picture.new ≡ next_picture picture.old op.now) }
     ensures unchanged { OnErr result (picture.new ≡ picture.old) }
     ensures accepted { OnOk result (op_fault picture.old op.now ≡ None) }
-    ensures refused { IfErr result (λ fault. fault ≢ OpFault.OutOfMemory → op_fault picture.old op.now ≡ Some fault) }
+    ensures refused { IfErr result (IsRefusal picture.old op.now) }
     ensures turning { (fault : CycleFault) → op_fault picture.old op.now ≡ Some (OpFault.Cycle fault) → result ≡ Err (OpFault.Cycle fault) }
     ensures out_of_field { op_fault picture.old op.now ≡ Some OpFault.OutOfField → result ≡ Err OpFault.OutOfField }
     ensures clears { op.now ≡ ops.Clear → IsOk result }

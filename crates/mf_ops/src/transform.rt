@@ -1,5 +1,5 @@
 //! Shifts, scales and turns.
-ghost use Rattle.std.specs.Prelude.{◌≡◌, ◌≢◌, ◌↔◌, None, Some, Err, IfOk, IfErr, OnOk, IsTrue};
+ghost use Rattle.std.specs.Prelude.{◌≡◌, ◌↔◌, None, Some, Err, IfOk, IfErr, OnOk, IsTrue};
 ghost use Rattle.mf_geom.specs.Coordinates.{IsCoordinate};
 ghost use Rattle.mf_rows.specs.Dots.{IsPicture};
 ghost use Rattle.mf_edges.specs.Axes.{PlaceStaysInside, target_of};
@@ -7,7 +7,7 @@ ghost use Rattle.mf_rows.specs.Moves.{PixelsStayInside};
 ghost use Rattle.mf_rows.specs.Sums.{HasWeights};
 ghost use Rattle.mf_ops.specs.Moves.{IsColumnOrRow};
 ghost use Rattle.mf_ops.specs.Reflections.{reflection_at};
-ghost use Rattle.mf_ops.specs.Step.{next_picture, op_fault};
+ghost use Rattle.mf_ops.specs.Step.{IsRefusal, next_picture, op_fault};
 ghost use Rattle.mf_ops.specs.declared.op.Op.TheVariants as ops;
 
 use crate::op::OpFault;
@@ -26,7 +26,7 @@ const FARTHEST: i64 = MAX_COORDINATE as i64;
 pub fn shift(alloc: Global, picture: &Picture, right: i32, up: i32) -> Result<Picture, OpFault>
     ensures step { IfOk result (λ new. new ≡ next_picture picture.now (ops.Shift right up)) }
     ensures accepted { OnOk result (op_fault picture.now (ops.Shift right up) ≡ None) }
-    ensures refused { IfErr result (λ fault. fault ≢ OpFault.OutOfMemory → op_fault picture.now (ops.Shift right up) ≡ Some fault) }
+    ensures refused { IfErr result (IsRefusal picture.now (ops.Shift right up)) }
     ensures out_of_field { op_fault picture.now (ops.Shift right up) ≡ Some OpFault.OutOfField → result ≡ Err OpFault.OutOfField }
 {
     let columns = stretch(1, right);
@@ -41,7 +41,7 @@ pub fn shift(alloc: Global, picture: &Picture, right: i32, up: i32) -> Result<Pi
 pub fn scale(alloc: Global, picture: &Picture, scale: Scale) -> Result<Picture, OpFault>
     ensures step { IfOk result (λ new. new ≡ next_picture picture.now (ops.Scale scale)) }
     ensures accepted { OnOk result (op_fault picture.now (ops.Scale scale) ≡ None) }
-    ensures refused { IfErr result (λ fault. fault ≢ OpFault.OutOfMemory → op_fault picture.now (ops.Scale scale) ≡ Some fault) }
+    ensures refused { IfErr result (IsRefusal picture.now (ops.Scale scale)) }
     ensures out_of_field { op_fault picture.now (ops.Scale scale) ≡ Some OpFault.OutOfField → result ≡ Err OpFault.OutOfField }
 {
     let (x, y) = (scale.x(), scale.y());

@@ -1,7 +1,7 @@
 //! The registers `a` to `z`, each of which keeps a picture.
-ghost use Rattle.std.specs.Prelude.{◌≡◌, ◌≢◌, ◌<◌, [], None, Some, Err, IfOk, IfErr, IsOk, OnOk, OnErr, replicate, slice_index_or, slice_set};
+ghost use Rattle.std.specs.Prelude.{◌≡◌, ◌<◌, [], None, Some, Err, IfOk, IfErr, IsOk, OnOk, OnErr, replicate, slice_index_or, slice_set};
 ghost use Rattle.mf_geom.specs.declared.cycle.CycleFault.{CycleFault};
-ghost use Rattle.mf_ops.specs.Step.{next_picture, op_fault};
+ghost use Rattle.mf_ops.specs.Step.{IsRefusal, next_picture, op_fault};
 ghost use Rattle.mf_ops.specs.declared.op.Op.TheVariants as ops;
 
 use mf_base::OutOfMemory;
@@ -57,7 +57,7 @@ impl Registers {
         ensures step { OnOk result (self.new ≡ slice_set self.old number (next_picture (slice_index_or self.old number []) op.now)) }
         ensures unchanged { OnErr result (self.new ≡ self.old) }
         ensures accepted { OnOk result (op_fault (slice_index_or self.old number []) op.now ≡ None) }
-        ensures refused { IfErr result (λ fault. fault ≢ OpFault.OutOfMemory → op_fault (slice_index_or self.old number []) op.now ≡ Some fault) }
+        ensures refused { IfErr result (IsRefusal (slice_index_or self.old number []) op.now) }
         ensures turning { (fault : CycleFault) → op_fault (slice_index_or self.old number []) op.now ≡ Some (OpFault.Cycle fault)
             → result ≡ Err (OpFault.Cycle fault) }
         ensures out_of_field { op_fault (slice_index_or self.old number []) op.now ≡ Some OpFault.OutOfField → result ≡ Err OpFault.OutOfField }

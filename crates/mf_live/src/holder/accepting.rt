@@ -1,8 +1,8 @@
 //! Opening a picture, and accepting operations and the end mark.
-ghost use Rattle.std.specs.Prelude.{◌≡◌, ◌≢◌, ◌<◌, ◌^◌, [], ◌∷◌, ◌++◌, false, None, Some, Err, IfOk, IfErr, IsOk, OnOk, MatchResult};
+ghost use Rattle.std.specs.Prelude.{◌≡◌, ◌<◌, ◌^◌, [], ◌∷◌, ◌++◌, false, None, Some, Err, IfOk, IfErr, IsOk, OnOk, MatchResult};
 ghost use Rattle.left_right.specs.Sides.{view};
 ghost use Rattle.mf_geom.specs.declared.cycle.CycleFault.{CycleFault};
-ghost use Rattle.mf_ops.specs.Step.{op_fault};
+ghost use Rattle.mf_ops.specs.Step.{IsRefusal, op_fault};
 ghost use Rattle.mf_ops.specs.declared.op.Op.TheVariants.{Clear};
 ghost use Rattle.mf_live.specs.Books.{greatest_limit};
 ghost use Rattle.mf_live.specs.Entries.{entry, picture_at, revision_at, next_label, is_closed, Operation, End};
@@ -85,7 +85,7 @@ impl Holder {
             (λ _. accepted_list self.new ≡ accepted_list self.old) }
         ensures published { published_list self.new ≡ published_list self.old }
         ensures allowed { OnOk result (op_fault (picture_at (accepted_list self.old)) op.now ≡ None) }
-        ensures refused { IfErr result (λ fault. fault ≢ OpFault.OutOfMemory → op_fault (picture_at (accepted_list self.old)) op.now ≡ Some fault) }
+        ensures refused { IfErr result (IsRefusal (picture_at (accepted_list self.old)) op.now) }
         ensures turning { (fault : CycleFault) → op_fault (picture_at (accepted_list self.old)) op.now ≡ Some (OpFault.Cycle fault)
             → result ≡ Err (OpFault.Cycle fault) }
         ensures out_of_field { op_fault (picture_at (accepted_list self.old)) op.now ≡ Some OpFault.OutOfField → result ≡ Err OpFault.OutOfField }

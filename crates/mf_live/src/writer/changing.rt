@@ -1,7 +1,7 @@
 //! What a writer does.
-ghost use Rattle.std.specs.Prelude.{◌≡◌, ◌≢◌, ◌-◌, ◌<◌, [], ◌∷◌, ◌++◌, None, Some, Err, IfErr, IsOk, OnOk, MatchResult, ◌↔◌};
+ghost use Rattle.std.specs.Prelude.{◌≡◌, ◌-◌, ◌<◌, [], ◌∷◌, ◌++◌, None, Some, Err, IfErr, IsOk, OnOk, MatchResult, ◌↔◌};
 ghost use Rattle.mf_geom.specs.declared.cycle.CycleFault.{CycleFault};
-ghost use Rattle.mf_ops.specs.Step.{op_fault};
+ghost use Rattle.mf_ops.specs.Step.{IsRefusal, op_fault};
 ghost use Rattle.mf_ops.specs.declared.op.Op.TheVariants.{Clear};
 ghost use Rattle.mf_live.specs.Entries.{entry, picture_at, revision_at, next_label, Operation};
 ghost use Rattle.mf_live.specs.Viewers.{notice_identity, told_list};
@@ -39,7 +39,7 @@ impl Writer {
         ensures out_of_field { revision_at (accepted_list self.old) < max_ops self.old
             → op_fault (picture_at (accepted_list self.old)) op ≡ Some OpFault.OutOfField → result ≡ Err (op, Fault.Refused OpFault.OutOfField) }
         ensures refused { IfErr result (λ refused. (fault : OpFault) → refused.1 ≡ Fault.Refused fault
-            → fault ≢ OpFault.OutOfMemory → op_fault (picture_at (accepted_list self.old)) op ≡ Some fault) }
+            → IsRefusal (picture_at (accepted_list self.old)) op fault) }
     {
         if self.holder.revision == self.max_ops {
             return Err((op, Fault::TooManyOperations));
