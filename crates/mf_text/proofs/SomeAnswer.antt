@@ -1,11 +1,10 @@
 -- Each line of bytes has an answer: a command, or a refusal.
-use Rattle.std.proofs.Common.{◌≡◌, ◌≢◌, ◌⊎◌, inl, inr, ℕ, ℤ, pos, negsuc, List, Option, Some, None, Result, Ok, Err, length, refl, sym, ◌∙◌, arith}
+use Rattle.std.proofs.Common.{◌≡◌, ◌≢◌, ◌⊎◌, inl, inr, ℕ, ℤ, pos, List, Option, Some, None, Result, Ok, Err, length, refl, sym, ◌∙◌, arith}
 use lib.IntN.{ℤ_discrete}
 use Rattle.std.specs.List.{list_all}
 use Rattle.std.proofs.lemmas.Bool.{cases_Bool, cases_lt}
 use Rattle.std.proofs.lemmas.Int.{ints, by_lt_z}
 use Rattle.std.proofs.lemmas.Option.{none-some}
-use Rattle.mf_geom.specs.Coordinates.{least_coordinate, greatest_coordinate}
 use Rattle.mf_geom.proofs.FirstFaults.{is_cycle, no_form_fault}
 use Rattle.mf_geom.specs.Faults.{form_fault}
 use Rattle.mf_geom.specs.declared.cycle.CycleFault.{CycleFault}
@@ -32,22 +31,16 @@ use Rattle.mf_text.proofs.LineReading.{goes_wrong, is_line}
 -- ---- values are lawful or not
 
 weight_or_not : (w : ℤ) → IsContourWeight w ⊎ (IsContourWeight w → ⊥)
-weight_or_not w =
-    by_lt_z w (negsuc 2) (λ below. inr (λ is. omega (arith, ints, is.range.least)))
-    (λ least. by_lt_z (pos 3) w (λ above. inr (λ is. omega (arith, ints, is.range.greatest)))
-    (λ greatest. elim (ℤ_discrete w (pos 0)) [
-      | no nonzero ↦ inl (record { range = record { least = least; greatest = greatest }; nonzero = nonzero })
-      | yes zero ↦ inr (λ is. is.nonzero zero)
-    ]))
+weight_or_not w = elim (ℤ_discrete w (pos 0)) [
+  | yes zero ↦ inr (λ is. is.nonzero zero)
+  | no nonzero ↦ grind (arith, ints, by_lt_z)
+]
 
 factor_or_not : (f : ℤ) → IsFactor f ⊎ (IsFactor f → ⊥)
-factor_or_not f =
-    by_lt_z f least_coordinate (λ below. inr (λ is. omega (arith, ints, is.range.least)))
-    (λ least. by_lt_z greatest_coordinate f (λ above. inr (λ is. omega (arith, ints, is.range.greatest)))
-    (λ greatest. elim (ℤ_discrete f (pos 0)) [
-      | no nonzero ↦ inl (record { range = record { least = least; greatest = greatest }; nonzero = nonzero })
-      | yes zero ↦ inr (λ is. is.nonzero zero)
-    ]))
+factor_or_not f = elim (ℤ_discrete f (pos 0)) [
+  | yes zero ↦ inr (λ is. is.nonzero zero)
+  | no nonzero ↦ grind (arith, ints, by_lt_z)
+]
 
 factors_or_not : (s : Factors) → AreFactors s ⊎ (AreFactors s → ⊥)
 factors_or_not s = grind (arith, ints, factor_or_not)
