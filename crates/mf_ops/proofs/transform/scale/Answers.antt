@@ -42,7 +42,8 @@ returns c =
     record { step = made.0; accepted = made.1; refused = tt; out_of_field = λ out. absurd (not_out ds (Scale s) stays out) }
 
 never_out : (c : After-pixels_stay_inside) → IsTrue c.pixels_stay_inside.result → op_fault c.args.picture.now (Scale c.args.scale) ≢ Some OutOfField
-never_out c inside = let stays : IsForWeights c.args.picture.now (Scale c.args.scale) = grind (arith, factor_passed, stays_in_field-scale) in not_out _ _ stays
+never_out c inside =
+    let stays : IsForWeights c.args.picture.now (Scale c.args.scale) = grind (arith, factor_passed, stays_in_field-scale) in not_out _ _ stays
 
 pub returns-in_err-reflected-clause-out_of_field : goal.returns-in_err-reflected-clause-out_of_field
 returns-in_err-reflected-clause-out_of_field c =
