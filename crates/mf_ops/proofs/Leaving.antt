@@ -65,9 +65,9 @@ mul-ge n a b le =
 -- so where two points stay in range, so do those between them
 IsCoordinate-between : (f o a p b : ℤ) → a ≤ℤ p → p ≤ℤ b → IsCoordinate ((a *ℤ f) +ℤ o) → IsCoordinate ((b *ℤ f) +ℤ o) → IsCoordinate ((p *ℤ f) +ℤ o)
 IsCoordinate-between (pos n) o a p b after before first last =
-    omega (arith, ints, mul-le a p (pos n) (omega (arith, ints)) after, mul-le p b (pos n) (omega (arith, ints)) before)
+    omega (arith, ints, mul-le a p (pos n) (omega (arith, ints)) after, mul-le p b (pos n) (omega (arith, ints)) before, first.least, last.greatest)
 IsCoordinate-between (negsuc n) o a p b after before first last =
-    omega (arith, ints, mul-ge n a p after, mul-ge n p b before, last.least, first.greatest, after, before, first, last)
+    omega (arith, ints, mul-ge n a p after, mul-ge n p b before, last.least, first.greatest)
 
 PlaceStaysInside-between : (s : Stretch) (a p b : ℤ) → a ≤ℤ p → p ≤ℤ b → PlaceStaysInside s a → PlaceStaysInside s b → PlaceStaysInside s p
 PlaceStaysInside-between s a p b after before first last =
