@@ -7,6 +7,7 @@ use Rattle.std.specs.Prelude.{if◌then◌else◌, ◌==◌, All}
 use Rattle.std.specs.List.{slice_split, onto_first}
 use Rattle.std.specs.Str.Lines.{lines, lines_of_parts, strip_carriage_return}
 use Rattle.mf_desk.specs.Ended.{ended_of_parts, last_part, ended_lines, unended_line}
+use Rattle.std.proofs.Common.{arith}
 
 abbrev is_line_feed : ℕ → Bool
 is_line_feed b = b == 10
@@ -103,10 +104,7 @@ parts-unbroken bytes unbroken =
 -- bytes without a line feed end no line
 pub ended_lines-unbroken : (read bytes : List ℕ) → All (λ b. b ≢ 10) bytes → ended_lines (read ++ bytes) ≡ ended_lines read
 unfolding ended_of_parts
-ended_lines-unbroken read bytes unbroken =
-    ended_lines-append read bytes
-    ∙ ap (λ parts. ended_lines read ++ ended_of_parts (onto_front (unended_line read) parts)) (parts-unbroken bytes unbroken)
-    ∙ append-nil (ended_lines read)
+ended_lines-unbroken read bytes unbroken = grind (arith, ended_lines-append, parts-unbroken, append-nil)
 
 -- they go after the other bytes of the unended line
 pub unended_line-unbroken : (read bytes : List ℕ) → All (λ b. b ≢ 10) bytes → unended_line (read ++ bytes) ≡ unended_line read ++ bytes

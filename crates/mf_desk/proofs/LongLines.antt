@@ -1,5 +1,5 @@
 -- A line that is too long may be cut, as long as it stays too long.
-use Rattle.std.proofs.Common.{◌≡◌, ℕ, ◌+◌, ◌-◌, ◌<◌, ◌≤◌, List, ◌++◌, eqb, length, take, get_or, sym, ap, ◌∙◌, subst, arith, ⊎_elim, inr, length-take}
+use Rattle.std.proofs.Common.{◌≡◌, ℕ, ◌+◌, ◌-◌, ◌<◌, ◌≤◌, List, ◌++◌, eqb, length, take, get_or, sym, subst, arith, ⊎_elim, length-take}
 use Rattle.std.proofs.lemmas.Bool.{cases_lt, cond_both}
 use Rattle.std.proofs.lemmas.List.{take_all, take-append-le, length-take-le}
 use Rattle.std.specs.Str.Lines.{strip_carriage_return}
@@ -7,7 +7,7 @@ use Rattle.mf_desk.specs.declared.line_buffer.TheConstants.{MAX_KEPT}
 use Rattle.mf_text.specs.Lines.{IsRefused, longest_line}
 use Rattle.mf_text.specs.declared.fault.TextFault.{TextFault}
 use Rattle.mf_text.specs.declared.fault.TextFault.TheVariants.{LineTooLong, NotAscii, Syntax}
-use Rattle.mf_session.specs.Answers.{Answers, IsPerformed, IsRefusedLine}
+use Rattle.mf_session.specs.Answers.{Answers}
 use Rattle.mf_session.specs.States.{Answer, Limits, State}
 
 -- a line that is too long has no other refusal
@@ -20,23 +20,11 @@ refused-too_long xs ys fault long longer refused = absurd (omega (arith, refused
 -- so all lines that are too long have the same answer
 Answers-too_long : (limits : Limits) (s : State) (xs ys : List ℕ) (a : Answer) → longest_line < length xs → longest_line < length ys
     → Answers limits s xs a → Answers limits s ys a
-Answers-too_long limits s xs ys a long longer answer =
-    ⊎_elim
-    (λ (done : IsPerformed limits s xs a). absurd (omega (arith, done.given.line_is.text.short)))
-    (λ (no : IsRefusedLine s xs a). inr
-    (record { fault = no.fault; printable = no.printable; refused = refused-too_long xs ys no.fault long longer no.refused; answer = no.answer }))
-    answer
+Answers-too_long limits s xs ys a long longer answer = grind (arith, refused-too_long)
 
 -- of a line that grows, as many bytes are kept as of the complete line
 pub take-taken : (n : ℕ) (xs ys : List ℕ) → take n (take n xs ++ ys) ≡ take n (xs ++ ys)
-take-taken n xs ys =
-    ⊎_elim
-    (λ longer.
-    let within : n ≤ length xs = omega arith in
-    let kept : n ≤ length (take n xs) = omega (arith, length-take-le n xs within) in
-    take-append-le n (take n xs) ys kept ∙ take_all n (take n xs) (omega (arith, length-take-le n xs within)) ∙ sym (take-append-le n xs ys within))
-    (λ fits. ap (λ line. take n (line ++ ys)) (take_all n xs fits))
-    (cases_lt n (length xs))
+take-taken n xs ys = grind (arith, length-take-le, take-append-le, take_all, sym, cases_lt)
 
 -- a line loses at most the carriage return at its end
 length-stripped : (line : List ℕ) → length line ≤ length (strip_carriage_return line) + 1

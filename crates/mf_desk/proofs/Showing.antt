@@ -1,5 +1,5 @@
 -- The lines of the viewers of a run whose script has ended, one after another.
-use Rattle.std.proofs.Common.{◌≡◌, ◌≤◌, ◌<◌, ◌+◌, ℕ, List, [], ◌++◌, Option, length, refl, sym, ap, ◌∙◌, subst, arith}
+use Rattle.std.proofs.Common.{◌≡◌, ◌≤◌, ◌<◌, ◌+◌, ℕ, List, [], ◌++◌, Option, length, refl, sym, ap, ◌∙◌, arith}
 use Rattle.std.proofs.Common.{append_assoc, append-nil, length-append}
 use Rattle.std.specs.Io.KnownBytes.{Appends, Keeps}
 use Rattle.std.proofs.KnownBytes.{Appends-kept, Appends-nil, Appends-trans}
@@ -19,14 +19,7 @@ use Rattle.mf_desk.proofs.ViewerLines.{lines-nobody, lines-more}
 
 -- at first no line has gone out
 pub HasShown-start : (run : EndedRun) (held : Option (List ℕ)) → HasShown (last_looks run 0 held held) run
-HasShown-start run held =
-    let none = lines-nobody (glance run) in
-    record {
-      same = record { identity = refl; published = refl; file = refl };
-      out = rw none (Appends-nil held);
-      counted = omega (arith, ap length none);
-      at_most = omega arith;
-    }
+HasShown-start run held = grind (arith, lines-nobody, Appends-nil)
 
 -- a run after these looks
 module _ (l : LastLooks) (now : EndedRun) (is : HasShown l now) where
@@ -42,14 +35,7 @@ module _ (l : LastLooks) (now : EndedRun) (is : HasShown l now) where
   pub HasShown-next : (after : EndedRun) (later : Option (List ℕ)) (line : List ℕ) → IsSameEnd now after → line ≡ viewer_line l.viewers (glance now)
       → Appends l.holds later line → after.written ≡ now.written + length line → length line ≤ longest_text
       → HasShown (last_looks l.run (l.viewers + 1) l.held later) after
-  HasShown-next after later line same due out counted short =
-      let all = with_due line due in
-      record {
-        same = record { identity = same.identity ∙ is.same.identity; published = same.published ∙ is.same.published; file = same.file ∙ is.same.file };
-        out = subst (Appends l.held later) all (Appends-trans l.held l.holds later lines line is.out out);
-        counted = omega (arith, counted, is.counted, ap length all, length-append lines line);
-        at_most = omega (arith, counted, short, is.at_most);
-      }
+  HasShown-next after later line same due out counted short = grind (arith, with_due, Appends-trans, length-append)
 
   -- there are so many viewers
   module _ (viewers : ℕ) where

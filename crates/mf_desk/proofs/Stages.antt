@@ -1,7 +1,7 @@
 -- The stages of a run: what each step does to the state after some bytes.
 use Rattle.std.proofs.Common.{◌≡◌, ◌≢◌, ℕ, true, false, ◌+◌, List, [], ◌∷◌, ◌++◌, Option, eqb, length, take, refl, inl, inr, sym, ap, ◌∙◌, subst}
-use Rattle.std.proofs.Common.{append_assoc, append-nil, arith, length-append, length-take}
-use Rattle.std.specs.Io.KnownBytes.{Appends, IsAtEnd, Keeps}
+use Rattle.std.proofs.Common.{append_assoc, append-nil, arith, length-append}
+use Rattle.std.specs.Io.KnownBytes.{IsAtEnd, Keeps}
 use Rattle.std.specs.Prelude.{All}
 use Rattle.std.specs.Str.Lines.{lines, strip_carriage_return}
 use Rattle.std.proofs.KnownBytes.{Appends-kept, Appends-nil, Appends-trans}
@@ -141,12 +141,7 @@ module _ (held holds : Option (List ℕ)) (read : List ℕ) (run : Progress) (af
       → AreWholeLines left bytes (ended_lines read ++ others) → AreWholeLines left bytes (first ++ following) → Prolongs line first
       → BreaksLine line fault later → Gets held later (MakesPassage (Breaks bounds fault) left bytes)
   Breaks-text OutOfMemory left later bytes line others first following before with_line performs broken =
-      let (written, out, nothing) = broken in (
-        so_far.text,
-        subst (Appends held later) (ap (λ more. so_far.text ++ more) nothing ∙ append-nil so_far.text)
-            (Appends-trans held holds later so_far.text written so_far.out out),
-        first-text bounds left bytes (ended_lines read) others so_far.text so_far.last before so_far.performed,
-      )
+      grind (arith, append-nil, Appends-trans, first-text, before, broken)
   Breaks-text (WriteFault count) left later bytes line others first following before with_line performs broken =
       let (written, out, (counted, (rest, prints))) = broken in
       let (next, answer) = prints so_far.last so_far.stands in
@@ -173,9 +168,7 @@ module _ (held holds : Option (List ℕ)) (read : List ℕ) (run : Progress) (af
 
   -- there are bytes after the last line feed
   unended_line-some : eqb (length run.line) 0 ≡ false → eqb (length (unended_line read)) 0 ≡ false
-  unended_line-some some =
-      ne_eqb (length (unended_line read)) 0 (λ empty.
-      eqb-false (length run.line) 0 some (ap length after.line ∙ omega (arith, length-take MAX_KEPT (unended_line read))))
+  unended_line-some some = grind (arith, ne_eqb, eqb-false)
 
   -- the last line, which no line feed ends, has been performed
   performed-last : eqb (length run.line) 0 ≡ false → Prolongs run.line (lines read)
@@ -192,9 +185,7 @@ module _ (held holds : Option (List ℕ)) (read : List ℕ) (run : Progress) (af
 
   -- there is no byte after the last line feed
   pub unended_line-none : eqb (length run.line) 0 ≡ true → unended_line read ≡ []
-  unended_line-none none =
-      let kept : length (take MAX_KEPT (unended_line read)) ≡ 0 = ap length (sym after.line) ∙ eqb-true (length run.line) 0 none in
-      nil_from_length (unended_line read) (omega (arith, length-take MAX_KEPT (unended_line read)))
+  unended_line-none none = grind (arith, sym, eqb-true, nil_from_length)
 
   -- the last line ends with the script
   pub HasCounted-last : (later : Option (List ℕ)) (new : Performer) → eqb (length run.line) 0 ≡ false → limits new.session ≡ bounds

@@ -1,4 +1,4 @@
-use Rattle.std.proofs.Common.{◌≡◌, Err, ⊎_elim, inl, inr, sym, ap, subst, ◌∙◌, arith}
+use Rattle.std.proofs.Common.{◌≡◌, ⊎_elim, sym, ap, subst, ◌∙◌, arith}
 use Rattle.std.proofs.lemmas.Result.{IfErr-at_err, IfErr-weaker, IfOk-weaker, err_from_is_err_and}
 use Rattle.mf_desk.specs.declared.fault.RunFault.TheVariants as faults
 use Rattle.mf_desk.specs.ViewerFaults.{run_fault_of_start}
@@ -12,16 +12,10 @@ returns-in_err-memory-clause-fault g c =
     IfErr-raised c.from_residual.result _ c.from_residual.ensures.1 (TellsOfRun-nothing c.args.settings.now c.args.viewers _ _)
 
 pub returns-in_err-progress-clause-fault : goal.returns-in_err-progress-clause-fault
-returns-in_err-progress-clause-fault g c =
-    let refused = c.in_err-progress.ensures in
-    IfErr-raised c.from_residual-in_err-progress.result _ c.from_residual-in_err-progress.ensures.1
-    (TellsOfRun-unstarted c.args.settings.now c.args.viewers _ _ _ (λ long. refused.too_long.1 (ap Err long)) refused.fault)
+returns-in_err-progress-clause-fault g c = grind (arith, IfErr-raised, TellsOfRun-unstarted)
 
 pub returns-in_err-progress-clause-too_small : goal.returns-in_err-progress-clause-too_small
-returns-in_err-progress-clause-too_small g c =
-    let passed_on = err_from_is_err_and c.from_residual-in_err-progress.result c.from_residual-in_err-progress.ensures.1 in
-    rw (passed_on.1, passed_on.2)
-    (λ small. ⊎_elim (λ long. inl (ap Err long)) (λ wanting. inr (ap Err wanting)) c.in_err-progress.ensures.fault)
+returns-in_err-progress-clause-too_small g c = grind (arith, err_from_is_err_and)
 
 pub returns-in-Err-clause-fault : goal.returns-in-Err-clause-fault
 returns-in-Err-clause-fault g c =
@@ -55,6 +49,4 @@ returns-clause-fault g c =
     c.perform_beside_viewers.ensures.fault)
 
 pub returns-clause-no_place : goal.returns-clause-no_place
-returns-clause-no_place g c = λ place.
-    let (read, consumed, (written, out, told)) = IfErr-at_err _ place c.perform_beside_viewers.ensures.fault in
-    ⊎_elim (λ none. absurd none) (λ none. absurd none.1) told
+returns-clause-no_place g c = grind (arith, IfErr-at_err)

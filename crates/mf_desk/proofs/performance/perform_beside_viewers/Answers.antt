@@ -10,11 +10,10 @@ use Rattle.mf_base.proofs.Faults.{IfErr-raised}
 use Rattle.mf_desk.proofs.Performances.{TellsOfBegun-script, TellsOfBegun-end, TellsOfEnd-unfinished, IsPerformance-over}
 use Rattle.mf_desk.proofs.performance.perform_beside_viewers.Goals.{After-join-joined}
 use Rattle.mf_desk.proofs.performance.perform_beside_viewers.Goals as goal
+use Rattle.std.proofs.Common.{arith}
 
 pub returns-in_err-ended-clause-fault : goal.returns-in_err-ended-clause-fault
-returns-in_err-ended-clause-fault g c =
-    IfErr-raised c.from_residual.result _ c.from_residual.ensures.1
-    (TellsOfBegun-script c.args.settings.now (viewer_count c.args.watching) _ _ _ c.requires.limits c.in_err-ended.ensures.fault)
+returns-in_err-ended-clause-fault g c = grind (arith, IfErr-raised, TellsOfBegun-script)
 
 joined : (g : _) (c : After-join-joined g) (looks : ℕ) (Q : Watcher → Type 0)
     → AreStarted (identity c.args.progress.performer.session) looks c.args.watching

@@ -1,4 +1,4 @@
-use Rattle.std.proofs.Common.{ℕ, List, Option, Err, ⊎_elim, inl, inr, ap, length}
+use Rattle.std.proofs.Common.{ℕ, List, Option, Err, ap, length}
 use Rattle.std.specs.Io.KnownBytes.{Appends}
 use Rattle.std.proofs.KnownBytes.{Appends-nil}
 use Rattle.std.proofs.lemmas.List.Elements.{All-nil}
@@ -12,6 +12,7 @@ use Rattle.mf_desk.proofs.Performances.{TellsOfBegun-end, TellsOfBegun-script, T
 use Rattle.mf_desk.proofs.Performances.{IsPerformance-over, TellsOfRun-nothing, TellsOfRun-unstarted}
 use Rattle.mf_desk.proofs.ViewerLines.{lines-nobody}
 use Rattle.mf_desk.proofs.script.run.Goals as goal
+use Rattle.std.proofs.Common.{arith}
 
 -- no line of a viewer is written
 nobody : (holds : Option (List ℕ)) (run : EndedRun) → Appends holds holds (viewer_lines 0 (glance run))
@@ -22,22 +23,14 @@ returns-in_err-memory-clause-fault g c =
     IfErr-raised c.from_residual.result _ c.from_residual.ensures.1 (TellsOfRun-nothing c.args.settings.now 0 _ _)
 
 pub returns-in_err-progress-clause-fault : goal.returns-in_err-progress-clause-fault
-returns-in_err-progress-clause-fault g c =
-    let refused = c.in_err-progress.ensures in
-    IfErr-raised c.from_residual-in_err-progress.result _ c.from_residual-in_err-progress.ensures.1
-    (TellsOfRun-unstarted c.args.settings.now 0 _ _ _ (λ long. refused.too_long.1 (ap Err long)) refused.fault)
+returns-in_err-progress-clause-fault g c = grind (arith, IfErr-raised, TellsOfRun-unstarted)
 
 pub returns-in_err-progress-clause-too_small : goal.returns-in_err-progress-clause-too_small
-returns-in_err-progress-clause-too_small g c =
-    let passed_on = err_from_is_err_and c.from_residual-in_err-progress.result c.from_residual-in_err-progress.ensures.1 in
-    rw (passed_on.1, passed_on.2)
-    (λ small. ⊎_elim (λ long. inl (ap Err long)) (λ wanting. inr (ap Err wanting)) c.in_err-progress.ensures.fault)
+returns-in_err-progress-clause-too_small g c = grind (arith, err_from_is_err_and)
 
 pub returns-in_err-ended-clause-fault : goal.returns-in_err-ended-clause-fault
 returns-in_err-ended-clause-fault g c =
-    IfErr-raised c.from_residual-in_err-ended.result _ c.from_residual-in_err-ended.ensures.1
-    (TellsOfRun-begun c.args.settings.now 0 _ _
-    (TellsOfBegun-script c.args.settings.now 0 _ _ _ c.in_ok-progress.ensures.limits c.in_err-ended.ensures.fault))
+    grind (arith, IfErr-raised, TellsOfRun-begun, TellsOfBegun-script, c.from_residual-in_err-ended.ensures.1, c.in_ok-progress.ensures.limits, c.in_err-ended.ensures.fault)
 
 pub returns-in_err-gf-clause-fault : goal.returns-in_err-gf-clause-fault
 returns-in_err-gf-clause-fault g c =

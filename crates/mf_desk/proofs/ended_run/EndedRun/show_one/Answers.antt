@@ -2,7 +2,7 @@ use Rattle.std.proofs.Common.{◌≡◌, ◌+◌, ◌∙◌, length, take, drop,
 use Rattle.std.specs.Io.KnownBytes.{Appends}
 use Rattle.std.proofs.lemmas.List.{length-take-le}
 use Rattle.std.proofs.lemmas.List.Elements.{All-push}
-use Rattle.mf_watch.specs.Watchers.{HasSeen, glance_at, record_of}
+use Rattle.mf_watch.specs.Watchers.{HasSeen, record_of}
 use Rattle.mf_desk.specs.EndedRuns.{HasSeenLast, glance}
 use Rattle.mf_desk.specs.Performances.{viewer_line}
 use Rattle.mf_base.proofs.Faults.{IfErr-raised}
@@ -27,10 +27,7 @@ returns-in_err-push-clause-fault g c =
 
 -- the line is the one that is due
 due : (g : _) (c : In_ok-line g) → c.in_ok-line.line.items ≡ viewer_line (length c.args.seen.now.items) (glance c.args.self.now)
-due g c =
-    let number_is = c.len-number.ensures ∙ c.args.seen.now.ok.0 in
-    let glance_is = c.in_ok-glance.ensures.glance ∙ ap glance_at c.notice.ensures.told in
-    c.in_ok-line.ensures ∙ ap (λ n. viewer_line n c.in_ok-glance.glance) number_is ∙ ap (λ v. viewer_line (length c.args.seen.now.items) v) glance_is
+due g c = grind (arith)
 
 pub returns-in-Ok-clause-seen : goal.returns-in-Ok-clause-seen
 returns-in-Ok-clause-seen g c = λ run looks same recorded kept.

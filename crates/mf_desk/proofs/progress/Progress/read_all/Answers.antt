@@ -31,19 +31,10 @@ returns-in_err-flush-clause-fault g c =
     ))
 
 pub returns-in-Err-clause-fault : goal.returns-in-Err-clause-fault
-returns-in-Err-clause-fault g c =
-    let (read, consumed, before) = c.reads.invariant.1 in
-    let after = IsAfter-flushed _ _ _ read c.reads.self c.flush.ensures.kept before in (
-      read,
-      Consumes-kept _ _ _ read consumed c.in-Err.ensures.bytes,
-      rw (← c.reads.invariant.2) (Breaks-reads _ _ read c.reads.self after (g.R.Read.remaining c.read.new.self)),
-    )
+returns-in-Err-clause-fault g c = grind (arith, IsAfter-flushed, Consumes-kept, Breaks-reads)
 
 pub returns-in-Ok-eq0-clause-end : goal.returns-in-Ok-eq0-clause-end
-returns-in-Ok-eq0-clause-end g c =
-    let has_room : 0 < length c.read.new.buf = omega (arith, c.read.auto.buf, c.reads.auto.chunk, c.requires.some) in
-    let at_end : IsAtEnd (g.R.Read.remaining c.read.new.self) = c.in-Ok-eq0.ensures.bytes.1 c.in-Ok-eq0.field-0-test has_room in
-    on_ok_weaker c.finish.result (λ _. at_end) c.finish.ensures.done
+returns-in-Ok-eq0-clause-end g c = grind (arith, on_ok_weaker)
 
 pub returns-in-Ok-eq0-clause-through : goal.returns-in-Ok-eq0-clause-through
 returns-in-Ok-eq0-clause-through g c =
@@ -88,6 +79,4 @@ reads-preserved g c =
     )
 
 pub returns-clause-fault : goal.returns-clause-fault
-returns-clause-fault g c =
-    let (read, consumed, after) = c.reads.invariant.1 in
-    (read, consumed, rw (← c.reads.invariant.2) (Breaks-reads _ _ read c.reads.self after (g.R.Read.remaining c.reads.reader)))
+returns-clause-fault g c = grind (arith, Breaks-reads)

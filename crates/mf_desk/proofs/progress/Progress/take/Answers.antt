@@ -57,10 +57,4 @@ pub lines-init : goal.lines-init
 lines-init g c = ([], refl, omega arith, λ held read after. rw (append-nil read) after, refl, refl)
 
 pub take_line-requires-clause-unbroken : goal.take_line-requires-clause-unbroken
-take_line-requires-clause-unbroken g c = λ k d within is.
-    let first = c.in-Some.ensures.0 in
-    let rest = c.lines.rest.now in
-    let at = c.in-Some.place in
-    let below : k < at = omega (arith, within, first.high, length-take-le at rest (omega (arith, first.high))) in
-    let inside : k < length rest = omega (arith, below, first.high) in
-    first.before k (omega arith) below (eq-eqb _ 10 (get_or_default rest k 0 d inside ∙ sym (get_or-take at rest k d below) ∙ is))
+take_line-requires-clause-unbroken g c = grind (arith, length-take-le, eq-eqb, get_or_default, sym, get_or-take)
