@@ -6,4 +6,5 @@ pub mod Faults
 pub mod Fonts
 pub mod Messages
 pub mod Performances
+pub mod Sides
 pub mod Statuses

@@ -2,18 +2,19 @@
 ghost use Rattle.std.specs.Prelude.{◌≡◌, Err, IfErr, IfOk, IsErr, IsErrAnd, IsSome, None, OnErr, OnOk};
 ghost use denote.Param.Send.{IsSync, IsSend};
 ghost use Rattle.mf_easel.specs.Easels as easels;
+ghost use Rattle.mf_easel.specs.Screens.{screen_of};
 ghost use Rattle.mf_live.specs.Writers.{ended_identity, ended_published_list};
 ghost use Rattle.mf_session.specs.Endings.{IsFileOf, complete_list};
 ghost use Rattle.mf_session.specs.States.{State, start};
-ghost use Rattle.mf_stage.specs.Faults.{BreaksScript};
 ghost use Rattle.mf_stage.specs.Stages as stages;
 ghost use Rattle.mf_stage.specs.Stages.{StandsFor, limits};
-ghost use Rattle.mf_stage.specs.Scripts.{PerformsAll, StillStands, act_of};
+ghost use Rattle.mf_stage.specs.Scripts.{act_of};
 ghost use Rattle.mf_view.specs.Broken.{IsBrokenOff, IsOfEnd};
 ghost use Rattle.mf_view.specs.Causes.{fault_of_stage};
 ghost use Rattle.mf_view.specs.Faults.{ConcernsPlate, HadPlace, IsToldAfter};
-ghost use Rattle.mf_view.specs.Drawings.{DrawsMore, DrawsPart, EndsDrawing, HasDrawnPart, LeavesPart, receipt};
+ghost use Rattle.mf_view.specs.Drawings.{EndsDrawing, HasDrawnPart, LeavesPart, receipt};
 ghost use Rattle.mf_view.specs.Performances.{Shows, screen_streams, script_limits};
+ghost use Rattle.mf_view.specs.Sides.{DrawsBeside, PerformsBeside, easel_act};
 
 use crate::drawing::{draw, draw_last, draw_on};
 use crate::fault::ProgramFault;
@@ -188,29 +189,16 @@ fn perform_beside<
     transcript: &mut T,
     pace: &P,
 ) -> Sides
-    ensures stage_identity { stages.identity stage.new ≡ stages.identity stage.old }
-    ensures plates { stages.plates_of stage.new ≡ stages.plates_of stage.old }
-    ensures easel_identity { easels.identity easel.new ≡ easels.identity easel.old }
-    ensures manner { easels.HasSameManner easel.old easel.new }
-    ensures stopped { IfErr first (λ fault. (result.drawn ≡ Err fault) × (screen.new ≡ screen.old)) }
-    ensures drawn { OnOk result.drawn (DrawsMore easel.old easel.new (W.contents screen.old) (W.contents screen.new)) }
-    ensures part { OnOk first (OnErr result.drawn (DrawsPart easel.old (W.contents screen.old) (W.contents screen.new))) }
-    ensures stands { OnOk result.performed (StillStands stage.old stage.new) }
-    ensures transcript { OnOk result.performed
-        (PerformsAll (act_of stage.old stage.new (T.contents transcript.old) (T.contents transcript.new)) (R.remaining reader.old)) }
-    ensures fault { IfErr result.performed
-        (BreaksScript (act_of stage.old stage.new (T.contents transcript.old) (T.contents transcript.new)) (R.remaining reader.old)) }
+    ensures drawing { DrawsBeside first (easel_act easel.old easel.new (screen_of W.contents screen.old screen.new)) result.drawn }
+    ensures script { PerformsBeside (act_of stage.old stage.new (T.contents transcript.old) (T.contents transcript.new))
+        (R.remaining reader.old) result.performed }
 {
     let ended = AtomicBool::new(false);
     let (drawn, performed) = join_mut(
         rt,
         &mut || -> Result<(), EaselFault>
             requires { IsSync S.row × IsSync P.row × IsSend W.row }
-            ensures { (easels.identity easel.exit.now ≡ easels.identity easel.entry.now)
-                × easels.HasSameManner easel.entry.now easel.exit.now
-                × IfErr first (λ fault. (result ≡ Err fault) × (screen.exit.now ≡ screen.entry.now))
-                × OnOk result (DrawsMore easel.entry.now easel.exit.now (W.contents screen.entry.now) (W.contents screen.exit.now))
-                × OnOk first (OnErr result (DrawsPart easel.entry.now (W.contents screen.entry.now) (W.contents screen.exit.now))) }
+            ensures { DrawsBeside first (easel_act easel.entry.now easel.exit.now (screen_of W.contents screen.entry.now screen.exit.now)) result }
         {
             match first {
                 Ok(()) => draw_on(rt, alloc, easel, screen, pace, &ended),
@@ -218,13 +206,8 @@ fn perform_beside<
             }
         },
         &mut || -> Result<(), StageFault>
-            ensures { (stages.identity stage.exit.now ≡ stages.identity stage.entry.now)
-                × (stages.plates_of stage.exit.now ≡ stages.plates_of stage.entry.now)
-                × OnOk result (StillStands stage.entry.now stage.exit.now)
-                × OnOk result (PerformsAll (act_of stage.entry.now stage.exit.now (T.contents transcript.entry.now)
-                (T.contents transcript.exit.now)) (R.remaining reader.entry.now))
-                × IfErr result (BreaksScript (act_of stage.entry.now stage.exit.now (T.contents transcript.entry.now)
-                (T.contents transcript.exit.now)) (R.remaining reader.entry.now)) }
+            ensures { PerformsBeside (act_of stage.entry.now stage.exit.now (T.contents transcript.entry.now) (T.contents transcript.exit.now))
+                (R.remaining reader.entry.now) result }
         {
             let performed = stage.perform(rt, alloc, &mut *reader, transcript, pace);
             ended.store(true, Ordering::SeqCst);

@@ -8,14 +8,15 @@ use Rattle.mf_view.proofs.performance.show.Goals as goal
 
 pub conclude-requires-clause-stands : goal.conclude-requires-clause-stands
 conclude-requires-clause-stands g c =
-    stands-after c.args.stage c.perform_beside-drawn.new.stage c.perform_beside-drawn.result.performed c.requires.start c.perform_beside-drawn.ensures.stands
+    stands-after c.args.stage c.perform_beside-drawn.new.stage c.perform_beside-drawn.result.performed c.requires.start
+    c.perform_beside-drawn.ensures.script.stands
 
 -- how far the drawing has come when the performance is concluded
 drawn : (g : _) (c : After-and-drawn g) → HasDrawnAs c.and-drawn.result c.perform_beside-drawn.new.easel (g.W.Write.contents c.args.screen.now)
     (g.W.Write.contents c.perform_beside-drawn.new.screen)
 drawn g c =
     let first = c.draw-first.ensures in
-    let beside = c.perform_beside-drawn.ensures in
+    let beside = c.perform_beside-drawn.ensures.drawing in
     let held = g.W.Write.contents c.args.screen.now in
     rw c.and-drawn.ensures (drawn-both g.W.Write.contents held held c.draw-first.new.screen c.perform_beside-drawn.new.screen
     c.args.easel c.draw-first.new.easel c.perform_beside-drawn.new.easel c.draw-first.result c.perform_beside-drawn.result.drawn
@@ -25,26 +26,26 @@ pub returns-clause-shown : goal.returns-clause-shown
 returns-clause-shown g c =
     shown-whole _ _ c.args.stage c.perform_beside-drawn.new.stage c.requires.limits c.requires.start c.perform_beside-drawn.result.performed
     c.conclude.result
-    c.perform_beside-drawn.ensures.transcript
+    c.perform_beside-drawn.ensures.script.transcript
     c.conclude.ensures.script
     c.conclude.ensures.file
     (shown-end c.args.easel c.perform_beside-drawn.new.easel c.perform_beside-drawn.new.stage _ _ _ c.and-drawn.result c.conclude.result
-    (c.perform_beside-drawn.ensures.manner ∙ c.draw-first.ensures.manner)
+    (c.perform_beside-drawn.ensures.drawing.manner ∙ c.draw-first.ensures.manner)
     (drawn g (goal.at.returns-clause-shown g c).After-and-drawn) c.conclude.ensures.shown)
 
 pub returns-clause-part : goal.returns-clause-part
 returns-clause-part g c =
     part-end c.args.easel c.perform_beside-drawn.new.easel _ _ (g.W.Write.contents c.conclude.new.screen) c.and-drawn.result c.conclude.result
-    (c.perform_beside-drawn.ensures.manner ∙ c.draw-first.ensures.manner)
+    (c.perform_beside-drawn.ensures.drawing.manner ∙ c.draw-first.ensures.manner)
     (drawn g (goal.at.returns-clause-part g c).After-and-drawn) c.conclude.ensures.part
 
 pub returns-clause-fault : goal.returns-clause-fault
 returns-clause-fault g c =
     broken-whole c.args.stage c.perform_beside-drawn.new.stage _ _ _ c.requires.limits c.requires.start
-    c.perform_beside-drawn.result.performed c.conclude.result c.perform_beside-drawn.ensures.transcript
-    c.perform_beside-drawn.ensures.fault c.conclude.ensures.script c.conclude.ensures.late
+    c.perform_beside-drawn.result.performed c.conclude.result c.perform_beside-drawn.ensures.script.transcript
+    c.perform_beside-drawn.ensures.script.fault c.conclude.ensures.script c.conclude.ensures.late
 
 pub returns-clause-plates : goal.returns-clause-plates
 returns-clause-plates g c =
     asked-whole c.args.stage c.perform_beside-drawn.new.stage _ _ _ c.requires.limits c.requires.start c.perform_beside-drawn.result.performed c.conclude.result
-    c.perform_beside-drawn.ensures.plates c.perform_beside-drawn.ensures.fault c.conclude.ensures.script c.conclude.ensures.plates
+    c.perform_beside-drawn.ensures.script.plates c.perform_beside-drawn.ensures.script.fault c.conclude.ensures.script c.conclude.ensures.plates
