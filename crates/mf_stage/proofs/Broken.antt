@@ -106,7 +106,7 @@ under_way-broken act unread left fault was between =
     record {
       input = input;
       known = known;
-      broken = λ s stands.
+      such = λ s stands.
           let performed = was.performed s stands in
           record {
             last = performed.last;
@@ -135,7 +135,7 @@ under_way-cut before now later unread left remaining held holds last line fault 
     record {
       input = input;
       known = known;
-      broken = λ s stands.
+      such = λ s stands.
           let performed = was.performed s stands in
           subst (λ ls. AreBrokenOff (act_of before later held last) s ls fault) (sym first)
           (broken-after before now later s was.done one more fault held holds last same same_plates performed (breaks performed.last performed.stands));

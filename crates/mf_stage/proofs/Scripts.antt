@@ -124,4 +124,4 @@ ended (Some input) left done first end =
 pub under_way-end : (act : Act) (unread left : Option (List ℕ)) → IsUnderWay act unread left → IsAtEnd left → PerformsAll act unread
 under_way-end act unread left was end =
     let (input, known, all) = ended unread left was.done was.first end in
-    record { input = input; known = known; performed = subst (PerformsLines act) (sym all) was.performed }
+    record { input = input; known = known; such = subst (PerformsLines act) (sym all) was.performed }

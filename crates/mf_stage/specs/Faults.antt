@@ -1,5 +1,5 @@
 -- What has been performed and written where a fault ends a script.
-use Rattle.std.specs.Prelude.{◌≡◌, ◌⊎◌, ℕ, IfSome, IsSome, List, ◌∷◌, ◌++◌, Option}
+use Rattle.std.specs.Prelude.{◌≡◌, ◌⊎◌, ℕ, IsSome, List, ◌∷◌, ◌++◌, Option}
 use Rattle.std.specs.Io.KnownBytes.{Appends}
 use Rattle.std.specs.Str.Lines.{lines}
 use Rattle.mf_image.specs.Boxes.{IsTooLargeForImage}
@@ -8,7 +8,7 @@ use Rattle.mf_rows.specs.Dots.{Dot}
 use Rattle.mf_session.specs.Answers.{Answers}
 use Rattle.mf_session.specs.States.{State, answer_with}
 use Rattle.mf_session.specs.Transcript.{DueLines, IsFirstText, Perform, due_lines}
-use Rattle.mf_stage.specs.Scripts.{Act}
+use Rattle.mf_stage.specs.Scripts.{Act, OfInput}
 use Rattle.mf_stage.specs.Stages.{StandsFor, limits, plates_of}
 use Rattle.mf_stage.specs.declared.fault.StageFault.{StageFault}
 use Rattle.mf_stage.specs.declared.fault.StageFault.TheVariants.{OutOfMemory, FileTooLong, ReadFault, WriteFault, ImageTooLarge, PlateFault}
@@ -74,12 +74,9 @@ pub record AreBrokenOff (act : Act) (s : State) (whole : List (List ℕ)) (fault
 abbrev pub BreaksLines : Act → List (List ℕ) → StageFault → Type 0
 BreaksLines act whole fault = (s : State) → StandsFor act.before s → AreBrokenOff act s whole fault
 
--- in this act the fault has broken a script off: that of which its reader had the bytes, where these are known, and else that of some
--- bytes
-pub record BreaksScript (act : Act) (unread : Option (List ℕ)) (fault : StageFault) : Type 0 where
-  pub input : List ℕ
-  pub known : IfSome unread (λ bytes. input ≡ bytes)
-  pub broken : BreaksLines act (lines input) fault
+-- in this act the fault has broken a script off, that of its reader
+abbrev pub BreaksScript : Act → Option (List ℕ) → StageFault → Type 0
+BreaksScript act unread fault = OfInput unread (λ input. BreaksLines act (lines input) fault)
 
 -- with this fault this picture, which has this revision, has no image: with `ImageTooLarge` only where it is too large
 abbrev pub IsOfImage : ℕ → List Dot → StageFault → Type 0

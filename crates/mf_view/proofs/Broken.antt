@@ -30,34 +30,23 @@ concerns-stage cause concerns = absurd concerns
 module _ (before after : Stage) (unread told tells : Option (List ℕ)) (limited : limits before ≡ script_limits) (begins : StandsFor before start) where
   broken-script : (cause : StageFault) → BreaksScript (act_of before after told tells) unread cause → IsBrokenOff unread told tells (fault_of_stage cause)
   broken-script cause broken =
-      let stopped = broken.broken start begins in
+      let stopped = broken.such start begins in
+      let told = subst (λ l. TellsOfScript (due_lines l start (lines broken.input)) stopped.last cause stopped.written) limited stopped.told in
       record {
         input = broken.input;
         known = broken.known;
-        last = stopped.last;
-        written = stopped.written;
-        out = stopped.out;
-        tells_is = inl (
-          cause,
-          refl,
-          subst (λ l. TellsOfScript (due_lines l start (lines broken.input)) stopped.last cause stopped.written) limited stopped.told,
-        );
+        such = record { last = stopped.last; written = stopped.written; out = stopped.out; tells_is = inl (cause, refl, told) };
       }
 
   broken-end : (fault : ProgramFault) → PerformsAll (act_of before after told tells) unread
       → ((s : State) → StandsFor after s → IsOfEnd s.pictures.accepted fault) → IsBrokenOff unread told tells fault
   broken-end fault script late =
-      let done = script.performed start begins in
+      let done = script.such start begins in
+      let performed = subst (λ l. Perform l start (lines script.input) (answer_with done.text done.last)) limited done.performed in
       record {
         input = script.input;
         known = script.known;
-        last = done.last;
-        written = done.text;
-        out = done.out;
-        tells_is = inr (inl (
-          subst (λ l. Perform l start (lines script.input) (answer_with done.text done.last)) limited done.performed,
-          late done.last done.stands,
-        ));
+        such = record { last = done.last; written = done.text; out = done.out; tells_is = inr (inl (performed, late done.last done.stands)) };
       }
 
   -- the fault is that of the script, or one after it
@@ -81,7 +70,7 @@ module _ (before after : Stage) (unread told tells : Option (List ℕ)) (limited
   asked-whole (Ok done) (Err fault) same broken is asked = λ concerns. subst IsSome same (asked concerns)
   asked-whole (Err cause) r same broken is asked =
       subst (λ r. IfErr r (λ fault. ConcernsPlate fault → IsSome (plates_of before))) (sym is)
-      (λ concerns. (broken.broken start begins).asked (concerns-stage cause concerns))
+      (λ concerns. (broken.such start begins).asked (concerns-stage cause concerns))
 
 some-bytes : (unread : Option (List ℕ)) → (input : List ℕ) × IfSome unread (λ bytes. input ≡ bytes)
 some-bytes None = ([], tt)
@@ -94,16 +83,22 @@ broken-memory unread told =
     record {
       input = input;
       known = known;
-      last = start;
-      written = [];
-      out = Appends-nil told;
-      tells_is = inl (stages.OutOfMemory, refl, record { done = []; more = lines input; first = refl; performed = refl });
+      such = record {
+        last = start;
+        written = [];
+        out = Appends-nil told;
+        tells_is = inl (stages.OutOfMemory, refl, record { done = []; more = lines input; first = refl; performed = refl });
+      };
     }
 
 pub broken-place : (unread told : Option (List ℕ)) → IsBrokenOff unread told told NoPlace
 broken-place unread told =
     let (input, known) = some-bytes unread in
-    record { input = input; known = known; last = start; written = []; out = Appends-nil told; tells_is = inr (inr (refl, refl)) }
+    record {
+      input = input;
+      known = known;
+      such = record { last = start; written = []; out = Appends-nil told; tells_is = inr (inr (refl, refl)) };
+    }
 
 -- no stage could be made
 pub broken-stage : (unread told : Option (List ℕ)) (cause : StageFault) → (cause ≡ stages.FileTooLong) ⊎ (cause ≡ stages.OutOfMemory)
@@ -130,6 +125,6 @@ roomy-tells d last written (inr (inl (done, late))) = late
 roomy-tells d last written (inr (inr (is, nothing))) = cc
 
 pub roomy : (transcript : Option (List ℕ)) (s : ScreenStreams) → IsBrokenOffInto transcript s TooSmall → ⊥
-roomy None s broken = roomy-tells _ broken.last broken.written broken.tells_is
+roomy None s broken = roomy-tells _ broken.such.last broken.such.written broken.such.tells_is
 roomy (Some path) s (same, inl (is, drawn)) = cc
-roomy (Some path) s (same, inr (empty, full, broken)) = roomy-tells _ broken.last broken.written broken.tells_is
+roomy (Some path) s (same, inr (empty, full, broken)) = roomy-tells _ broken.such.last broken.such.written broken.such.tells_is

@@ -67,18 +67,19 @@ module _ (m : Manner) (s : ScreenStreams) (before after : Stage) (limited : limi
       → ((t : State) → StandsFor after t → ShowsLast m (complete_list t.pictures) s.held s.holds)
       → Shows m s file
   shown-file file script of_file shown =
-      let done = script.performed start begins in (
-        script.input,
-        script.known,
-        record {
+      let done = script.such start begins in
+      record {
+        input = script.input;
+        known = script.known;
+        such = record {
           text = done.text;
           last = done.last;
           performed = subst (λ limits. Perform limits start (lines script.input) (answer_with done.text done.last)) limited done.performed;
           out = done.out;
           shown = shown done.last done.stands;
           file_is = (of_file done.last done.stands).keeps;
-        },
-      )
+        };
+      }
 
   pub shown-whole : (performed : Result (Unit {0}) StageFault) (r : Result GfFile ProgramFault)
       → OnOk performed (PerformsAll (act_of before after s.told s.tells) s.unread)

@@ -1,5 +1,5 @@
 -- What a performance has written of its transcript where it ends with a fault.
-use Rattle.std.specs.Prelude.{◌≡◌, ◌⊎◌, ℕ, IfSome, List, [], Option}
+use Rattle.std.specs.Prelude.{◌≡◌, ◌⊎◌, ℕ, List, [], Option}
 use Rattle.std.specs.Io.KnownBytes.{Appends}
 use Rattle.std.specs.Str.Lines.{lines}
 use Rattle.mf_image.specs.Boxes.{IsTooLargeForImage}
@@ -7,6 +7,7 @@ use Rattle.mf_live.specs.Entries.{Entry, picture_at, revision_at}
 use Rattle.mf_session.specs.States.{State, answer_with, start}
 use Rattle.mf_session.specs.Transcript.{DueLines, Perform, due_lines}
 use Rattle.mf_stage.specs.Faults.{TellsOfScript}
+use Rattle.mf_stage.specs.Scripts.{OfInput}
 use Rattle.mf_stage.specs.declared.fault.StageFault.{StageFault}
 use Rattle.mf_view.specs.Causes.{fault_of_stage}
 use Rattle.mf_view.specs.Performances.{script_limits}
@@ -29,12 +30,14 @@ TellsOfPerformance d last fault written =
     ((cause : StageFault) × (fault ≡ fault_of_stage cause) × TellsOfScript d last cause written)
     ⊎ ((Perform d.limits d.from d.whole (answer_with written last) × IsOfEnd last.pictures.accepted fault) ⊎ ((fault ≡ NoPlace) × (written ≡ [])))
 
--- a fault has broken off the performance of a script: of the one that the reader had, where this is known, and else of some bytes; the
--- transcript, which told some bytes before, tells what the fault says
-pub record IsBrokenOff (unread told tells : Option (List ℕ)) (fault : ProgramFault) : Type 0 where
-  pub input : List ℕ
-  pub known : IfSome unread (λ bytes. input ≡ bytes)
+-- a fault has broken off the performance of the script of these bytes; the transcript, which told some bytes before, tells what the fault
+-- says
+pub record BreaksInput (told tells : Option (List ℕ)) (fault : ProgramFault) (input : List ℕ) : Type 0 where
   pub last : State
   pub written : List ℕ
   pub out : Appends told tells written
   pub tells_is : TellsOfPerformance (due_lines script_limits start (lines input)) last fault written
+
+-- a fault has broken off the performance of a script, that of the reader
+abbrev pub IsBrokenOff : Option (List ℕ) → Option (List ℕ) → Option (List ℕ) → ProgramFault → Type 0
+IsBrokenOff unread told tells fault = OfInput unread (BreaksInput told tells fault)

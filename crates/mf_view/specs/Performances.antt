@@ -1,5 +1,5 @@
 -- What a performance has written.
-use Rattle.std.specs.Prelude.{◌≡◌, ℕ, IfSome, List, [], Option}
+use Rattle.std.specs.Prelude.{ℕ, List, [], Option}
 use Rattle.std.specs.Io.KnownBytes.{Appends}
 use Rattle.std.specs.Str.Lines.{lines}
 use Rattle.mf_easel.specs.Easels.{Manner}
@@ -8,6 +8,7 @@ use Rattle.mf_gf.specs.Keeping.{Keeps}
 use Rattle.mf_session.specs.Endings.{complete_list}
 use Rattle.mf_session.specs.States.{Limits, State, answer_with, limits_of, most_bytes, most_operations, start}
 use Rattle.mf_session.specs.Transcript.{Perform}
+use Rattle.mf_stage.specs.Scripts.{OfInput}
 use Rattle.mf_view.specs.Drawings.{Receipt, ShowsLast}
 
 -- the limits of a script (here as well as in the code, so that a wrong constant there is not proved)
@@ -37,6 +38,6 @@ pub record IsShown (manner : Manner) (s : ScreenStreams) (file : GfFile) (input 
   pub shown : ShowsLast manner (complete_list last.pictures) s.held s.holds
   pub file_is : Keeps file [] last.characters
 
--- a script was performed and shown: the one that the reader had, where this is known, and else some bytes
+-- a script was performed and shown, that of the reader
 abbrev pub Shows : Manner → ScreenStreams → GfFile → Type 0
-Shows manner s file = (input : List ℕ) × IfSome s.unread (λ known. input ≡ known) × IsShown manner s file input
+Shows manner s file = OfInput s.unread (IsShown manner s file)
