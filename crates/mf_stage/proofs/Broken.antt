@@ -1,6 +1,6 @@
 -- Scripts that a fault has broken off.
 use Rattle.std.proofs.Common.{◌≡◌, ◌⊎◌, ◌++◌, ◌∷◌, [], ℕ, List, Option, None, Some, IfSome, inl, inr, is_some, refl, sym, ap, subst, ◌∙◌}
-use Rattle.std.proofs.Common.{⊎_elim, append-nil, append_assoc}
+use Rattle.std.proofs.Common.{append-nil, append_assoc}
 use Rattle.std.proofs.KnownBytes.{Appends-nil, Appends-trans}
 use Rattle.std.proofs.lemmas.Bool.{false≢true}
 use Rattle.std.specs.Io.KnownBytes.{Appends}
@@ -8,14 +8,14 @@ use Rattle.std.specs.Prelude.{IsSome, IsSomeAnd}
 use Rattle.std.specs.Str.Lines.{lines}
 use Rattle.mf_base.specs.Messages.{GetsFront}
 use Rattle.mf_image.specs.Boxes.{IsTooLargeForImage}
-use Rattle.mf_live.specs.Entries.{Entry, picture_at, revision_at}
+use Rattle.mf_live.specs.Entries.{Entry, picture_at}
 use Rattle.mf_session.proofs.Performing.{Perform-append, Perform-one}
 use Rattle.mf_session.specs.Answers.{Answers}
 use Rattle.mf_session.specs.States.{Limits, State, answer_with}
 use Rattle.mf_session.specs.Transcript.{DueLines, IsFirstText, Perform, due_lines}
 use Rattle.mf_stage.proofs.Performed.{published-all}
 use Rattle.mf_stage.proofs.Scripts.{AreFirstLines, IsUnderWay, under_way-line, under_way-start}
-use Rattle.mf_stage.specs.Faults.{BreaksLines, BreaksScript, ConcernsPlate, AreBrokenOff, IsCutText, IsOfPlate, IsPublishedAs, TellsOfScript}
+use Rattle.mf_stage.specs.Faults.{BreaksLines, BreaksScript, ConcernsPlate, AreBrokenOff, IsCutText, IsOfPlate, TellsOfScript}
 use Rattle.mf_stage.specs.Lines.{IsReadLine, Reads, without_ending}
 use Rattle.mf_stage.specs.Publications.{IsPlateIfAsked}
 use Rattle.mf_stage.specs.Scripts.{Act, HasPerformedLine, PerformsFrom, act_of}
@@ -185,11 +185,10 @@ line-first limits s next line text answer =
 
 tells-published : (d : DueLines) (next : State) (fault : StageFault) (text : List ℕ) → IsFirstText d next text
     → next.pictures.published ≡ next.pictures.accepted → IsOfPlate next.pictures.published fault → TellsOfScript d next fault text
-tells-published d next fault text first all is =
-    let published : IsPublishedAs (revision_at next.pictures.published) next = record { all = all; revision_is = refl } in
-    ⊎_elim (⊎_elim (λ memory. subst (λ f. TellsOfScript d next f text) (sym memory) first)
-    (λ large. subst (λ f. TellsOfScript d next f text) (sym large.0) (first, published, large.1)))
-    (λ plate. subst (λ f. TellsOfScript d next f text) (sym plate.0) (first, published, plate.1)) is
+tells-published d next OutOfMemory text first all is = first
+tells-published d next (ImageTooLarge revision) text first all is = (first, all, is)
+tells-published d next (PlateFault revision) text first all is = (first, all, is)
+tells-published d next fault text first all is = absurd is
 
 -- a line was performed and its text was written, and then the plate of what it has published fails
 pub line-published : (act : Act) (s next : State) (line text : List ℕ) (fault : StageFault)
@@ -219,4 +218,5 @@ line-unwritten act s line fault (Some publication) done (is, some) =
     let (given, of_list) = done.made_is in
     let all = published-all (limits act.before) s line (answer_with done.text done.next) done.answer given in
     let (asked, fits) = plate-made (plates_of act.before) done.next.pictures.published publication.plate of_list.plate some in
-    line-published act s done.next line done.text fault done.answer done.stands done.out all (inr (is ∙ ap PlateFault of_list.revision, fits)) asked
+    line-published act s done.next line done.text fault done.answer done.stands done.out all
+    (subst (IsOfPlate done.next.pictures.published) (sym is) (sym of_list.revision, fits)) asked

@@ -1,5 +1,5 @@
 -- What has been performed and written where a fault ends a script.
-use Rattle.std.specs.Prelude.{◌≡◌, ◌⊎◌, ℕ, IsSome, List, ◌∷◌, ◌++◌, Option}
+use Rattle.std.specs.Prelude.{◌≡◌, ℕ, IsSome, List, ◌∷◌, ◌++◌, Option}
 use Rattle.std.specs.Io.KnownBytes.{Appends}
 use Rattle.std.specs.Str.Lines.{lines}
 use Rattle.mf_image.specs.Boxes.{IsTooLargeForImage}
@@ -28,24 +28,28 @@ pub record IsCutText (d : DueLines) (last : State) (written : List ℕ) : Type 0
   pub answer : Answers d.limits between line (answer_with (front ++ rest) last)
   pub written_is : written ≡ texts ++ front
 
--- in this state all that was accepted is published, with this revision
-pub record IsPublishedAs (revision : ℕ) (s : State) : Type 0 where
-  pub all : s.pictures.published ≡ s.pictures.accepted
-  pub revision_is : revision_at s.pictures.published ≡ revision
+-- with this fault the plate of this picture, which has this revision, is not written: with `ImageTooLarge` only where the picture is too
+-- large for an image, and with `PlateFault` only where it is not
+abbrev pub LosesPlate : ℕ → List Dot → StageFault → Type 0
+LosesPlate revision ds OutOfMemory = Unit {0}
+LosesPlate revision ds (ImageTooLarge named) = (revision ≡ named) × IsTooLargeForImage ds
+LosesPlate revision ds (PlateFault named) = (revision ≡ named) × (IsTooLargeForImage ds → ⊥)
+LosesPlate revision ds _ = ⊥
+
+-- with this fault the plate of what this list shows is not written
+abbrev pub IsOfPlate : List Entry → StageFault → Type 0
+IsOfPlate shown = LosesPlate (revision_at shown) (picture_at shown)
 
 -- what a fault says of these lines, the first of which have led to this state, and of what was written: after `WriteFault` the text of
 -- the last line that was performed may be cut, and after each other fault the texts of all of them have been written; after the faults
--- of an image these lines have published its revision, and the picture that they have published is too large after `ImageTooLarge`, and
--- not after `PlateFault`
+-- of an image these lines have published all that was accepted, and the fault is one of its plate
 abbrev pub TellsOfScript : DueLines → State → StageFault → List ℕ → Type 0
 TellsOfScript d last OutOfMemory written = IsFirstText d last written
 TellsOfScript d last FileTooLong written = ⊥
 TellsOfScript d last ReadFault written = IsFirstText d last written
 TellsOfScript d last WriteFault written = IsCutText d last written
-TellsOfScript d last (ImageTooLarge revision) written =
-    IsFirstText d last written × IsPublishedAs revision last × IsTooLargeForImage (picture_at last.pictures.published)
-TellsOfScript d last (PlateFault revision) written =
-    IsFirstText d last written × IsPublishedAs revision last × (IsTooLargeForImage (picture_at last.pictures.published) → ⊥)
+TellsOfScript d last fault written =
+    IsFirstText d last written × (last.pictures.published ≡ last.pictures.accepted) × IsOfPlate last.pictures.published fault
 
 -- the fault is one of a plate
 abbrev pub ConcernsPlate : StageFault → Type 0
@@ -78,11 +82,6 @@ BreaksLines act whole fault = (s : State) → StandsFor act.before s → AreBrok
 abbrev pub BreaksScript : Act → Option (List ℕ) → StageFault → Type 0
 BreaksScript act unread fault = OfInput unread (λ input. BreaksLines act (lines input) fault)
 
--- with this fault this picture, which has this revision, has no image: with `ImageTooLarge` only where it is too large
+-- with this fault this picture, which has this revision, has no image
 abbrev pub IsOfImage : ℕ → List Dot → StageFault → Type 0
-IsOfImage revision ds fault = (fault ≡ OutOfMemory) ⊎ ((fault ≡ ImageTooLarge revision) × IsTooLargeForImage ds)
-
--- with this fault the plate of what this list shows is not written
-abbrev pub IsOfPlate : List Entry → StageFault → Type 0
-IsOfPlate shown fault =
-    IsOfImage (revision_at shown) (picture_at shown) fault ⊎ ((fault ≡ PlateFault (revision_at shown)) × (IsTooLargeForImage (picture_at shown) → ⊥))
+IsOfImage revision ds fault = NeedsNoFile fault × LosesPlate revision ds fault

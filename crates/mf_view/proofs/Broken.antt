@@ -3,6 +3,8 @@ use Rattle.std.proofs.Common.{◌≡◌, ◌⊎◌, ℕ, List, [], Option, None,
 use Rattle.std.proofs.KnownBytes.{Appends-nil}
 use Rattle.std.specs.Str.Lines.{lines}
 use Rattle.std.specs.Prelude.{IsSome}
+use Rattle.mf_easel.specs.declared.fault.EaselFault.{EaselFault}
+use Rattle.mf_easel.specs.declared.fault.EaselFault.TheVariants as easels
 use Rattle.mf_gf.specs.declared.file.GfFile.{GfFile}
 use Rattle.mf_session.specs.States.{State, answer_with, start}
 use Rattle.mf_session.specs.Transcript.{DueLines, Perform, due_lines}
@@ -14,7 +16,7 @@ use Rattle.mf_stage.specs.declared.fault.StageFault.{StageFault}
 use Rattle.mf_stage.specs.declared.fault.StageFault.TheVariants as stages
 use Rattle.mf_stage.specs.declared.stage.Stage.{Stage}
 use Rattle.mf_view.specs.Broken.{IsBrokenOff, IsOfEnd, TellsOfPerformance}
-use Rattle.mf_view.specs.Causes.{fault_of_stage}
+use Rattle.mf_view.specs.Causes.{fault_of_easel, fault_of_stage}
 use Rattle.mf_view.specs.Faults.{ConcernsPlate, IsBrokenOffInto}
 use Rattle.mf_view.specs.Performances.{ScreenStreams, script_limits}
 use Rattle.mf_view.specs.declared.fault.ProgramFault.{ProgramFault}
@@ -119,9 +121,15 @@ roomy-stage stages.WriteFault is = cc
 roomy-stage (stages.ImageTooLarge revision) is = cc
 roomy-stage (stages.PlateFault revision) is = cc
 
+roomy-easel : (cause : EaselFault) → TooSmall ≡ fault_of_easel cause → ⊥
+roomy-easel easels.OutOfMemory is = cc
+roomy-easel easels.NoLook is = cc
+roomy-easel easels.WriteFault is = cc
+
 roomy-tells : (d : DueLines) (last : State) (written : List ℕ) → TellsOfPerformance d last TooSmall written → ⊥
 roomy-tells d last written (inl (cause, is, told)) = roomy-stage cause is
-roomy-tells d last written (inr (inl (done, late))) = late
+roomy-tells d last written (inr (inl (done, inl (cause, is, plate)))) = roomy-stage cause is
+roomy-tells d last written (inr (inl (done, inr (cause, is)))) = roomy-easel cause is
 roomy-tells d last written (inr (inr (is, nothing))) = cc
 
 pub roomy : (transcript : Option (List ℕ)) (s : ScreenStreams) → IsBrokenOffInto transcript s TooSmall → ⊥

@@ -2,26 +2,23 @@
 use Rattle.std.specs.Prelude.{◌≡◌, ◌⊎◌, ℕ, List, [], Option}
 use Rattle.std.specs.Io.KnownBytes.{Appends}
 use Rattle.std.specs.Str.Lines.{lines}
-use Rattle.mf_image.specs.Boxes.{IsTooLargeForImage}
-use Rattle.mf_live.specs.Entries.{Entry, picture_at, revision_at}
+use Rattle.mf_easel.specs.declared.fault.EaselFault.{EaselFault}
+use Rattle.mf_live.specs.Entries.{Entry}
 use Rattle.mf_session.specs.States.{State, answer_with, start}
 use Rattle.mf_session.specs.Transcript.{DueLines, Perform, due_lines}
-use Rattle.mf_stage.specs.Faults.{TellsOfScript}
+use Rattle.mf_stage.specs.Faults.{IsOfPlate, TellsOfScript}
 use Rattle.mf_stage.specs.Scripts.{OfInput}
 use Rattle.mf_stage.specs.declared.fault.StageFault.{StageFault}
-use Rattle.mf_view.specs.Causes.{fault_of_stage}
+use Rattle.mf_view.specs.Causes.{fault_of_easel, fault_of_stage}
 use Rattle.mf_view.specs.Performances.{script_limits}
 use Rattle.mf_view.specs.declared.fault.ProgramFault.{ProgramFault}
-use Rattle.mf_view.specs.declared.fault.ProgramFault.TheVariants.{OutOfMemory, NoPlace, NoLook, WriteFault, ImageTooLarge, PlateFault}
+use Rattle.mf_view.specs.declared.fault.ProgramFault.TheVariants.{NoPlace}
 
--- with this fault a performance can end whose script was performed to its end, where the last picture is that of this list
+-- with this fault a performance can end whose script was performed to its end, where the last picture is that of this list: it is one of
+-- its plate, or of the drawing
 abbrev pub IsOfEnd : List Entry → ProgramFault → Type 0
-IsOfEnd last OutOfMemory = Unit {0}
-IsOfEnd last NoLook = Unit {0}
-IsOfEnd last WriteFault = Unit {0}
-IsOfEnd last (ImageTooLarge revision) = (revision_at last ≡ revision) × IsTooLargeForImage (picture_at last)
-IsOfEnd last (PlateFault revision) = (revision_at last ≡ revision) × (IsTooLargeForImage (picture_at last) → ⊥)
-IsOfEnd last _ = ⊥
+IsOfEnd last fault =
+    ((cause : StageFault) × (fault ≡ fault_of_stage cause) × IsOfPlate last cause) ⊎ ((cause : EaselFault) × (fault ≡ fault_of_easel cause))
 
 -- what a fault says of the lines of a script, the first of which have led to this state, and of what was written of their transcript: what
 -- the same fault of the stage says; or it came at the end, after all of them; or there was no place for the viewer, and nothing was written

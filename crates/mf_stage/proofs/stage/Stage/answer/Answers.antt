@@ -1,4 +1,4 @@
-use Rattle.std.proofs.Common.{inl, refl, subst, sym}
+use Rattle.std.proofs.Common.{refl, subst, sym}
 use Rattle.std.specs.Io.KnownBytes.{Appends}
 use Rattle.mf_base.proofs.Faults.{IfErr-raised}
 use Rattle.mf_base.specs.Messages.{GetsFront}
@@ -29,7 +29,7 @@ returns-in_err-publication-clause-begun g c =
     let all = published-all _ s c.args.line.now (answer_with c.in_ok-text.text.items answered.next) answered.answer given in
     line-published _ s answered.next c.args.line.now c.in_ok-text.text.items _ answered.answer answered.stands
     (subst (Appends _ _) c.as_slice.ensures.value c.in_ok-write_text.ensures.text) all
-    (subst (λ shown. IsOfPlate shown c.in_err-publication.field-0.0) (sym all) (inl (c.in_err-publication.ensures.fault answered.next answered.stands)))
+    (subst (λ shown. IsOfPlate shown c.in_err-publication.field-0.0) (sym all) (c.in_err-publication.ensures.fault answered.next answered.stands).1)
     c.in_err-publication.ensures.asked)
 
 pub returns-then-publishes-clause-performed : goal.returns-then-publishes-clause-performed
