@@ -68,13 +68,13 @@ module _ (m : Manner) (s : ScreenStreams) (before after : Stage) (limited : limi
       → Shows m s file
   shown-file file script of_file shown =
       let done = script.such start begins in
+      let performed = subst (λ limits. Perform limits start (lines script.input) (answer_with done.text done.last)) limited done.performed in
       record {
         input = script.input;
         known = script.known;
         such = record {
           text = done.text;
-          last = done.last;
-          performed = subst (λ limits. Perform limits start (lines script.input) (answer_with done.text done.last)) limited done.performed;
+          script = record { last = done.last; performed = performed };
           out = done.out;
           shown = shown done.last done.stands;
           file_is = (of_file done.last done.stands).keeps;

@@ -1,13 +1,12 @@
 -- What a performance has written.
 use Rattle.std.specs.Prelude.{ℕ, List, [], Option}
 use Rattle.std.specs.Io.KnownBytes.{Appends}
-use Rattle.std.specs.Str.Lines.{lines}
 use Rattle.mf_easel.specs.Easels.{Manner}
 use Rattle.mf_gf.specs.declared.file.GfFile.{GfFile}
 use Rattle.mf_gf.specs.Keeping.{Keeps}
 use Rattle.mf_session.specs.Endings.{complete_list}
-use Rattle.mf_session.specs.States.{Limits, State, answer_with, limits_of, most_bytes, most_operations, start}
-use Rattle.mf_session.specs.Transcript.{Perform}
+use Rattle.mf_session.specs.States.{Limits, limits_of, most_bytes, most_operations}
+use Rattle.mf_session.specs.Transcript.{IsTranscript}
 use Rattle.mf_stage.specs.Scripts.{OfInput}
 use Rattle.mf_view.specs.Drawings.{Receipt, ShowsLast}
 
@@ -32,11 +31,10 @@ screen_streams unread screen transcript =
 -- that of the last picture, and the font file keeps the characters that were shipped
 pub record IsShown (manner : Manner) (s : ScreenStreams) (file : GfFile) (input : List ℕ) : Type 0 where
   pub text : List ℕ
-  pub last : State
-  pub performed : Perform script_limits start (lines input) (answer_with text last)
+  pub script : IsTranscript script_limits input text
   pub out : Appends s.told s.tells text
-  pub shown : ShowsLast manner (complete_list last.pictures) s.held s.holds
-  pub file_is : Keeps file [] last.characters
+  pub shown : ShowsLast manner (complete_list script.last.pictures) s.held s.holds
+  pub file_is : Keeps file [] script.last.characters
 
 -- a script was performed and shown, that of the reader
 abbrev pub Shows : Manner → ScreenStreams → GfFile → Type 0
