@@ -62,9 +62,9 @@ stands-after before after (Err fault) begins stands = tt
 -- a script was performed on this stage, and its end was shown
 module _ (m : Manner) (s : ScreenStreams) (before after : Stage) (limited : limits before ≡ script_limits)
     (begins : StandsFor before start) where
-  shown-file : (file : GfFile) → PerformsAll (act_of before after s.told s.tells) s.unread
+  shown-file : (file : GfFile) → PerformsAll (act_of before after s.transcript.held s.transcript.holds) s.unread
       → ((t : State) → StandsFor after t → IsFileOf (session_of after) t file)
-      → ((t : State) → StandsFor after t → ShowsLast m (complete_list t.pictures) s.held s.holds)
+      → ((t : State) → StandsFor after t → ShowsLast m (complete_list t.pictures) s.screen.held s.screen.holds)
       → Shows m s file
   shown-file file script of_file shown =
       let done = script.such start begins in
@@ -82,10 +82,10 @@ module _ (m : Manner) (s : ScreenStreams) (before after : Stage) (limited : limi
       }
 
   pub shown-whole : (performed : Result (Unit {0}) StageFault) (r : Result GfFile ProgramFault)
-      → OnOk performed (PerformsAll (act_of before after s.told s.tells) s.unread)
+      → OnOk performed (PerformsAll (act_of before after s.transcript.held s.transcript.holds) s.unread)
       → IfErr performed (λ fault. r ≡ Err (fault_of_stage fault))
       → IfOk r (λ file. (t : State) → StandsFor after t → IsFileOf (session_of after) t file)
-      → OnOk r ((t : State) → StandsFor after t → ShowsLast m (complete_list t.pictures) s.held s.holds)
+      → OnOk r ((t : State) → StandsFor after t → ShowsLast m (complete_list t.pictures) s.screen.held s.screen.holds)
       → IfOk r (Shows m s)
   shown-whole (Ok done) (Ok file) transcript script of_file shown = shown-file file transcript of_file shown
   shown-whole (Ok done) (Err fault) transcript script of_file shown = tt

@@ -9,6 +9,7 @@ use Rattle.mf_frame.specs.declared.tile.Style.TheVariants.{Colored, Plain}
 use Rattle.mf_gf.specs.declared.file.GfFile.{GfFile}
 use Rattle.mf_gf.specs.Files.{Character, IsLongFile}
 use Rattle.mf_gf.specs.Keeping.{Keeps, max_bytes_of}
+use Rattle.mf_view.specs.Drawings.{Receipt}
 use Rattle.mf_view.specs.Fonts.{font_words}
 use Rattle.mf_view.specs.Performances.{Shows, ScreenStreams}
 use Rattle.mf_view_words.specs.Requests.{IsRequest}
@@ -27,7 +28,7 @@ style_in false = Colored
 abbrev pub IsShownInto : Option (List ℕ) → Manner → ScreenStreams → GfFile → Type 0
 IsShownInto None m s file = Shows m s file
 IsShownInto (Some path) m s file =
-    (s.tells ≡ s.told) × (empty : Option (List ℕ)) × (full : Option (List ℕ)) × Shows m (record s { told = empty; tells = full }) file
+    (s.transcript.holds ≡ s.transcript.held) × (filed : Receipt) × Shows m (record s { transcript = filed }) file
 
 -- the font file of a script is not too long, and where the words ask for it, it has a character
 pub record HasFont (words : Words) (file : GfFile) : Type 0 where
@@ -55,8 +56,8 @@ AsksForText words = IsRequest words Help ⊎ IsRequest words Version
 
 -- what was asked for is written: the help text, the version, or what a performance writes
 abbrev pub EndsAs : Request → ScreenStreams → Type 0
-EndsAs Help s = (s.tells ≡ s.told) × Appends s.held s.holds help_text
-EndsAs Version s = (s.tells ≡ s.told) × Appends s.held s.holds version_text
+EndsAs Help s = (s.transcript.holds ≡ s.transcript.held) × Appends s.screen.held s.screen.holds help_text
+EndsAs Version s = (s.transcript.holds ≡ s.transcript.held) × Appends s.screen.held s.screen.holds version_text
 EndsAs (Show words) s = IsWatched words s
 
 -- these are the words of a request, and what it asks for is written

@@ -46,15 +46,15 @@ pub record LacksRoom (words : List Text) : Type 0 where
 
 -- nothing was drawn or told
 abbrev pub IsUntouched : ScreenStreams → Type 0
-IsUntouched s = (s.holds ≡ s.held) × (s.tells ≡ s.told)
+IsUntouched s = (s.screen.holds ≡ s.screen.held) × (s.transcript.holds ≡ s.transcript.held)
 
 -- the fault has broken off a script: where no path is given, its transcript is in the stream of messages; with a path that stream is as
 -- it was, and the transcript is in a file, unless that could not be created, and nothing was drawn
 abbrev pub IsBrokenOffInto : Option (List ℕ) → ScreenStreams → ProgramFault → Type 0
-IsBrokenOffInto None s fault = IsBrokenOff s.unread s.told s.tells fault
+IsBrokenOffInto None s fault = IsBrokenOff s.unread s.transcript.held s.transcript.holds fault
 IsBrokenOffInto (Some path) s fault =
-    (s.tells ≡ s.told)
-    × (((fault ≡ faults.WriteFault) × (s.holds ≡ s.held))
+    (s.transcript.holds ≡ s.transcript.held)
+    × (((fault ≡ faults.WriteFault) × (s.screen.holds ≡ s.screen.held))
     ⊎ ((empty : Option (List ℕ)) × (full : Option (List ℕ)) × IsBrokenOff s.unread empty full fault))
 
 -- with this fault a script that was performed and shown gets no font file: memory is missing, the file would be too long, or the words
@@ -74,21 +74,21 @@ LosesFont asked file _ = ⊥
 abbrev pub EndsScript : Words → ScreenStreams → ProgramFault → Type 0
 EndsScript asked s fault =
     ((fault ≡ faults.TooSmall) × (IsLargeEnough asked.columns asked.rows → ⊥) × IsUntouched s)
-    ⊎ ((IsBrokenOffInto (option_map string_bytes asked.transcript) s fault × HasDrawnPart (manner_for asked) s.held s.holds
-    × (ConcernsPlate fault → IsSome asked.plates) × (fault ≡ faults.NoPlace → s.holds ≡ s.held))
+    ⊎ ((IsBrokenOffInto (option_map string_bytes asked.transcript) s fault × HasDrawnPart (manner_for asked) s.screen.held s.screen.holds
+    × (ConcernsPlate fault → IsSome asked.plates) × (fault ≡ faults.NoPlace → s.screen.holds ≡ s.screen.held))
     ⊎ ((file : GfFile) × IsShownFor asked s file × LosesFont asked file fault))
 
 -- these words ask for the help text or for the version, of which the screen has got a part, and not all
 abbrev pub GetsPartOfText : List Text → ScreenStreams → Type 0
 GetsPartOfText words s =
-    (IsRequest words Help × GetsPart s.held s.holds help_text) ⊎ (IsRequest words Version × GetsPart s.held s.holds version_text)
+    (IsRequest words Help × GetsPart s.screen.held s.screen.holds help_text) ⊎ (IsRequest words Version × GetsPart s.screen.held s.screen.holds version_text)
 
 -- with this fault a run with these words ends: memory is missing before anything is drawn or told, a text that is asked for is cut, or
 -- the script that is asked for ends with it
 abbrev pub EndsRun : List Text → ScreenStreams → ProgramFault → Type 0
 EndsRun words s fault =
     ((fault ≡ faults.OutOfMemory) × IsUntouched s)
-    ⊎ (((fault ≡ faults.WriteFault) × GetsPartOfText words s × (s.tells ≡ s.told))
+    ⊎ (((fault ≡ faults.WriteFault) × GetsPartOfText words s × (s.transcript.holds ≡ s.transcript.held))
     ⊎ ((asked : Words) × IsRequest words (Show asked) × EndsScript asked s fault))
 
 -- with these words the program ended with some fault, which has this status; the stream of messages, whose bytes are those of the
@@ -97,6 +97,6 @@ pub record ReportsFaultLast (words : List Text) (status : ℕ) (IsUnread : Type 
   pub fault : ProgramFault
   pub status_is : status_of fault ≡ status
   pub between : Option (List ℕ)
-  pub ends : EndsRun words (record s { tells = between }) fault
-  pub message : GetsFront between s.tells (message_of fault)
+  pub ends : EndsRun words (record s { transcript = record { held = s.transcript.held; holds = between } }) fault
+  pub message : GetsFront between s.transcript.holds (message_of fault)
   pub unread : fault ≡ faults.NoPlace → IsUnread

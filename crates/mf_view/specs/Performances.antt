@@ -14,26 +14,23 @@ use Rattle.mf_view.specs.Drawings.{Receipt, ShowsLast}
 abbrev pub script_limits : Limits
 script_limits = limits_of most_operations most_bytes
 
--- what a reader had, what a screen held and holds, and what the transcript told before and tells now, where this is known
+-- what a reader had, where this is known, and what a screen and a transcript have received
 pub record ScreenStreams : Type 0 where
   pub unread : Option (List ℕ)
-  pub held : Option (List ℕ)
-  pub holds : Option (List ℕ)
-  pub told : Option (List ℕ)
-  pub tells : Option (List ℕ)
+  pub screen : Receipt
+  pub transcript : Receipt
 
--- the streams of a reader that had this, and of a screen and a transcript with these receipts
+-- the streams with these three, in this order
 abbrev pub screen_streams : Option (List ℕ) → Receipt → Receipt → ScreenStreams
-screen_streams unread screen transcript =
-    record { unread = unread; held = screen.held; holds = screen.holds; told = transcript.held; tells = transcript.holds }
+screen_streams unread screen transcript = record { unread = unread; screen = screen; transcript = transcript }
 
 -- the script of these bytes was performed: the transcript is written, the screen has got frames of the picture, the last of them
 -- that of the last picture, and the font file keeps the characters that were shipped
 pub record IsShown (manner : Manner) (s : ScreenStreams) (file : GfFile) (input : List ℕ) : Type 0 where
   pub text : List ℕ
   pub script : IsTranscript script_limits input text
-  pub out : Appends s.told s.tells text
-  pub shown : ShowsLast manner (complete_list script.last.pictures) s.held s.holds
+  pub out : Appends s.transcript.held s.transcript.holds text
+  pub shown : ShowsLast manner (complete_list script.last.pictures) s.screen.held s.screen.holds
   pub file_is : Keeps file [] script.last.characters
 
 -- a script was performed and shown, that of the reader
