@@ -53,14 +53,14 @@ module _ (limits : Limits) (s t : State) (done mid more : List (List ℕ)) (text
 
   cut-after : (last : State) (written : List ℕ) → IsCutText (due_lines limits t mid) last written
       → IsCutText (due_lines limits s ((done ++ mid) ++ more)) last (text ++ written)
+  unfolding first-after
   cut-after last written f = record {
-    done = done ++ f.done;
-    line = f.line;
-    more = f.more ++ more;
-    first = ap (λ m. (done ++ m) ++ more) f.first ∙ regroup done f.done (f.line ∷ f.more) more;
     texts = text ++ f.texts;
     between = f.between;
-    performed = Perform-append limits s done f.done (answer_with text t) (answer_with f.texts f.between) before f.performed;
+    before = first-after f.between f.texts f.before;
+    line = f.line;
+    more = f.more ++ more;
+    next = ap (λ m. m ++ more) f.next;
     front = f.front;
     rest = f.rest;
     answer = f.answer;
@@ -162,13 +162,12 @@ line-cut act s next line text answer stands (front, rest, is, out) = record {
   stands = stands;
   out = out;
   told = record {
-    done = [];
-    line = line;
-    more = [];
-    first = refl;
     texts = [];
     between = s;
-    performed = refl;
+    before = record { done = []; more = line ∷ []; first = refl; performed = refl };
+    line = line;
+    more = [];
+    next = refl;
     front = front;
     rest = rest;
     answer = subst (λ t. Answers (limits act.before) s line (answer_with t next)) is answer;

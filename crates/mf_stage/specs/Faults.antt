@@ -7,7 +7,7 @@ use Rattle.mf_live.specs.Entries.{Entry, picture_at, revision_at}
 use Rattle.mf_rows.specs.Dots.{Dot}
 use Rattle.mf_session.specs.Answers.{Answers}
 use Rattle.mf_session.specs.States.{State, answer_with}
-use Rattle.mf_session.specs.Transcript.{DueLines, IsFirstText, Perform, due_lines}
+use Rattle.mf_session.specs.Transcript.{DueLines, IsFirstText, due_lines}
 use Rattle.mf_stage.specs.Scripts.{Act, OfInput}
 use Rattle.mf_stage.specs.Stages.{StandsFor, limits, plates_of}
 use Rattle.mf_stage.specs.declared.fault.StageFault.{StageFault}
@@ -16,13 +16,12 @@ use Rattle.mf_stage.specs.declared.fault.StageFault.TheVariants.{OutOfMemory, Fi
 -- the first of these lines have led to this state, and the text of the last of them is cut: these are the texts of all lines before it,
 -- and a front of its own
 pub record IsCutText (d : DueLines) (last : State) (written : List ℕ) : Type 0 where
-  pub done : List (List ℕ)
-  pub line : List ℕ
-  pub more : List (List ℕ)
-  pub first : d.whole ≡ done ++ line ∷ more
   pub texts : List ℕ
   pub between : State
-  pub performed : Perform d.limits d.from done (answer_with texts between)
+  pub before : IsFirstText d between texts
+  pub line : List ℕ
+  pub more : List (List ℕ)
+  pub next : before.more ≡ line ∷ more
   pub front : List ℕ
   pub rest : List ℕ
   pub answer : Answers d.limits between line (answer_with (front ++ rest) last)
