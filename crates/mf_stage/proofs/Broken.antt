@@ -26,6 +26,7 @@ use Rattle.mf_stage.specs.declared.plate.Plate.{Plate}
 use Rattle.mf_stage.specs.declared.plate.Plates.{Plates}
 use Rattle.mf_stage.specs.declared.stage.Publication.{Publication}
 use Rattle.mf_stage.specs.declared.stage.Stage.{Stage}
+use Rattle.std.proofs.Common.{arith}
 
 regroup : (a b c d : List (List ℕ)) → (a ++ (b ++ c)) ++ d ≡ (a ++ b) ++ (c ++ d)
 regroup a b c d = simp append_assoc
@@ -144,14 +145,7 @@ under_way-cut before now later unread left remaining held holds last line fault 
 -- an allocation failed before anything was done for a line
 pub nothing-done : (before after : Stage) (s : State) (line : List ℕ) (held : Option (List ℕ)) → StandsFor after s
     → AreBrokenOff (act_of before after held held) s (line ∷ []) OutOfMemory
-nothing-done before after s line held stands = record {
-  last = s;
-  written = [];
-  stands = stands;
-  out = Appends-nil held;
-  told = record { done = []; more = line ∷ []; first = refl; performed = refl };
-  asked = λ concerns. absurd concerns;
-}
+nothing-done before after s line held stands = grind (arith, Appends-nil)
 
 -- the text of a line was cut
 pub line-cut : (act : Act) (s next : State) (line text : List ℕ) → Answers (limits act.before) s line (answer_with text next) → StandsFor act.after next
@@ -194,14 +188,7 @@ pub line-published : (act : Act) (s next : State) (line text : List ℕ) (fault 
     → Answers (limits act.before) s line (answer_with text next) → StandsFor act.after next → Appends act.held act.holds text
     → next.pictures.published ≡ next.pictures.accepted → IsOfPlate next.pictures.published fault → IsSome (plates_of act.before)
     → AreBrokenOff act s (line ∷ []) fault
-line-published act s next line text fault answer stands out all is some = record {
-  last = next;
-  written = text;
-  stands = stands;
-  out = out;
-  told = tells-published (due_lines (limits act.before) s (line ∷ [])) next fault text (line-first (limits act.before) s next line text answer) all is;
-  asked = λ concerns. some;
-}
+line-published act s next line text fault answer stands out all is some = grind (arith, tells-published, line-first)
 
 -- there is a plate only where plates are asked for, and where the picture is not too large for an image
 plate-made : (plates : Option Plates) (shown : List Entry) (made : Option Plate) → IsPlateIfAsked plates shown made → IsSome made

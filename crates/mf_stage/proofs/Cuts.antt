@@ -9,7 +9,6 @@ use Rattle.std.proofs.lemmas.List.Splits.{length-slice_split, slice_split_at, sl
 use Rattle.std.specs.Io.{StopsAt}
 use Rattle.std.specs.Io.BufRead.{drop_through, take_through}
 use Rattle.std.specs.Prelude.{All, ◌==◌}
-use Rattle.std.specs.List.{slice_split}
 use Rattle.std.specs.Str.Lines.{lines, lines_of_parts, strip_carriage_return}
 use Rattle.mf_stage.specs.Lines.{IsReadLine, without_ending}
 
@@ -50,14 +49,10 @@ ended front =
 
 -- a line that the end of the script ends has no ending
 unended : (line : List ℕ) → 0 < length line → All is_other line → without_ending line ≡ line
-unended line some unbroken =
-    let other = All-get_or is_other line (length line - 1) 0 (omega arith) unbroken in
-    cond-false _ _ _ (ne_eqb (get_or line (length line - 1) 0) 10 other)
+unended line some unbroken = grind (arith, All-get_or, cond-false, ne_eqb)
 
 lines-feed : (front rest : List ℕ) → All is_other front → lines (front ++ 10 ∷ rest) ≡ strip_carriage_return front ∷ lines rest
-lines-feed front rest unbroken =
-    ap lines_of_parts (slice_split_at is_feed front 10 rest (no_feed front unbroken) refl)
-    ∙ lines_of_parts-first front (slice_split is_feed rest) (omega (arith, length-slice_split is_feed rest))
+lines-feed front rest unbroken = grind (arith, slice_split_at, no_feed, lines_of_parts-first, length-slice_split)
 
 lines-whole : (line : List ℕ) → 0 < length line → All is_other line → lines line ≡ line ∷ []
 lines-whole line some unbroken =

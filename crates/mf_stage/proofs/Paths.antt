@@ -1,6 +1,6 @@
 -- The paths of image files.
-use Rattle.std.proofs.Common.{◌≡◌, ◌-◌, ◌++◌, ◌^◌, ℕ, List, [], Result, Ok, Err, String, IfOk, decimal, false, length, replicate}
-use Rattle.std.proofs.Common.{string_bytes, ap, ◌∙◌, append-nil, append_assoc, arith, codes}
+use Rattle.std.proofs.Common.{◌≡◌, ◌-◌, ◌++◌, ◌^◌, ℕ, List, [], Result, Ok, Err, String, IfOk, decimal, false}
+use Rattle.std.proofs.Common.{string_bytes, ◌∙◌, append-nil, append_assoc, arith, codes}
 use Rattle.core.specs.Fmt.{char_count, format_spec, padded_integral, styled_decimal}
 use Rattle.core.specs.declared.fmt.FormatSpec.{FormatSpec}
 use Rattle.mf_stage.specs.Plates.{path_of, seven_digits}
@@ -13,9 +13,7 @@ text_is (Err e) found wanted same is = is
 
 seven_digits-padded : (n : ℕ) → padded_integral (format_spec 32 0 4 7 (2 ^ 64 - 1)) false [] (decimal n) ≡ seven_digits n
 unfolding padded_integral char_count
-seven_digits-padded n =
-    let zeros : 7 - length (decimal n) - 0 - 0 ≡ 7 - length (decimal n) = omega arith in
-    ap (λ k. replicate k 48 ++ (decimal n ++ [])) zeros ∙ ap (λ digits. replicate (7 - length (decimal n)) 48 ++ digits) (append-nil (decimal n))
+seven_digits-padded n = grind (arith, append-nil)
 
 -- what a number is in seven digits
 pub styled-seven : (spec : FormatSpec) (n : ℕ) → spec ≡ format_spec 32 0 4 7 (2 ^ 64 - 1) → styled_decimal spec n ≡ seven_digits n
@@ -28,6 +26,4 @@ path-parts folder digits extension = simp append_assoc
 -- a path is laid out in this order
 pub path-laid : (text folder digits extension : List ℕ) (revision : ℕ) → text ≡ folder → digits ≡ seven_digits revision
     → text ++ (codes "/" ++ (digits ++ (codes "." ++ extension))) ≡ path_of folder revision extension
-path-laid text folder digits extension revision same number =
-    path-parts text digits extension ∙ ap (λ f. f ++ codes "/" ++ digits ++ codes "." ++ extension) same
-    ∙ ap (λ d. folder ++ codes "/" ++ d ++ codes "." ++ extension) number
+path-laid text folder digits extension revision same number = grind (arith, path-parts)

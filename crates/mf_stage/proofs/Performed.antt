@@ -1,9 +1,9 @@
 -- What a line makes.
-use Rattle.std.proofs.Common.{◌≡◌, ◌↔◌, Bool, true, ℕ, List, Option, Some, inl, inr, refl, sym, ap, subst, ◌∙◌}
+use Rattle.std.proofs.Common.{◌≡◌, ◌↔◌, Bool, true, ℕ, List, Option, Some, inl, inr, refl, sym, subst}
 use Rattle.std.specs.Io.KnownBytes.{Appends}
 use Rattle.mf_live.specs.Entries.{Entry, picture_at, revision_at}
 use Rattle.mf_rows.specs.Dots.{Dot}
-use Rattle.mf_session.specs.Answers.{Answers, AnswersTo}
+use Rattle.mf_session.specs.Answers.{Answers}
 use Rattle.mf_session.specs.Sessions.{HasAnswered, limits}
 use Rattle.mf_session.specs.States.{Answer, Limits, State, answer_with}
 use Rattle.mf_stage.specs.Plates.{IsPlate}
@@ -17,6 +17,7 @@ use Rattle.mf_stage.specs.declared.stage.Stage.{Stage}
 use Rattle.mf_text.proofs.OneAnswer.{gives_one, given_or_refused}
 use Rattle.mf_text.specs.Lines.{Gives}
 use Rattle.mf_text.specs.declared.command.Command.TheVariants.{Publish}
+use Rattle.std.proofs.Common.{arith}
 
 -- the plate of a picture is that of the list that it is the picture of
 pub plate_where : (wanted : Option Plates) (plates : Plates) (shown : List Entry) (revision : ℕ) (ds : List Dot) (made : Plate)
@@ -29,9 +30,7 @@ plate_where wanted plates shown revision ds made is number picture plate =
 -- after a line that publishes, everything that was accepted is published
 pub published-all : (limits : Limits) (s : State) (line : List ℕ) (a : Answer) → Answers limits s line a
     → Gives line Publish → a.next.pictures.published ≡ a.next.pictures.accepted
-published-all limits s line a (inl performed) given =
-    let answer = subst (λ command. AnswersTo limits s command a) (gives_one line performed.command Publish performed.given given) performed.answer in
-    ap (λ b. b.next.pictures.published) answer ∙ sym (ap (λ b. b.next.pictures.accepted) answer)
+published-all limits s line a (inl performed) given = grind (arith, gives_one, sym)
 published-all limits s line a (inr refused) given = absurd (given_or_refused line Publish refused.fault refused.printable given refused.refused)
 
 module _ (before after : Stage) (s : State) (line text : List ℕ) (held holds : Option (List ℕ)) (publishes : Bool)

@@ -1,18 +1,17 @@
 -- The lines of a script that have been performed, and those that are left.
 use Rattle.std.proofs.Common.{◌≡◌, ◌++◌, ◌∷◌, [], ℕ, List, Option, None, Some, IfSome, refl, sym, ap, subst, ◌∙◌, append-nil, append_assoc}
 use Rattle.std.proofs.KnownBytes.{Appends-nil, Appends-trans}
-use Rattle.std.specs.Io.BufRead.{drop_through}
 use Rattle.std.specs.Io.KnownBytes.{IsAtEnd}
 use Rattle.std.specs.Str.Lines.{lines}
 use Rattle.mf_session.proofs.Performing.{Perform-append, Perform-one}
-use Rattle.mf_session.specs.States.{State, answer_with}
-use Rattle.mf_session.specs.Transcript.{Perform}
+use Rattle.mf_session.specs.States.{State}
 use Rattle.mf_stage.proofs.Cuts.{next_lines, spelled_line}
 use Rattle.mf_stage.specs.Lines.{IsReadLine, Reads, without_ending}
 use Rattle.mf_stage.specs.Scripts.{Act, HasPerformedLine, PerformsAll, PerformsFrom, PerformsLines, act_of}
 use Rattle.mf_stage.specs.Stages.{limits}
 use Rattle.mf_stage.specs.declared.stage.Publication.{Publication}
 use Rattle.mf_stage.specs.declared.stage.Stage.{Stage}
+use Rattle.std.proofs.Common.{arith}
 
 -- where the bytes of a script are known, so are those that are left, which have the lines after these
 abbrev pub AreBefore : Option (List ℕ) → Option (List ℕ) → List (List ℕ) → Type 0
@@ -44,28 +43,13 @@ under_way-start stage unread held = record {
 
 -- one line is performed
 pub performed-one : (act : Act) (s : State) (line : List ℕ) (made : Option Publication) → HasPerformedLine act s line made → PerformsFrom act s (line ∷ [])
-performed-one act s line made one =
-    record {
-      text = one.text;
-      last = one.next;
-      performed = Perform-one (limits act.before) s line (answer_with one.text one.next) one.answer;
-      stands = one.stands;
-      out = one.out;
-    }
+performed-one act s line made one = grind (arith, Perform-one)
 
 -- some lines are performed, and then others
 performed-more : (before now later : Stage) (s : State) (done more : List (List ℕ)) (held holds last : Option (List ℕ))
     → limits now ≡ limits before → (first : PerformsFrom (act_of before now held holds) s done)
     → PerformsFrom (act_of now later holds last) first.last more → PerformsFrom (act_of before later held last) s (done ++ more)
-performed-more before now later s done more held holds last same first second =
-    record {
-      text = first.text ++ second.text;
-      last = second.last;
-      performed = Perform-append (limits before) s done more (answer_with first.text first.last) (answer_with second.text second.last) first.performed
-          (subst (λ l. Perform l first.last more (answer_with second.text second.last)) same second.performed);
-      stands = second.stands;
-      out = Appends-trans held holds last first.text second.text first.out second.out;
-    }
+performed-more before now later s done more held holds last same first second = grind (arith, Perform-append, Appends-trans)
 
 -- what holds of known bytes
 known_is : (P : List ℕ → Type 0) (left : Option (List ℕ)) (rest : List ℕ) → left ≡ Some rest → IfSome left P → P rest
@@ -74,14 +58,7 @@ known_is P left rest is known = subst (λ l. IfSome l P) is known
 ahead-next : (unread left remaining : Option (List ℕ)) (done : List (List ℕ)) (line : List ℕ) → AreBefore unread left done
     → IfSome left (λ rest. Reads rest line remaining) → AreBefore unread remaining (done ++ without_ending line ∷ [])
 ahead-next None left remaining done line ahead reads = tt
-ahead-next (Some input) left remaining done line (rest, is, before) reads =
-    let read = known_is (λ input. Reads input line remaining) left rest is reads in
-    let others = lines (drop_through 10 rest) in
-    let next : lines rest ≡ without_ending line ∷ others = next_lines rest read.some ∙ ap (λ l. without_ending l ∷ others) (sym read.line_is) in (
-      drop_through 10 rest,
-      read.left_is,
-      before ∙ ap (λ ls. done ++ ls) next ∙ sym (append_assoc done (without_ending line ∷ []) others),
-    )
+ahead-next (Some input) left remaining done line (rest, is, before) reads = grind (arith, known_is, next_lines, sym, append_assoc)
 
 -- the next line is read: the first lines of the script are one more
 pub under_way-line : (unread left remaining : Option (List ℕ)) (done : List (List ℕ)) (line : List ℕ) → AreFirstLines unread left done
@@ -115,10 +92,7 @@ under_way-next before now later unread left remaining held holds last line same 
 ended : (unread left : Option (List ℕ)) (done : List (List ℕ)) → AreFirstLines unread left done → IsAtEnd left
     → (input : List ℕ) × IfSome unread (λ known. input ≡ known) × (lines input ≡ done)
 ended None left done first end = (first.bytes, tt, ap lines (sym (append-nil first.bytes)) ∙ first.spelled [] ∙ append-nil done)
-ended (Some input) left done first end =
-    let (rest, is, before) = first.ahead in
-    let none : rest ≡ [] = subst IsAtEnd is end in
-    (input, refl, before ∙ ap (λ l. done ++ lines l) none ∙ append-nil done)
+ended (Some input) left done first end = grind (arith, append-nil)
 
 -- all lines of the script have been performed
 pub under_way-end : (act : Act) (unread left : Option (List ℕ)) → IsUnderWay act unread left → IsAtEnd left → PerformsAll act unread

@@ -1,6 +1,7 @@
 use Rattle.std.proofs.Common.{rules, ◌<◌, length}
 use Rattle.mf_stage.proofs.Lines.{IsReadLine-read, Reads-line}
 use Rattle.mf_stage.proofs.line.next_line.Goals as goal
+use Rattle.std.proofs.Common.{arith}
 
 pub returns-in-Ok-clause-line : goal.returns-in-Ok-clause-line
 returns-in-Ok-clause-line g c =
@@ -10,7 +11,4 @@ returns-in-Ok-clause-line g c =
     (g.B.Read.remaining c.read_until.new.self) c.new-line.result.items read c.new-line.ensures.items some c.in-Ok.ensures.bytes c.in-Ok.ensures.rest
 
 pub returns-in-Ok-clause-whole : goal.returns-in-Ok-clause-whole
-returns-in-Ok-clause-whole g c =
-    let read = c.read_until.new.buf.items in
-    let some : 0 < length read = search rules in
-    IsReadLine-read c.new-line.result.items read c.new-line.ensures.items some c.in-Ok.ensures.stops
+returns-in-Ok-clause-whole g c = grind (arith, IsReadLine-read)

@@ -8,11 +8,10 @@ use Rattle.mf_stage.specs.declared.stage.Stage.{Stage}
 use Rattle.mf_stage.proofs.Performed.{performed-published, published-all}
 use Rattle.mf_stage.specs.Faults.{IsOfPlate}
 use Rattle.mf_stage.proofs.stage.Stage.answer.Goals as goal
+use Rattle.std.proofs.Common.{arith}
 
 pub returns-in_err-text-clause-begun : goal.returns-in_err-text-clause-begun
-returns-in_err-text-clause-begun g c =
-    IfErr-raised c.from_residual-in_err-text.result _ c.from_residual-in_err-text.ensures.1
-    (λ s stands. nothing-done c.args.self.now _ s c.args.line.now _ (c.in_err-text.ensures.unchanged s stands))
+returns-in_err-text-clause-begun g c = grind (arith, IfErr-raised, nothing-done)
 
 pub returns-in_err-write_text-clause-begun : goal.returns-in_err-write_text-clause-begun
 returns-in_err-write_text-clause-begun g c =
