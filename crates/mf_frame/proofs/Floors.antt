@@ -63,8 +63,10 @@ cell_in_field s p positive least greatest =
 -- at the greatest scale the field is two cells wide
 pub cell_at_greatest : (p : ℤ) → least_coordinate ≤ℤ p → p ≤ℤ last_in_field
     → (negsuc 0 ≤ℤ cell_of greatest_coordinate p) × (cell_of greatest_coordinate p ≤ℤ pos 0)
-cell_at_greatest p least greatest =
-    omega (arith, ints, cell-from greatest_coordinate (negsuc 0) p (omega (arith, ints)) (omega (arith, ints)), cell-to greatest_coordinate (pos 0) p (omega (arith, ints)) (omega (arith, ints)))
+cell_at_greatest p least greatest = (
+  cell-from greatest_coordinate (negsuc 0) p (omega (arith, ints)) (omega (arith, ints)),
+  cell-to greatest_coordinate (pos 0) p (omega (arith, ints)) (omega (arith, ints)),
+)
 
 -- line k shows the rows 2 * k and 2 * k + 1
 pub line-within : (j : ℤ) → ((pos 2 *ℤ line_of j) ≤ℤ j) × (j <ℤ ((pos 2 *ℤ line_of j) +ℤ pos 2))

@@ -63,7 +63,8 @@ row-apart a b c less = let product : suc a * c ≤ b * c = mul-le-mul_right c (o
 
 pub place-inside : (w : Window) (i j : ℤ) → IsCellOf w i j → place_in w i j < 2 * w.lines * w.columns
 place-inside w i j cell =
-    omega (arith, ints, row-apart (unsigned_abs (j -ℤ (pos 2 *ℤ w.line))) (2 * w.lines) w.columns (omega (arith, ints, cell.bottom, cell.top)), cell.bottom, cell.top, cell.left, cell.right, cell)
+    let apart = row-apart (unsigned_abs (j -ℤ (pos 2 *ℤ w.line))) (2 * w.lines) w.columns (omega (arith, ints, cell.bottom, cell.top)) in
+    omega (arith, ints, cell.left, cell.right)
 
 -- where a run is among the places of a window
 abbrev pub run_start : Window → Run → ℕ
@@ -232,4 +233,5 @@ next_in_window w ds rs r others shades all first so_far =
 
 pub start_before_end : (w : Window) (r : Run) → IsWindow w → IsRunInWindow w r → run_start w r ≤ run_end w r
 start_before_end w r window within =
-    omega (arith, ints, cell-le w.scale r.x ((r.x +ℤ pos r.len) -ℤ pos 1) window.scale.least (omega (arith, ints, within.run.some)), window.scale.least, within.run.some, within.first.left, window, within)
+    let le = cell-le w.scale r.x ((r.x +ℤ pos r.len) -ℤ pos 1) window.scale.least (omega (arith, ints, within.run.some)) in
+    omega (arith, ints, le, within.first.left)

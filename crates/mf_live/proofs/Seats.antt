@@ -1,5 +1,5 @@
 -- Each step keeps the rule that ties what each seat knows to the version that is shown.
-use Rattle.std.proofs.Common.{◌≡◌, ◌≢◌, ◌⊎◌, ℕ, true, false, List, [], ◌∷◌, ◌++◌, set, refl, sym, subst, ◌∙◌, ⊎_elim}
+use Rattle.std.proofs.Common.{◌≡◌, ◌≢◌, ◌⊎◌, ℕ, true, false, List, [], ◌∷◌, ◌++◌, set, refl, sym, subst, ◌∙◌, ⊎_elim, arith}
 use Rattle.std.proofs.lemmas.Bool.{false≢true}
 use mathlib.Core.List.{IsPrefix}
 use mathlib.Core.Option.{some}
@@ -11,7 +11,6 @@ use Rattle.mf_live.specs.declared.version.Version.{Version}
 use Rattle.mf_live.specs.declared.view.View.{View}
 use Rattle.mf_live.specs.Rule.{IsKnowledgeOf, EachSeatKnows, Knows, IsLook, IsShow, newcomer, view_knowing, knowledge_of, book_of, events_of}
 use Rattle.mf_live.proofs.ListPrefixes.{prefix-self, prefix-trans}
-use Rattle.std.proofs.Common.{arith}
 
 -- what the knowledge has is a prefix of what the version knows
 abbrev Shows : Version → Knowledge → Type 0

@@ -1,11 +1,10 @@
 -- Lists of events and the worlds after them.
-use Rattle.std.proofs.Common.{◌≡◌, ℕ, List, [], ◌∷◌, ◌++◌, refl}
+use Rattle.std.proofs.Common.{◌≡◌, ℕ, List, [], ◌∷◌, ◌++◌, refl, arith}
 use Rattle.mf_live.specs.declared.event.Event.{Event}
 use Rattle.mf_live.specs.Prefixes.{IsWholePrefix}
 use Rattle.mf_live.specs.World.{World, new_world, Happen, May, after_event, world_after, IsLawful, EverySchedule, StaysLawful, published_list_of}
 use Rattle.mf_live.proofs.Lawfulness.{lawful_start, lawful_event, published-event, shows_more}
 use Rattle.mf_live.proofs.WholePrefixes.{whole-self, whole-trans}
-use Rattle.std.proofs.Common.{arith}
 
 pub world_after-append : (w : World) (xs ys : List Event) → world_after w (xs ++ ys) ≡ world_after (world_after w xs) ys
 world_after-append w [] ys = refl

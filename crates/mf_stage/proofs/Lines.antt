@@ -1,11 +1,10 @@
 -- The lines of a script, read one after another.
-use Rattle.std.proofs.Common.{◌≡◌, ◌<◌, ◌++◌, ℕ, List, [], Option, length, subst}
+use Rattle.std.proofs.Common.{◌≡◌, ◌<◌, ◌++◌, ℕ, List, [], Option, length, subst, arith}
 use Rattle.std.specs.Io.{StopsAt, appended_bytes}
 use Rattle.std.specs.Prelude.{IfSome, None, Some}
 use Rattle.std.specs.Io.BufRead.{DropsThrough, take_through}
 use Rattle.std.proofs.BufReadLemmas.{take_through_nonempty}
 use Rattle.mf_stage.specs.Lines.{IsReadLine, Reads}
-use Rattle.std.proofs.Common.{arith}
 
 -- a line was read
 pub Reads-line : (old new : Option (List ℕ)) (start line : List ℕ) → start ≡ [] → 0 < length line

@@ -1,5 +1,5 @@
 -- What a line makes.
-use Rattle.std.proofs.Common.{◌≡◌, ◌↔◌, Bool, true, ℕ, List, Option, Some, inl, inr, refl, sym, subst}
+use Rattle.std.proofs.Common.{◌≡◌, ◌↔◌, Bool, true, ℕ, List, Option, Some, inl, inr, refl, sym, subst, arith}
 use Rattle.std.specs.Io.KnownBytes.{Appends}
 use Rattle.mf_live.specs.Entries.{Entry, picture_at, revision_at}
 use Rattle.mf_rows.specs.Dots.{Dot}
@@ -17,7 +17,6 @@ use Rattle.mf_stage.specs.declared.stage.Stage.{Stage}
 use Rattle.mf_text.proofs.OneAnswer.{gives_one, given_or_refused}
 use Rattle.mf_text.specs.Lines.{Gives}
 use Rattle.mf_text.specs.declared.command.Command.TheVariants.{Publish}
-use Rattle.std.proofs.Common.{arith}
 
 -- the plate of a picture is that of the list that it is the picture of
 pub plate_where : (wanted : Option Plates) (plates : Plates) (shown : List Entry) (revision : ℕ) (ds : List Dot) (made : Plate)

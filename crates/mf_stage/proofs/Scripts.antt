@@ -1,5 +1,5 @@
 -- The lines of a script that have been performed, and those that are left.
-use Rattle.std.proofs.Common.{◌≡◌, ◌++◌, ◌∷◌, [], ℕ, List, Option, None, Some, IfSome, refl, sym, ap, subst, ◌∙◌, append-nil, append_assoc}
+use Rattle.std.proofs.Common.{◌≡◌, ◌++◌, ◌∷◌, [], ℕ, List, Option, None, Some, IfSome, refl, sym, ap, subst, ◌∙◌, append-nil, append_assoc, arith}
 use Rattle.std.proofs.KnownBytes.{Appends-nil, Appends-trans}
 use Rattle.std.specs.Io.KnownBytes.{IsAtEnd}
 use Rattle.std.specs.Str.Lines.{lines}
@@ -11,7 +11,6 @@ use Rattle.mf_stage.specs.Scripts.{Act, HasPerformedLine, PerformsAll, PerformsF
 use Rattle.mf_stage.specs.Stages.{limits}
 use Rattle.mf_stage.specs.declared.stage.Publication.{Publication}
 use Rattle.mf_stage.specs.declared.stage.Stage.{Stage}
-use Rattle.std.proofs.Common.{arith}
 
 -- where the bytes of a script are known, so are those that are left, which have the lines after these
 abbrev pub AreBefore : Option (List ℕ) → Option (List ℕ) → List (List ℕ) → Type 0

@@ -1,4 +1,4 @@
-use Rattle.std.proofs.Common.{ℕ, Err, All, IfOk, sym, ap, ◌∙◌}
+use Rattle.std.proofs.Common.{ℕ, Err, All, IfOk, sym, ap, ◌∙◌, arith}
 use Rattle.std.proofs.lemmas.List.Elements.{All-weaker}
 use Rattle.std.proofs.lemmas.Result.{IfOk-weaker}
 use Rattle.mf_desk.specs.declared.outcome.Outcome.{Outcome}
@@ -10,7 +10,6 @@ use Rattle.mf_base.proofs.Faults.{IfErr-raised}
 use Rattle.mf_desk.proofs.Performances.{TellsOfBegun-script, TellsOfBegun-end, TellsOfEnd-unfinished, IsPerformance-over}
 use Rattle.mf_desk.proofs.performance.perform_beside_viewers.Goals.{After-join-joined}
 use Rattle.mf_desk.proofs.performance.perform_beside_viewers.Goals as goal
-use Rattle.std.proofs.Common.{arith}
 
 pub returns-in_err-ended-clause-fault : goal.returns-in_err-ended-clause-fault
 returns-in_err-ended-clause-fault g c = grind (arith, IfErr-raised, TellsOfBegun-script)

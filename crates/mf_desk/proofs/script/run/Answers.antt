@@ -1,4 +1,4 @@
-use Rattle.std.proofs.Common.{ℕ, List, Option, Err, ap, length}
+use Rattle.std.proofs.Common.{ℕ, List, Option, Err, ap, length, arith}
 use Rattle.std.specs.Io.KnownBytes.{Appends}
 use Rattle.std.proofs.KnownBytes.{Appends-nil}
 use Rattle.std.proofs.lemmas.List.Elements.{All-nil}
@@ -12,7 +12,6 @@ use Rattle.mf_desk.proofs.Performances.{TellsOfBegun-end, TellsOfBegun-script, T
 use Rattle.mf_desk.proofs.Performances.{IsPerformance-over, TellsOfRun-nothing, TellsOfRun-unstarted}
 use Rattle.mf_desk.proofs.ViewerLines.{lines-nobody}
 use Rattle.mf_desk.proofs.script.run.Goals as goal
-use Rattle.std.proofs.Common.{arith}
 
 -- no line of a viewer is written
 nobody : (holds : Option (List ℕ)) (run : EndedRun) → Appends holds holds (viewer_lines 0 (glance run))
@@ -30,7 +29,9 @@ returns-in_err-progress-clause-too_small g c = grind (arith, err_from_is_err_and
 
 pub returns-in_err-ended-clause-fault : goal.returns-in_err-ended-clause-fault
 returns-in_err-ended-clause-fault g c =
-    grind (arith, IfErr-raised, TellsOfRun-begun, TellsOfBegun-script, c.from_residual-in_err-ended.ensures.1, c.in_ok-progress.ensures.limits, c.in_err-ended.ensures.fault)
+    IfErr-raised c.from_residual-in_err-ended.result _ c.from_residual-in_err-ended.ensures.1
+    (TellsOfRun-begun c.args.settings.now 0 _ _
+    (TellsOfBegun-script c.args.settings.now 0 _ _ _ c.in_ok-progress.ensures.limits c.in_err-ended.ensures.fault))
 
 pub returns-in_err-gf-clause-fault : goal.returns-in_err-gf-clause-fault
 returns-in_err-gf-clause-fault g c =

@@ -1,4 +1,4 @@
-use Rattle.std.proofs.Common.{refl, subst, sym}
+use Rattle.std.proofs.Common.{refl, subst, sym, arith}
 use Rattle.std.proofs.lemmas.Bool.{false≢true}
 use Rattle.mf_show.specs.Grid.{IsLargerThan}
 use Rattle.mf_rows.proofs.BoxesOfDots.{least_box_of_field}
@@ -6,7 +6,6 @@ use Rattle.mf_show.proofs.GridTexts.{neither}
 use Rattle.mf_image.specs.Boxes.{greatest_side}
 use Rattle.mf_image.proofs.ImageBoxes.{blank_is_small, box_of_blank, box_of_picture}
 use Rattle.mf_image.proofs.bounds.image_box.Goals as goal
-use Rattle.std.proofs.Common.{arith}
 
 pub returns-in_default : goal.returns-in_default
 returns-in_default c = grind (arith, box_of_blank, neither, blank_is_small)

@@ -1,4 +1,4 @@
-use Rattle.std.proofs.Common.{◌≡◌, true, List, ap, ◌∙◌, subst}
+use Rattle.std.proofs.Common.{◌≡◌, true, List, ap, ◌∙◌, subst, arith}
 use Rattle.std.proofs.lemmas.Result.{MatchResult-weaker}
 use Rattle.mf_live.specs.declared.sheet.SheetFault.{SheetFault}
 use Rattle.mf_live.specs.declared.sheet.SheetFault.TheVariants.{NoLook, OutOfMemory as NoMemory}
@@ -9,7 +9,6 @@ use Rattle.mf_live.specs.Viewers.{Extends, IsPublished, looked_at_events, looked
 use Rattle.mf_live.proofs.Looking.{learnt-same, shown-last}
 use Rattle.mf_live.proofs.laws.last_sheet.Goals.{After-learn}
 use Rattle.mf_live.proofs.laws.last_sheet.Goals as goal
-use Rattle.std.proofs.Common.{arith}
 
 module _ (first second after : Viewer) (told : List Entry) (learns : HasLearnt first told second) (closed : is_closed told ≡ true) where
   -- a viewer that has learnt of the end, and then looked, has looked at the complete list

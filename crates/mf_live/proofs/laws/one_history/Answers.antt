@@ -1,7 +1,6 @@
-use Rattle.std.proofs.Common.{sym}
+use Rattle.std.proofs.Common.{sym, arith}
 use Rattle.mf_live.proofs.Looking.{one_prefix, one_lists}
 use Rattle.mf_live.proofs.laws.one_history.Goals as goal
-use Rattle.std.proofs.Common.{arith}
 
 pub returns-clause-events : goal.returns-clause-events
 returns-clause-events c = grind (arith, sym, one_prefix)

@@ -1,7 +1,6 @@
-use Rattle.std.proofs.Common.{rules, ◌<◌, length}
+use Rattle.std.proofs.Common.{rules, ◌<◌, length, arith}
 use Rattle.mf_stage.proofs.Lines.{IsReadLine-read, Reads-line}
 use Rattle.mf_stage.proofs.line.next_line.Goals as goal
-use Rattle.std.proofs.Common.{arith}
 
 pub returns-in-Ok-clause-line : goal.returns-in-Ok-clause-line
 returns-in-Ok-clause-line g c =

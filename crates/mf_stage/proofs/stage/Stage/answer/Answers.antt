@@ -1,4 +1,4 @@
-use Rattle.std.proofs.Common.{refl, subst, sym}
+use Rattle.std.proofs.Common.{refl, subst, sym, arith}
 use Rattle.std.specs.Io.KnownBytes.{Appends}
 use Rattle.mf_base.proofs.Faults.{IfErr-raised}
 use Rattle.mf_base.specs.Messages.{GetsFront}
@@ -8,7 +8,6 @@ use Rattle.mf_stage.specs.declared.stage.Stage.{Stage}
 use Rattle.mf_stage.proofs.Performed.{performed-published, published-all}
 use Rattle.mf_stage.specs.Faults.{IsOfPlate}
 use Rattle.mf_stage.proofs.stage.Stage.answer.Goals as goal
-use Rattle.std.proofs.Common.{arith}
 
 pub returns-in_err-text-clause-begun : goal.returns-in_err-text-clause-begun
 returns-in_err-text-clause-begun g c = grind (arith, IfErr-raised, nothing-done)
