@@ -1,5 +1,5 @@
 -- What looks add to what an easel has drawn.
-use Rattle.std.proofs.Common.{◌≡◌, ◌+◌, ◌∙◌, ◌++◌, ℕ, List, [], ◌∷◌, Option, None, Some, IfSome, length, ap, arith, refl, sym, subst}
+use Rattle.std.proofs.Common.{◌≡◌, ◌∙◌, ℕ, List, [], ◌∷◌, Option, None, Some, IfSome, length, arith, refl, sym, subst}
 use Rattle.std.specs.Io.KnownBytes.{Appends}
 use Rattle.std.proofs.KnownBytes.{Appends-nil, Appends-trans}
 use Rattle.std.proofs.lemmas.List.{append-nil}
@@ -10,9 +10,9 @@ use Rattle.mf_easel.specs.Screens.{GetsFrame, GetsNoMore, IsAbove, new_revision,
 use Rattle.mf_easel.specs.declared.easel.Easel.{Easel}
 use Rattle.mf_easel.specs.declared.fault.EaselFault.{EaselFault}
 use Rattle.mf_easel.specs.declared.fault.EaselFault.TheVariants.{NoLook, OutOfMemory, WriteFault}
-use Rattle.mf_ops.specs.Operations.{picture_after, revision_after}
+use Rattle.mf_ops.specs.Operations.{revision_after}
 use Rattle.mf_ops.specs.declared.op.Op.{Op}
-use Rattle.mf_live.specs.Entries.{Entry, operations, picture_at, revision_at}
+use Rattle.mf_live.specs.Entries.{Entry, picture_at, revision_at}
 use Rattle.mf_live.specs.Prefixes.{IsWholePrefix}
 use Rattle.mf_live.specs.Sheets.{HasLooked}
 use Rattle.mf_live.proofs.EntryLists.{operations-append, revision_at-append}
@@ -32,11 +32,7 @@ new-some (Some before) revision shown some = grind arith
 
 -- what was looked at before a list was looked at before a longer one
 looks-before : (S L : List Entry) (lists : List (List Entry)) → IsWholePrefix S L → AreLooks S lists → AreLooks L lists
-looks-before S L lists more looks = record {
-  rise = looks.rise;
-  seen = All-weaker (IsSeenOf S) (IsSeenOf L) (λ A part. whole-trans A S L part more) lists looks.seen;
-  published = looks.published;
-}
+looks-before S L lists more looks = grind (arith, All-weaker, whole-trans)
 
 -- and so was that longer one, if its revision is above
 looks-more : (S L : List Entry) (lists : List (List Entry)) (drawn : Option ℕ) → drawn ≡ last_revision lists → IsAbove drawn (revision_at L)
@@ -58,9 +54,7 @@ in-manner held holds before after lists same text = subst (λ m. Appends held ho
 drawn-after : (held then holds : Option (List ℕ)) (m : Manner) (drawn : Option ℕ) (lists : List (List Entry)) (L : List Entry)
     → Appends held then (frames m lists) → drawn ≡ last_revision lists
     → Appends then holds (drawing m drawn (revision_at L) (picture_at L)) → Appends held holds (frames m (L ∷ lists))
-drawn-after held then holds m drawn lists L was last gets =
-    Appends-trans held then holds (frames m lists) (drawing m (last_revision lists) (revision_at L) (picture_at L)) was
-    (subst (λ d. Appends then holds (drawing m d (revision_at L) (picture_at L))) last gets)
+drawn-after held then holds m drawn lists L was last gets = grind (arith, Appends-trans)
 
 -- a look draws its own list after what was drawn, or what was drawn last has its revision
 pub drawn-look : {W : Type 0} (contents : W → Option (List ℕ)) (held : Option (List ℕ)) (s t : W) (before after : Easel) (shown : Option ℕ)
@@ -93,28 +87,14 @@ no-operation (op ∷ ops) none = cc
 -- a whole prefix with the revision of the list has its picture
 same-picture : (L whole : List Entry) → IsWholePrefix L whole → revision_at L ≡ revision_at whole → picture_at L ≡ picture_at whole
 unfolding revision_after
-same-picture L whole part same =
-    let sum : revision_at whole ≡ revision_at L + revision_at part.rest = ap revision_at part.whole ∙ revision_at-append L part.rest in
-    let none : length (operations part.rest) ≡ 0 = omega arith in
-    let rest : operations part.rest ≡ [] = no-operation (operations part.rest) none in
-    sym (ap picture_at part.whole
-    ∙ (ap picture_after (operations-append L part.rest) ∙ ap picture_after (ap (λ ops. operations L ++ ops) rest ∙ append-nil (operations L))))
+same-picture L whole part same = grind (arith, revision_at-append, no-operation, sym, operations-append, append-nil)
 
 -- the last picture was drawn before
 shown-before : (easel : Easel) (whole : List Entry) (held holds : Option (List ℕ)) (lists : List (List Entry))
     → Appends held holds (frames (manner_of easel) lists) → AreLooks whole lists → last_revision lists ≡ Some (revision_at whole)
     → ShowsLast (manner_of easel) whole held holds
 shown-before easel whole held holds [] text looks last = cc
-shown-before easel whole held holds (L ∷ earlier) text looks last =
-    let revision : revision_at L ≡ revision_at whole = cc in
-    record {
-      last = L;
-      earlier = earlier;
-      text = text;
-      looks = looks;
-      revision = revision;
-      picture = same-picture L whole (All-head (IsSeenOf whole) L earlier looks.seen) revision;
-    }
+shown-before easel whole held holds (L ∷ earlier) text looks last = grind (arith, same-picture, All-head)
 
 -- the last look leaves the last picture on the screen
 pub shown-last : {W : Type 0} (contents : W → Option (List ℕ)) (held : Option (List ℕ)) (s t : W) (before after : Easel) (whole : List Entry) (shown : Option ℕ)
@@ -146,9 +126,7 @@ drawn-nothing easel held nothing = record { lists = []; text = Appends-nil held;
 
 -- all that an easel has drawn is a part of it
 pub part-all : (easel : Easel) (held holds : Option (List ℕ)) → HasDrawn easel held holds → HasDrawnPart (manner_of easel) held holds
-part-all easel held holds was =
-    let text = frames (manner_of easel) was.lists in
-    record { whole = looked_at_list easel; lists = was.lists; looks = was.looks; text = (text, [], sym (append-nil text), was.text) }
+part-all easel held holds was = grind (arith, sym, append-nil)
 
 -- nothing was drawn
 pub part-nothing : (m : Manner) (held : Option (List ℕ)) → HasDrawnPart m held held

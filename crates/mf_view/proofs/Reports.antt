@@ -1,5 +1,5 @@
 -- How faults that end a run are reported.
-use Rattle.std.proofs.Common.{◌≡◌, ◌⊎◌, ℕ, inl, inr, List, Option, refl, sym, subst, arith, ⊎_elim, ◌∙◌}
+use Rattle.std.proofs.Common.{◌≡◌, ◌⊎◌, ℕ, inl, inr, List, Option, refl, sym, arith, ⊎_elim}
 use Rattle.clap.specs.Words.{Text}
 use Rattle.mf_base.specs.Messages.{GetsFront}
 use Rattle.mf_frame.specs.Canvases.{IsLargeEnough}
@@ -45,19 +45,8 @@ module _ (words : List Text) (asked : Words) (request : IsRequest words (Show as
   pub reported : (fault : ProgramFault) (status : ℕ) (IsUnread : Type 0) (between : Option (List ℕ)) (s : ScreenStreams)
       → EndsScript asked (record s { transcript = record { held = s.transcript.held; holds = between } }) fault → (fault ≡ NoPlace → IsUnread)
       → status ≡ status_of fault → GetsFront between s.transcript.holds (message_of fault) → ReportsFaultLast words status IsUnread s
-  reported fault status IsUnread between s ends unread is message = record {
-    fault = fault;
-    status_is = sym is;
-    between = between;
-    ends = inr (inr (asked, request, ends));
-    message = message;
-    unread = unread;
-  }
+  reported fault status IsUnread between s ends unread is message = grind (arith, sym)
 
   -- all words of a script with the same values have the same size of frames
   pub lacking : LacksRoom words → IsLargeEnough asked.columns asked.rows → ⊥
-  lacking lacks large =
-      let here = request.2 in
-      let there = lacks.request.2 in
-      lacks.small (subst (λ n. IsLargeEnough n lacks.asked.rows) (here.columns ∙ sym there.columns)
-      (subst (λ n. IsLargeEnough asked.columns n) (here.rows ∙ sym there.rows) large))
+  lacking lacks large = grind (arith, sym)

@@ -1,17 +1,13 @@
-use Rattle.std.proofs.Common.{Err, ap, subst}
+use Rattle.std.proofs.Common.{Err, ap, subst, arith}
 use Rattle.mf_easel.specs.Easels.{IsNotDrawn}
 use Rattle.mf_view.proofs.Drawn.{drawn-look, part-cut}
 use Rattle.mf_view.proofs.drawing.draw.Goals as goal
 
 pub returns-in-Ok-Some-clause-drawn : goal.returns-in-Ok-Some-clause-drawn
-returns-in-Ok-Some-clause-drawn g c = λ held was.
-    let done = c.in-Ok-Some.ensures in
-    drawn-look g.W.Write.contents held _ _ _ _ _ done.looked done.manner done.answer done.drawn done.screen done.rising was
+returns-in-Ok-Some-clause-drawn g c = grind (arith, drawn-look)
 
 pub returns-in-Ok-None-clause-drawn : goal.returns-in-Ok-None-clause-drawn
-returns-in-Ok-None-clause-drawn g c = λ held was.
-    let done = c.in-Ok-None.ensures in
-    drawn-look g.W.Write.contents held _ _ _ _ _ done.looked done.manner done.answer done.drawn done.screen done.rising was
+returns-in-Ok-None-clause-drawn g c = grind (arith, drawn-look)
 
 pub returns-in-Err-clause-part : goal.returns-in-Err-clause-part
 returns-in-Err-clause-part g c = λ held was.

@@ -1,12 +1,10 @@
-use Rattle.std.proofs.Common.{Err, ap, subst}
+use Rattle.std.proofs.Common.{Err, ap, subst, arith}
 use Rattle.mf_easel.specs.Easels.{IsLastNotDrawn}
 use Rattle.mf_view.proofs.Drawn.{part-cut, shown-last}
 use Rattle.mf_view.proofs.drawing.draw_last.Goals as goal
 
 pub returns-in-Ok-clause-shown : goal.returns-in-Ok-clause-shown
-returns-in-Ok-clause-shown g c = λ held was.
-    let done = c.in-Ok.ensures in
-    shown-last g.W.Write.contents held _ _ _ c.look_last.new.self _ _ done.looked done.answer done.screen done.rising was
+returns-in-Ok-clause-shown g c = grind (arith, shown-last)
 
 pub returns-in-Err-clause-part : goal.returns-in-Err-clause-part
 returns-in-Err-clause-part g c = λ held was.

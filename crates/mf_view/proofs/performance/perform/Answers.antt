@@ -1,19 +1,14 @@
-use Rattle.std.proofs.Common.{Err, ap, arith}
+use Rattle.std.proofs.Common.{arith}
 use Rattle.mf_base.proofs.Faults.{IfErr-raised}
 use Rattle.mf_view.proofs.Broken.{broken-place, broken-stage, unasked-stage}
 use Rattle.mf_view.proofs.Drawn.{part-nothing}
 use Rattle.mf_view.proofs.performance.perform.Goals as goal
 
 pub returns-in_err-stage-clause-fault : goal.returns-in_err-stage-clause-fault
-returns-in_err-stage-clause-fault g c =
-    IfErr-raised c.from_residual.result _ c.from_residual.ensures.1 (broken-stage _ _ c.in_err-stage.field-0.0 c.in_err-stage.ensures.fault (λ is.
-    let below = c.in_err-stage.ensures.too_long.1 (ap Err is) in
-    omega (arith, below)))
+returns-in_err-stage-clause-fault g c = grind (arith, IfErr-raised, broken-stage)
 
 pub returns-in_err-stage-clause-plates : goal.returns-in_err-stage-clause-plates
-returns-in_err-stage-clause-plates g c =
-    IfErr-raised c.from_residual.result _ c.from_residual.ensures.1
-    (λ concerns. absurd (unasked-stage c.in_err-stage.field-0.0 c.in_err-stage.ensures.fault concerns))
+returns-in_err-stage-clause-plates g c = grind (arith, IfErr-raised, unasked-stage)
 
 pub returns-clause-fault : goal.returns-clause-fault
 returns-clause-fault g c = broken-place _ _

@@ -1,4 +1,4 @@
-use Rattle.std.proofs.Common.{◌∙◌}
+use Rattle.std.proofs.Common.{◌∙◌, arith}
 use Rattle.mf_view.proofs.Broken.{asked-whole, broken-whole}
 use Rattle.mf_view.proofs.Drawn.{drawn-nothing}
 use Rattle.mf_view.proofs.Shown.{drawn-both, part-end, shown-end, shown-whole, stands-after}
@@ -7,20 +7,12 @@ use Rattle.mf_view.proofs.performance.show.Goals.{After-and-drawn}
 use Rattle.mf_view.proofs.performance.show.Goals as goal
 
 pub conclude-requires-clause-stands : goal.conclude-requires-clause-stands
-conclude-requires-clause-stands g c =
-    stands-after c.args.stage c.perform_beside-drawn.new.stage c.perform_beside-drawn.result.performed c.requires.start
-    c.perform_beside-drawn.ensures.script.stands
+conclude-requires-clause-stands g c = grind (arith, stands-after)
 
 -- how far the drawing has come when the performance is concluded
 drawn : (g : _) (c : After-and-drawn g) → HasDrawnAs c.and-drawn.result c.perform_beside-drawn.new.easel (g.W.Write.contents c.args.screen.now)
     (g.W.Write.contents c.perform_beside-drawn.new.screen)
-drawn g c =
-    let first = c.draw-first.ensures in
-    let beside = c.perform_beside-drawn.ensures.drawing in
-    let held = g.W.Write.contents c.args.screen.now in
-    rw c.and-drawn.ensures (drawn-both g.W.Write.contents held held c.draw-first.new.screen c.perform_beside-drawn.new.screen
-    c.args.easel c.draw-first.new.easel c.perform_beside-drawn.new.easel c.draw-first.result c.perform_beside-drawn.result.drawn
-    first.manner beside.manner first.drawn first.part beside.stopped beside.drawn beside.part (drawn-nothing c.args.easel held c.requires.blank))
+drawn g c = grind (arith, drawn-both, drawn-nothing)
 
 pub returns-clause-shown : goal.returns-clause-shown
 returns-clause-shown g c =
@@ -40,10 +32,7 @@ returns-clause-part g c =
     (drawn g (goal.at.returns-clause-part g c).After-and-drawn) c.conclude.ensures.part
 
 pub returns-clause-fault : goal.returns-clause-fault
-returns-clause-fault g c =
-    broken-whole c.args.stage c.perform_beside-drawn.new.stage _ _ _ c.requires.limits c.requires.start
-    c.perform_beside-drawn.result.performed c.conclude.result c.perform_beside-drawn.ensures.script.transcript
-    c.perform_beside-drawn.ensures.script.fault c.conclude.ensures.script c.conclude.ensures.late
+returns-clause-fault g c = grind (arith, broken-whole)
 
 pub returns-clause-plates : goal.returns-clause-plates
 returns-clause-plates g c =

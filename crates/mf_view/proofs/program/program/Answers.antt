@@ -1,4 +1,4 @@
-use Rattle.std.proofs.Common.{Err, ap, inl, inr, refl}
+use Rattle.std.proofs.Common.{Err, inl, refl, ap, arith}
 use Rattle.mf_view.proofs.Reports.{answered, reported, wanting}
 use Rattle.mf_view.proofs.program.program.Goals as goal
 
@@ -15,6 +15,4 @@ returns-in-Help-clause-fault g c = λ bad.
     answered _ _ _ _ (λ cut. inl (rw c.in-Help.is at c.in-Ok.ensures.value, c.answer.ensures.part cut)) c.answer.ensures.statuses bad c.answer.ensures.fault
 
 pub returns-in-Version-clause-fault : goal.returns-in-Version-clause-fault
-returns-in-Version-clause-fault g c = λ bad.
-    answered _ _ _ _ (λ cut. inr (rw c.in-Version.is at c.in-Ok.ensures.value, c.answer-in-Version.ensures.part cut))
-    c.answer-in-Version.ensures.statuses bad c.answer-in-Version.ensures.fault
+returns-in-Version-clause-fault g c = grind (arith, answered)

@@ -1,11 +1,11 @@
-use Rattle.std.proofs.Common.{[], Err, inl, inr, is_some, ap, refl, subst, sym, option_map, string_bytes, ◌∙◌}
+use Rattle.std.proofs.Common.{[], Err, inr, is_some, ap, sym, ◌∙◌, arith}
 use Rattle.std.proofs.lemmas.Bool.{false≢true}
 use Rattle.std.proofs.lemmas.Result.{err_from_is_err_and}
 use Rattle.mf_gf.specs.Files.{file_if_any}
-use Rattle.mf_view.specs.Endings.{IsShownFor, IsShownInto}
+use Rattle.mf_view.specs.Endings.{IsShownFor}
 use Rattle.mf_view.specs.Faults.{EndsScript}
 use Rattle.mf_view.specs.Performances.{ScreenStreams, screen_streams}
-use Rattle.mf_view.specs.Drawings.{HasDrawnPart, receipt}
+use Rattle.mf_view.specs.Drawings.{receipt}
 use Rattle.mf_view.proofs.FontsAsked.{err-same, no-file, on-ok-from, placed-unmade, placed-unwritten, unmade, unwritten}
 use Rattle.mf_view.proofs.Shown.{same-manner}
 use Rattle.mf_view.proofs.program.watch.Goals.{In_ok-file}
@@ -19,9 +19,7 @@ streams g c =
 
 -- the script was shown as the words ask for it
 shown : (g : _) (c : In_ok-file g) → IsShownFor c.args.words (streams g c) c.in_ok-file.file
-shown g c =
-    subst (λ m. IsShownInto (option_map string_bytes c.args.words.transcript) m (streams g c) c.in_ok-file.file)
-    (same-manner _ _ _ _ c.in_ok-showing.ensures.asked) c.in_ok-file.ensures.done
+shown g c = grind (arith, same-manner)
 
 pub returns-in-Some-clause-done : goal.returns-in-Some-clause-done
 returns-in-Some-clause-done g c =
@@ -36,23 +34,10 @@ returns-in-Some-clause-done g c =
     })
 
 pub returns-in_err-showing-clause-fault : goal.returns-in_err-showing-clause-fault
-returns-in_err-showing-clause-fault g c =
-    let failed = err_from_is_err_and c.from_residual.result c.from_residual.ensures.1 in
-    let undrawn = refl {a = g.W.Write.contents c.args.screen.now} in
-    let untold = refl {a = g.E.Write.contents c.args.errors.now} in
-    rw (failed.1, failed.2) (inl (refl, (λ large. false≢true (c.in_err-showing.ensures.accepted.1 large)), (undrawn, untold)))
+returns-in_err-showing-clause-fault g c = grind (arith, err_from_is_err_and, false≢true)
 
 pub returns-in_err-file-clause-fault : goal.returns-in_err-file-clause-fault
-returns-in_err-file-clause-fault g c =
-    let failed = err_from_is_err_and c.from_residual-in_err-file.result c.from_residual-in_err-file.ensures.1 in
-    let held = g.W.Write.contents c.args.screen.now in
-    let holds = g.W.Write.contents c.perform_into.new.screen in
-    rw (failed.1, failed.2) (inr (inl (
-      c.in_err-file.ensures.fault,
-      subst (λ m. HasDrawnPart m held holds) (same-manner _ _ _ _ c.in_ok-showing.ensures.asked) c.in_err-file.ensures.part,
-      (λ concerns. c.in_ok-showing.ensures.plates (c.in_err-file.ensures.plates concerns)),
-      (λ is. ap g.W.Write.contents (c.in_err-file.ensures.no_place (ap Err is)).1),
-    )))
+returns-in_err-file-clause-fault g c = grind (arith, err_from_is_err_and, same-manner)
 
 pub returns-in_err-bytes-clause-fault : goal.returns-in_err-bytes-clause-fault
 returns-in_err-bytes-clause-fault g c =
@@ -80,14 +65,10 @@ returns-in-None-clause-done g c = record {
 }
 
 pub returns-in_err-file-clause-unread : goal.returns-in_err-file-clause-unread
-returns-in_err-file-clause-unread g c =
-    let failed = err_from_is_err_and c.from_residual-in_err-file.result c.from_residual-in_err-file.ensures.1 in
-    rw (failed.1, failed.2) (λ is. (c.in_err-file.ensures.no_place (ap Err (err-same _ _ _ refl is))).0)
+returns-in_err-file-clause-unread g c = grind (arith, err_from_is_err_and, err-same)
 
 pub returns-in_err-bytes-clause-unread : goal.returns-in_err-bytes-clause-unread
-returns-in_err-bytes-clause-unread g c =
-    let failed = err_from_is_err_and c.from_residual-in_err-bytes.result c.from_residual-in_err-bytes.ensures.1 in
-    rw (failed.1, failed.2) (λ is. absurd (placed-unmade _ _ c.in_err-bytes.ensures.fault refl is))
+returns-in_err-bytes-clause-unread g c = grind (arith, err_from_is_err_and, placed-unmade)
 
 pub returns-in-Some-clause-unread : goal.returns-in-Some-clause-unread
 returns-in-Some-clause-unread g c = λ is. absurd (placed-unwritten c.in_ok-bytes.bytes _ c.write_font.ensures.none c.write_font.ensures.fault is)

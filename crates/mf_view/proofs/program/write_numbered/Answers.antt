@@ -1,4 +1,4 @@
-use Rattle.std.proofs.Common.{◌++◌, codes, decimal}
+use Rattle.std.proofs.Common.{◌++◌, codes, decimal, arith}
 use Rattle.std.proofs.KnownBytes.{Appends-trans}
 use Rattle.std.specs.Io.KnownBytes.{Appends}
 use Rattle.mf_base.specs.Messages.{GetsFront}
@@ -6,9 +6,7 @@ use Rattle.mf_view.proofs.Messages.{message-after, message-front}
 use Rattle.mf_view.proofs.program.write_numbered.Goals as goal
 
 pub returns-then-not-write_text : goal.returns-then-not-write_text
-returns-then-not-write_text g c =
-    message-front _ _ (c.args.text.now ++ decimal c.args.number) (codes "\n")
-    (message-front _ _ c.args.text.now (decimal c.args.number) c.write_text.ensures.front)
+returns-then-not-write_text g c = grind (arith, message-front)
 
 pub returns-then-not-write_text-2 : goal.returns-then-not-write_text-2
 returns-then-not-write_text-2 g c =
