@@ -145,7 +145,7 @@ pub fn after(alloc: Global, picture: &Picture, op: &Op) -> Result<Picture, OpFau
     ensures culls_blank { (cull : CullRule) → picture.now ≡ [] → op.now ≡ ops.Cull cull → IsOk result }
 {
     match op {
-        // The turning check comes before the copy, and so this is not `apply` on a copy: a failed copy must not hide a refusal.
+        // The turning check comes before the copy, and so this is not `apply` on a copy: a failed copy must not hide its refusal.
         Op::Contour(cycle, weight, check) => {
             let filling = filling_weight(cycle, *weight, *check)?;
             let mut filled = picture.copy(alloc)?;

@@ -8,7 +8,7 @@ use Rattle.mf_rows.specs.Dots.{Dot}
 use Rattle.mf_session.specs.Answers.{Answers}
 use Rattle.mf_session.specs.States.{State, answer_with}
 use Rattle.mf_session.specs.Transcript.{DueLines, IsFirstText, due_lines}
-use Rattle.mf_stage.specs.Scripts.{Act, OfInput}
+use Rattle.mf_stage.specs.Scripts.{Act, HoldsOfInput}
 use Rattle.mf_stage.specs.Stages.{StandsFor, limits, plates_of}
 use Rattle.mf_stage.specs.declared.fault.StageFault.{StageFault}
 use Rattle.mf_stage.specs.declared.fault.StageFault.TheVariants.{OutOfMemory, FileTooLong, ReadFault, WriteFault, ImageTooLarge, PlateFault}
@@ -79,7 +79,7 @@ BreaksLines act whole fault = (s : State) → StandsFor act.before s → AreBrok
 
 -- in this act the fault has broken a script off, that of its reader
 abbrev pub BreaksScript : Act → Option (List ℕ) → StageFault → Type 0
-BreaksScript act unread fault = OfInput unread (λ input. BreaksLines act (lines input) fault)
+BreaksScript act unread fault = HoldsOfInput unread (λ input. BreaksLines act (lines input) fault)
 
 -- with this fault this picture, which has this revision, has no image
 abbrev pub IsOfImage : ℕ → List Dot → StageFault → Type 0

@@ -41,14 +41,14 @@ abbrev pub PerformsLines : Act → List (List ℕ) → Type 0
 PerformsLines act done = (s : State) → StandsFor act.before s → PerformsFrom act s done
 
 -- this is true of what a reader had, where it is known, and else of some bytes
-pub record OfInput (unread : Option (List ℕ)) (IsSuch : List ℕ → Type 0) : Type 0 where
+pub record HoldsOfInput (unread : Option (List ℕ)) (IsSuch : List ℕ → Type 0) : Type 0 where
   pub input : List ℕ
   pub known : IfSome unread (λ bytes. input ≡ bytes)
   pub such : IsSuch input
 
 -- in this act the stage has performed all lines of a script, that of its reader
 abbrev pub PerformsAll : Act → Option (List ℕ) → Type 0
-PerformsAll act unread = OfInput unread (λ input. PerformsLines act (lines input))
+PerformsAll act unread = HoldsOfInput unread (λ input. PerformsLines act (lines input))
 
 -- the stage represents a state if it represented one before
 abbrev pub StillStands : Stage → Stage → Type 0

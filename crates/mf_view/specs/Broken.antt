@@ -7,7 +7,7 @@ use Rattle.mf_live.specs.Entries.{Entry}
 use Rattle.mf_session.specs.States.{State, answer_with, start}
 use Rattle.mf_session.specs.Transcript.{DueLines, Perform, due_lines}
 use Rattle.mf_stage.specs.Faults.{IsOfPlate, TellsOfScript}
-use Rattle.mf_stage.specs.Scripts.{OfInput}
+use Rattle.mf_stage.specs.Scripts.{HoldsOfInput}
 use Rattle.mf_stage.specs.declared.fault.StageFault.{StageFault}
 use Rattle.mf_view.specs.Causes.{fault_of_easel, fault_of_stage}
 use Rattle.mf_view.specs.Performances.{script_limits}
@@ -27,9 +27,9 @@ TellsOfPerformance d last fault written =
     ((cause : StageFault) × (fault ≡ fault_of_stage cause) × TellsOfScript d last cause written)
     ⊎ ((Perform d.limits d.from d.whole (answer_with written last) × IsOfEnd last.pictures.accepted fault) ⊎ ((fault ≡ NoPlace) × (written ≡ [])))
 
--- a fault has broken off the performance of the script of these bytes; the transcript, which told some bytes before, tells what the fault
--- says
-pub record BreaksInput (told tells : Option (List ℕ)) (fault : ProgramFault) (input : List ℕ) : Type 0 where
+-- this fault has broken off the performance of the script of these bytes; the transcript, which told some bytes before, tells what the
+-- fault says
+pub record BreaksPerformance (told tells : Option (List ℕ)) (fault : ProgramFault) (input : List ℕ) : Type 0 where
   pub last : State
   pub written : List ℕ
   pub out : Appends told tells written
@@ -37,4 +37,4 @@ pub record BreaksInput (told tells : Option (List ℕ)) (fault : ProgramFault) (
 
 -- a fault has broken off the performance of a script, that of the reader
 abbrev pub IsBrokenOff : Option (List ℕ) → Option (List ℕ) → Option (List ℕ) → ProgramFault → Type 0
-IsBrokenOff unread told tells fault = OfInput unread (BreaksInput told tells fault)
+IsBrokenOff unread told tells fault = HoldsOfInput unread (BreaksPerformance told tells fault)

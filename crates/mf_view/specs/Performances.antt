@@ -7,7 +7,7 @@ use Rattle.mf_gf.specs.Keeping.{Keeps}
 use Rattle.mf_session.specs.Endings.{complete_list}
 use Rattle.mf_session.specs.States.{Limits, limits_of, most_bytes, most_operations}
 use Rattle.mf_session.specs.Transcript.{IsTranscript}
-use Rattle.mf_stage.specs.Scripts.{OfInput}
+use Rattle.mf_stage.specs.Scripts.{HoldsOfInput}
 use Rattle.mf_view.specs.Drawings.{Receipt, ShowsLast}
 
 -- the limits of a script (here as well as in the code, so that a wrong constant there is not proved)
@@ -35,4 +35,4 @@ pub record IsShown (manner : Manner) (s : ScreenStreams) (file : GfFile) (input 
 
 -- a script was performed and shown, that of the reader
 abbrev pub Shows : Manner → ScreenStreams → GfFile → Type 0
-Shows manner s file = OfInput s.unread (IsShown manner s file)
+Shows manner s file = HoldsOfInput s.unread (IsShown manner s file)

@@ -20,8 +20,8 @@ pub record EaselAct (W : Type 0) : Type 0 where
 abbrev pub easel_act : {W : Type 0} → Easel → Easel → Screen W → EaselAct W
 easel_act before after screen = record { before = before; after = after; screen = screen }
 
--- what the drawing beside a script does after a first frame with this result, and what it comes to: it draws more, or a part of that where it
--- fails, and nothing where the first frame has failed
+-- what the drawing beside a script does after a first frame with this result, and what it comes to: it draws more, or a part of that
+-- where it fails, and nothing where the first frame has failed
 pub record DrawsBeside {W : Type 0} (first : Result (Unit {0}) EaselFault) (act : EaselAct W) (result : Result (Unit {0}) EaselFault) : Type 0 where
   pub identity : easels.identity act.after ≡ easels.identity act.before
   pub manner : easels.HasSameManner act.before act.after
