@@ -66,18 +66,18 @@ class Runner:
         """The file that is the standard input."""
         return self.folder / self.SCRIPT
 
-    def written(self):
+    def outputs(self):
         """The files that a run writes."""
         return [self.PRINTED, self.FONT]
 
-    def told(self):
+    def output(self):
         """What the last run wrote."""
         return (self.folder / self.PRINTED).read_text()
 
     def run(self, before=()):
         """Runs the program, and returns its time in seconds. It writes into new files: where one is cut off that is still being written to
         the disk, a run may wait for that."""
-        for name in self.written():
+        for name in self.outputs():
             (self.folder / name).unlink(missing_ok=True)
         with open(self.stdin(), "rb") as lines, open(self.folder / self.PRINTED, "wb") as printed:
             begin = self.clock()
@@ -90,7 +90,7 @@ class Runner:
                 stderr=subprocess.DEVNULL,
             )
             seconds = self.clock() - begin
-        if fault := re.search(self.FAULT, self.told(), re.MULTILINE):
+        if fault := re.search(self.FAULT, self.output(), re.MULTILINE):
             raise SystemExit(f"{' '.join(self.words)} reports a fault: {fault[0]}")
         if done.returncode != 0:
             raise SystemExit(f"{' '.join(self.words)} exits with status {done.returncode}")
@@ -98,7 +98,7 @@ class Runner:
 
     def totals(self):
         """The totals that the last run printed."""
-        return re.findall(self.TOTAL, self.told(), re.MULTILINE)
+        return re.findall(self.TOTAL, self.output(), re.MULTILINE)
 
     def characters(self):
         """The bytes of the characters that the last run shipped, which are between pre and post in its font file."""
@@ -131,7 +131,7 @@ class Program(Runner):
 
     def run(self, before=()):
         seconds = super().run(before)
-        refused = len(re.findall(r"^refused ", self.told(), re.MULTILINE))
+        refused = len(re.findall(r"^refused ", self.output(), re.MULTILINE))
         if refused != self.refused:
             raise SystemExit(f"{self.NAME} refuses {refused} lines, and should refuse {self.refused}")
         return seconds
@@ -158,10 +158,10 @@ class Metafont(Runner):
     def stdin(self):
         return os.devnull
 
-    def written(self):
-        return [*super().written(), "work.log"]
+    def outputs(self):
+        return [*super().outputs(), "work.log"]
 
-    def told(self):
+    def output(self):
         return (self.folder / "work.log").read_text(errors="replace")
 
     def totals(self):
@@ -178,7 +178,7 @@ def is_wanted(repeats, times, seconds):
     return len(times) < repeats or (len(times) < 100 and seconds < 2)
 
 
-def repeated(repeats, runner):
+def times_of(repeats, runner):
     """The times of repeated runs."""
     times = []
     while is_wanted(repeats, times, sum(times)):
@@ -224,7 +224,7 @@ def row(arguments, name, lines, folder, plain):
     return f"| {name} | {' | '.join(cells)} |"
 
 
-def compiled(folder):
+def compile_plain(folder):
     """The path of the compiled C++ program, or nothing where there is no compiler."""
     compiler = shutil.which(os.environ.get("CXX", "c++"))
     if not compiler:
@@ -235,7 +235,7 @@ def compiled(folder):
 
 
 def compare(arguments, folder):
-    plain = compiled(folder)
+    plain = compile_plain(folder)
     cells = [f"{name}, s" for name in NAMES] + [f"{name} / mfpic" for name in NAMES[1:]] + [f"{name}, MB" for name in NAMES]
     print(f"| workload | {' | '.join(cells)} |")
     print("|---" * (1 + len(cells)) + "|")
@@ -253,7 +253,7 @@ def growth(arguments, folder):
         times = []
         for factor in (1, 2, 4):
             own = Program(arguments.program, make(arguments.seed, size * factor), folder)
-            times.append(min(repeated(arguments.repeats, own)))
+            times.append(min(times_of(arguments.repeats, own)))
         shown = " | ".join(f"{seconds:.3f}" for seconds in times)
         print(f"| {name} | {size:,} | {shown} | {times[2] / times[0]:.1f} |", flush=True)
 

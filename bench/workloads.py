@@ -61,7 +61,7 @@ def one_line(seed, size):
     return [contour("currentpicture", rectangle(0, 0, 3, 2)), total()]
 
 
-def placed(seed, size, columns, rows):
+def random_rectangles(seed, size, columns, rows):
     """Rectangles with sides of 1 to 30 and weights of -3 to 3, with uniformly random sizes and places."""
     draw = random.Random(seed)
     lines = []
@@ -73,33 +73,33 @@ def placed(seed, size, columns, rows):
     return lines
 
 
-def scattered(seed, size, columns, rows):
+def culled_rectangles(seed, size, columns, rows):
     """Such rectangles, and a cull."""
-    return placed(seed, size, columns, rows) + [total(), "cull currentpicture keeping (1,32767)", total()]
+    return random_rectangles(seed, size, columns, rows) + [total(), "cull currentpicture keeping (1,32767)", total()]
 
 
-def published(seed, size, every):
+def publishes(seed, size, every):
     """Rectangles on 4,000 by 4,000 pixels, with a publish after each `every` of them, and no cull."""
     lines = []
-    for number, line in enumerate(placed(seed, size, 4000, 4000), 1):
+    for number, line in enumerate(random_rectangles(seed, size, 4000, 4000), 1):
         lines += [line, "publish"] if number % every == 0 else [line]
     return lines + [total()]
 
 
 def published_each(seed, size):
-    return published(seed, size, 1)
+    return publishes(seed, size, 1)
 
 
 def published_tenth(seed, size):
-    return published(seed, size, 10)
+    return publishes(seed, size, 10)
 
 
 def rectangles(seed, size):
-    return scattered(seed, size, 4000, 4000)
+    return culled_rectangles(seed, size, 4000, 4000)
 
 
 def flat_rectangles(seed, size):
-    return scattered(seed, size, 8000, 200)
+    return culled_rectangles(seed, size, 8000, 200)
 
 
 def staircase(x, y, steps):
@@ -150,7 +150,7 @@ def comb_from_left(seed, size):
 
 def rounds(seed, size):
     """A picture is copied, the copy is moved and added, and the sum is culled, `size` times."""
-    lines = scattered(seed, 1500, 2000, 2000)
+    lines = culled_rectangles(seed, 1500, 2000, 2000)
     for _ in range(size):
         lines += [
             "a := nullpicture",
@@ -162,7 +162,7 @@ def rounds(seed, size):
     return lines + [total()]
 
 
-def doubled(name, other, right, up):
+def double(name, other, right, up):
     return [
         f"{other} := nullpicture",
         f"addto {other} also {name}",
@@ -175,7 +175,7 @@ def checkerboard(seed, size):
     """A checkerboard with sides of 2 ** size pixels, which is then moved, reflected, stretched and turned."""
     lines = [contour("a", rectangle(0, 0, 1, 1)), contour("a", rectangle(1, 1, 1, 1))]
     for k in range(1, size):
-        lines += doubled("a", "b", 2**k, 0) + doubled("a", "b", 0, 2**k)
+        lines += double("a", "b", 2**k, 0) + double("a", "b", 0, 2**k)
     lines += [total("a")]
     for _ in range(4):
         lines += ["a := a shifted (3,-5)", "a := a xscaled -1", "a := a yscaled -1", "a := a rotated 90", total("a")]
@@ -194,7 +194,7 @@ def copies(source, target, count, right, up):
             lines += ["b := nullpicture", f"addto b also {source}", move, f"addto {target} also b"]
             placed += 1 << k
         if count >> k + 1:
-            lines += doubled(source, "b", right << k, up << k)
+            lines += double(source, "b", right << k, up << k)
     return lines
 
 

@@ -430,14 +430,14 @@ def compare(command: Command, printed: list[str]) -> Finding:
         pattern = re.compile(".*".join(map(re.escape, GAP.split(line))))
         fitting = {place + 1 for place in places if place < len(printed) and pattern.fullmatch(printed[place])}
         if not fitting:
-            return command.below + number, f"the command prints {shown(printed, places)} here"
+            return command.below + number, f"the command prints {lines_at(printed, places)} here"
         places = fitting
     if len(printed) not in places:
         return command.line, f"the command also prints {printed[max(places)]!r} below what is shown"
     return command.line, FINE
 
 
-def shown(printed: list[str], places: set[int]) -> str:
+def lines_at(printed: list[str], places: set[int]) -> str:
     """What is printed in these places."""
     if len(places) > 1:
         return "no such line"
@@ -524,7 +524,7 @@ def check_document(repository: Repository, document: Document) -> Iterator[Findi
 # The repository.
 
 
-def unlinked(repository: Repository) -> list[str]:
+def lost_documents(repository: Repository) -> list[str]:
     """The documents to which no links lead from README.md."""
     left, found = set(repository.documents()) - {README}, [README]
     while found:
@@ -553,7 +553,7 @@ def check_repository(repository: Repository) -> Iterator[tuple[str, Finding]]:
     count = len(repository.read(README).splitlines())
     if count > MAX_LINES:
         yield README, (count, f"the file has more than {MAX_LINES} lines")
-    for path in unlinked(repository):
+    for path in lost_documents(repository):
         yield path, (1, "no link leads here from README.md, nor from a document that it leads to")
     yield from old_paths(repository)
 
@@ -606,7 +606,7 @@ SOUND = {
 }
 
 
-def fenced(info: str, *lines: str) -> str:
+def block_of(info: str, *lines: str) -> str:
     return "\n".join([f"```{info}", *lines, "```", ""])
 
 
@@ -614,24 +614,24 @@ CLAUSES = ("ensures first { result ≡ 1 }", "ensures second { result ≢ 2 }", 
 ONE, TWO = "pub fn one(&self) -> u8", "fn two() -> u8"
 # What may stand at the end of README.md, and how many commands, quotations and links it has.
 RIGHT = {
-    "a command": (1, fenced("console", "$ echo a", "a")),
-    "both outputs": (1, fenced("console", "$ echo a; echo b >&2", "a", "b")),
-    "lines left out": (2, fenced("console", "$ seq 5", "1", "..", "4", "5", "$ seq 3", "..")),
-    "text left out": (1, fenced("console", "$ echo abc; echo 'a....b'", "a..c", "a....b")),
-    "a file of another command": (2, fenced("console", "$ echo a > new") + fenced("console", "$ cat new", "a")),
-    "a command of two lines": (1, fenced("console", "$ echo a \\", "    b", "a b")),
-    "the program": (1, fenced("console", "$ ./mfpic < examples/a.mfp")),
-    "a saved script": (1, fenced("mfp save=own", "x") + fenced("console", "$ ./mfpic < own", "refused Syntax 1")),
-    "a saved text": (1, fenced("text save=own", "x") + fenced("console", "$ cat own", "x")),
-    "a program that is missing": (0, fenced("console needs=bash needs=no-such-program", "$ echo a", "b")),
-    "a program that is there": (1, fenced("console needs=bash", "$ echo a", "a")),
-    "a skipped command": (0, fenced("console skip=takes-long", "$ echo a", "b")),
-    "a script": (1, fenced("mfp", "a := nullpicture", "", "% a comment")),
-    "a file": (1, fenced("mfp file=examples/a.mfp", *SCRIPT.splitlines())),
-    "lines of a file": (1, fenced("mfp file=examples/a.mfp", "", "show a")),
-    "lines of a source": (1, fenced(f"rust {KIND}", "{", "    1", "}")),
-    "a contract": (1, fenced(f"contract {KIND}", ONE, "..", CLAUSES[1], "..", TWO, f"    {CLAUSES[2]}")),
-    "a text": (0, fenced("text", "anything")),
+    "a command": (1, block_of("console", "$ echo a", "a")),
+    "both outputs": (1, block_of("console", "$ echo a; echo b >&2", "a", "b")),
+    "lines left out": (2, block_of("console", "$ seq 5", "1", "..", "4", "5", "$ seq 3", "..")),
+    "text left out": (1, block_of("console", "$ echo abc; echo 'a....b'", "a..c", "a....b")),
+    "a file of another command": (2, block_of("console", "$ echo a > new") + block_of("console", "$ cat new", "a")),
+    "a command of two lines": (1, block_of("console", "$ echo a \\", "    b", "a b")),
+    "the program": (1, block_of("console", "$ ./mfpic < examples/a.mfp")),
+    "a saved script": (1, block_of("mfp save=own", "x") + block_of("console", "$ ./mfpic < own", "refused Syntax 1")),
+    "a saved text": (1, block_of("text save=own", "x") + block_of("console", "$ cat own", "x")),
+    "a program that is missing": (0, block_of("console needs=bash needs=no-such-program", "$ echo a", "b")),
+    "a program that is there": (1, block_of("console needs=bash", "$ echo a", "a")),
+    "a skipped command": (0, block_of("console skip=takes-long", "$ echo a", "b")),
+    "a script": (1, block_of("mfp", "a := nullpicture", "", "% a comment")),
+    "a file": (1, block_of("mfp file=examples/a.mfp", *SCRIPT.splitlines())),
+    "lines of a file": (1, block_of("mfp file=examples/a.mfp", "", "show a")),
+    "lines of a source": (1, block_of(f"rust {KIND}", "{", "    1", "}")),
+    "a contract": (1, block_of(f"contract {KIND}", ONE, "..", CLAUSES[1], "..", TWO, f"    {CLAUSES[2]}")),
+    "a text": (0, block_of("text", "anything")),
     "a link": (2, "[B](docs/user/B.md#mf_kind-one) and [again](docs/user/B.md#twice-1)\n"),
     "no link": (0, "`[a](b.md)`, [web](https://example.org/b.md)\n"),
     "names": (0, "`crates/mf_kind/`, `mf_kind/src/lib.rt`, `src/only.rt`, `crates/NAME/src/*.rt`, `a / 2`, `out/a.md`\n"),
@@ -640,31 +640,31 @@ RIGHT = {
 }
 # The same with a fault, its line below the first one, and words of what is said of it.
 WRONG = {
-    "another output": (2, "prints 'a' here", fenced("console", "$ echo a", "b")),
-    "less output": (3, "prints nothing more here", fenced("console", "$ echo a", "a", "b")),
-    "more output": (1, "also prints 'b'", fenced("console", "$ echo a; echo b", "a")),
-    "another order": (5, "prints no such line here", fenced("console", "$ seq 4", "..", "2", "..", "1")),
-    "dots that are no gap": (2, "prints 'a--b' here", fenced("console", "$ echo a--b", "a...b")),
-    "a slow command": (1, "takes more than 1 second", fenced("console", "$ sleep 9")),
-    "no command": (0, "does not begin with a command", fenced("console", "echo a")),
-    "no info": (0, "says nothing", fenced("", "a")),
-    "another info": (0, "says python", fenced("python", "a")),
-    "another attribute": (0, "says file=a", fenced("console file=a", "$ true")),
-    "two attributes": (0, "says too much", fenced("mfp file=examples/a.mfp save=b", "show a")),
-    "a quotation of nothing": (0, "does not say of which file", fenced("rust", "a")),
-    "no reason": (0, "says skip=,", fenced("console skip=", "$ true")),
-    "a reason with commas": (0, "joined by hyphens", fenced("console skip=a,b", "$ true")),
-    "a file elsewhere": (0, "in the folder itself", fenced("mfp save=../a", "show a")),
-    "a refused line": (2, "prints: refused Syntax 1", fenced("mfp", "show a", "show x")),
-    "no such file": (0, "is no file", fenced("mfp file=examples/b.mfp", "show a")),
-    "another line": (2, "has no such line", fenced("mfp file=examples/a.mfp", "% second", "% third")),
-    "another indentation": (1, "has no such line", fenced("mfp file=examples/a.mfp", "  show a")),
-    "lines apart": (0, "but not in this order", fenced("mfp file=examples/a.mfp", "% second", "show a")),
-    "an empty quotation": (0, "but not in this order", fenced("mfp file=examples/a.mfp")),
-    "a source with gaps": (2, "has no such line", fenced(f"rust {KIND}", "{", "..", "}")),
-    "a clause less": (0, "but not in this order", fenced(f"contract {KIND}", ONE, CLAUSES[1])),
-    "another function's clause": (0, "but not in this order", fenced(f"contract {KIND}", ONE, "..", CLAUSES[2])),
-    "another clause": (2, "has no such line", fenced(f"contract {KIND}", ONE, "ensures first { result ≡ 2 }")),
+    "another output": (2, "prints 'a' here", block_of("console", "$ echo a", "b")),
+    "less output": (3, "prints nothing more here", block_of("console", "$ echo a", "a", "b")),
+    "more output": (1, "also prints 'b'", block_of("console", "$ echo a; echo b", "a")),
+    "another order": (5, "prints no such line here", block_of("console", "$ seq 4", "..", "2", "..", "1")),
+    "dots that are no gap": (2, "prints 'a--b' here", block_of("console", "$ echo a--b", "a...b")),
+    "a slow command": (1, "takes more than 1 second", block_of("console", "$ sleep 9")),
+    "no command": (0, "does not begin with a command", block_of("console", "echo a")),
+    "no info": (0, "says nothing", block_of("", "a")),
+    "another info": (0, "says python", block_of("python", "a")),
+    "another attribute": (0, "says file=a", block_of("console file=a", "$ true")),
+    "two attributes": (0, "says too much", block_of("mfp file=examples/a.mfp save=b", "show a")),
+    "a quotation of nothing": (0, "does not say of which file", block_of("rust", "a")),
+    "no reason": (0, "says skip=,", block_of("console skip=", "$ true")),
+    "a reason with commas": (0, "joined by hyphens", block_of("console skip=a,b", "$ true")),
+    "a file elsewhere": (0, "in the folder itself", block_of("mfp save=../a", "show a")),
+    "a refused line": (2, "prints: refused Syntax 1", block_of("mfp", "show a", "show x")),
+    "no such file": (0, "is no file", block_of("mfp file=examples/b.mfp", "show a")),
+    "another line": (2, "has no such line", block_of("mfp file=examples/a.mfp", "% second", "% third")),
+    "another indentation": (1, "has no such line", block_of("mfp file=examples/a.mfp", "  show a")),
+    "lines apart": (0, "but not in this order", block_of("mfp file=examples/a.mfp", "% second", "show a")),
+    "an empty quotation": (0, "but not in this order", block_of("mfp file=examples/a.mfp")),
+    "a source with gaps": (2, "has no such line", block_of(f"rust {KIND}", "{", "..", "}")),
+    "a clause less": (0, "but not in this order", block_of(f"contract {KIND}", ONE, CLAUSES[1])),
+    "another function's clause": (0, "but not in this order", block_of(f"contract {KIND}", ONE, "..", CLAUSES[2])),
+    "another clause": (2, "has no such line", block_of(f"contract {KIND}", ONE, "ensures first { result ≡ 2 }")),
     "no end": (0, "has no end", "```text\na\n"),
     "an indented block": (1, "indented and not fenced", "\n    echo a\n"),
     "a broken link": (0, "leads to no file", "[a](docs/NONE.md)\n"),
@@ -722,12 +722,12 @@ def self_test() -> Iterator[tuple[str, str]]:
         passed, faults = found_in(at_the_end(text))
         yield name, "; ".join(faults) if faults else FINE if passed == own + count else f"{passed - own} passed"
     for name, (line, words, text) in WRONG.items():
-        yield name, missed(f"README.md:{first + line}: ", words, found_in(at_the_end(text))[1])
+        yield name, difference(f"README.md:{first + line}: ", words, found_in(at_the_end(text))[1])
     for name, (files, place, words) in WRONG_FILES.items():
-        yield name, missed(place, words, found_in({**SOUND, **files})[1])
+        yield name, difference(place, words, found_in({**SOUND, **files})[1])
 
 
-def missed(place: str, words: str, faults: list[str]) -> str:
+def difference(place: str, words: str, faults: list[str]) -> str:
     """What is wrong where the first fault is not this one."""
     is_found = faults and faults[0].startswith(place) and words in faults[0]
     return FINE if is_found else f"the faults are {faults}, and not at {place}{words}"

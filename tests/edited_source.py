@@ -46,7 +46,7 @@ class Edit:
     pairs: tuple[tuple[str, str, str], ...]
     why: str
 
-    def applied(self, texts: Mapping[str, str]) -> dict[str, str]:
+    def apply(self, texts: Mapping[str, str]) -> dict[str, str]:
         """The files that it changes, by their path, with their new texts."""
         changed: dict[str, str] = {}
         if not self.pairs:
@@ -153,7 +153,7 @@ def changed_by(edit: Edit, texts: Mapping[str, str]) -> tuple[set[Function], set
     changes is concerned, and counts as changed if the edit changes no function."""
     changed: set[Function] = set()
     names: set[str] = set()
-    for file, text in edit.applied(texts).items():
+    for file, text in edit.apply(texts).items():
         (before, others), (after, others_after) = split(file, texts[file]), split(file, text)
         changed |= {key for key in {*before, *after} if before.get(key) != after.get(key)}
         names |= changed_items(others, others_after)

@@ -120,7 +120,7 @@ def missing() -> str | None:
     return None
 
 
-def drawn(name: str, mode: Mode, folder: pathlib.Path, more: str = "") -> pathlib.Path:
+def draw(name: str, mode: Mode, folder: pathlib.Path, more: str = "") -> pathlib.Path:
     """Has METAFONT draw a font, after the commands `more`. Returns the path of the font file, which has the log beside it."""
     setting = f"pixels_per_inch := {mode.pixels}; blacker := {mode.blacker}; fillin := {mode.fillin};"
     setting += f" o_correction := {mode.overshoot}; proofing := 0; fontmaking := 1; tracingtitles := 0;"
@@ -129,7 +129,7 @@ def drawn(name: str, mode: Mode, folder: pathlib.Path, more: str = "") -> pathli
     return folder / f"{name}.{mode.pixels}gf"
 
 
-def translated(font: pathlib.Path, *options: str) -> str:
+def translation(font: pathlib.Path, *options: str) -> str:
     """The script that is made from a font file and the log beside it."""
     return run([sys.executable, TOOLS / "mf2mfp.py", font.with_suffix(".log"), font, *options], font.parent)
 
@@ -180,7 +180,7 @@ def grid_of(transcript: str) -> dict[tuple[int, int], int]:
 def weights_by_metafont(folder: pathlib.Path) -> dict[tuple[int, int], int]:
     """The weights by pixels of the character of which the example has a proof, when METAFONT ships it."""
     showing = f'extra_endchar := extra_endchar & "if charcode = {PROOFED}: show currentpicture; fi";'
-    log = drawn(EXAMPLE, MODES[0], folder, showing).with_suffix(".log")
+    log = draw(EXAMPLE, MODES[0], folder, showing).with_suffix(".log")
     return pixels_of_edges(log.read_text(encoding="latin-1"))
 
 
@@ -200,26 +200,26 @@ def about_untranslated(commands: str, told: str, folder: pathlib.Path) -> list[s
     """What is wrong if a letter with these commands does not get the message `told`."""
     (folder / "letter.mf").write_text(LETTER.format(commands), encoding="ascii")
     try:
-        font = drawn("letter", MODES[0], folder)
+        font = draw("letter", MODES[0], folder)
     except Failure:
         font = folder / f"letter.{MODES[0].pixels}gf"
     try:
-        return [f"{commands}: this makes the script {translated(font)}"]
+        return [f"{commands}: this makes the script {translation(font)}"]
     except Failure as fault:
         return [] if re.search(rf": line \d+: .*{re.escape(told)}", str(fault)) else [f"{commands}: {fault}"]
 
 
 def compare(program: str, name: str, mode: Mode, folder: pathlib.Path) -> Compared:
     """Draws a font with METAFONT and with a script, and compares both."""
-    font, path = drawn(name, mode, folder), folder / "ours.gf"
-    theirs, script = read_font(font.read_bytes()), translated(font)
+    font, path = draw(name, mode, folder), folder / "ours.gf"
+    theirs, script = read_font(font.read_bytes()), translation(font)
     path.unlink(missing_ok=True)
     transcript = run([program, "--gf", path], folder, LIMIT_WITH_BUILD, script)
     ours = read_font(path.read_bytes())
     refused = [line for line in transcript.splitlines() if line.startswith("refused")]
     wrong = refused + difference(ours, theirs) + complaints(path, ours)
     if (name, mode) == (EXAMPLE, MODES[0]):
-        wrong += about_example(translated(font, "--proof", str(PROOFED)), theirs, folder)
+        wrong += about_example(translation(font, "--proof", str(PROOFED)), theirs, folder)
     same = sum(own.box == other.box for own, other in zip(ours.characters, theirs.characters))
     return Compared(len(theirs.characters), same, wrong)
 

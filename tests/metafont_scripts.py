@@ -98,7 +98,7 @@ class Room:
         if line.command == "rotated":
             edges = 2 * sum(map(abs, model.picture(name).values()))
         rows = abs(operand[0]) if line.command in ("scaled", "yscaled") else 1
-        return name, [moved(line.command, operand, corner) for corner in corners], edges * rows
+        return name, [place_after(line.command, operand, corner) for corner in corners], edges * rows
 
     def holds(self, line, model):
         """Whether METAFONT has room for the picture that a line changes. If so, the picture is remembered."""
@@ -119,7 +119,7 @@ def ends_of(corners):
     return [(min(columns), min(rows)), (max(columns), max(rows))]
 
 
-def moved(command, operand, corner):
+def place_after(command, operand, corner):
     """Where a shift, a scale or a turn moves a point."""
     x, y = corner
     if command == "shifted":
@@ -200,7 +200,7 @@ def by_program(program, lines, folder):
     return End(totals, [pixels_of_runs(text) for text in shown], font_at(path))
 
 
-def scaled(number):
+def in_points(number):
     """A number in 1/65536, as METAFONT writes it."""
     return f"{number / gf.PIXEL:.12f}"
 
@@ -209,7 +209,7 @@ def for_metafont(line):
     """A line as METAFONT reads it."""
     if line.command == "shipout":
         code, dx, width = numbers(line.tokens)
-        return f"charcode:={code}; chardx:={scaled(dx)}; charwd:={scaled(width * WIDTH)}; shipout {line.tokens[1]};"
+        return f"charcode:={code}; chardx:={in_points(dx)}; charwd:={in_points(width * WIDTH)}; shipout {line.tokens[1]};"
     if line.command == "contour":
         # METAFONT reads only short lines.
         return " ".join("--\n" if token == "--" else token for token in line.tokens) + ";"
@@ -304,7 +304,7 @@ def told_of(program, lines, folder, counts):
     return told
 
 
-def shortened(program, lines, folder):
+def short_script(program, lines, folder):
     """A script that differs, without the lines that can be left out while it still differs."""
     for place in reversed(range(len(lines))):
         fewer = lawful(lines[:place] + lines[place + 1 :])
@@ -326,7 +326,7 @@ def main():
         for number in range(count):
             lines = chance.lawful_script()
             if told_of(program, lines, folder, counts):
-                lines = shortened(program, lines, folder)
+                lines = short_script(program, lines, folder)
                 print(f"script {number}:", *(" ".join(line.tokens) for line in lines), sep="\n")
                 print("mfpic and METAFONT:", told_of(program, lines, folder, counts))
                 return 1

@@ -73,7 +73,7 @@ class Ended(typing.NamedTuple):
     told: str
 
 
-def called(tool: types.ModuleType, words: list[str | pathlib.Path]) -> Ended:
+def call(tool: types.ModuleType, words: list[str | pathlib.Path]) -> Ended:
     """Runs a tool within this process, which takes less time than a process of its own."""
     printed, told = io.StringIO(), io.StringIO()
     with contextlib.redirect_stdout(printed), contextlib.redirect_stderr(told):
@@ -115,7 +115,7 @@ def comb(teeth: int) -> Pixels:
     return rectangle(-teeth, teeth, 0, 2) | {(x, y) for x in range(-teeth, teeth, 2) for y in range(2, 5)}
 
 
-def turned(pixels: Pixels) -> Pixels:
+def turn(pixels: Pixels) -> Pixels:
     return frozenset((-y, x) for x, y in pixels)
 
 
@@ -142,8 +142,8 @@ def shapes() -> dict[str, list[Pixels]]:
         "corners": [frozenset({(0, 0), (1, 1)}), frozenset({(0, 1), (1, 0)}), rectangle(0, 4, 0, 4) - {(1, 1), (2, 2)}],
         "a hole that touches the outside at a corner": [rectangle(0, 3, 0, 3) - {(1, 1), (2, 2)}],
         "checkerboards": [checkerboard(7), checkerboard(40)],
-        "combs": [teeth, turned(teeth), turned(turned(teeth))],
-        "holes with a long boundary": [filled - teeth, turned(filled - teeth), frame - checkerboard(92)],
+        "combs": [teeth, turn(teeth), turn(turn(teeth))],
+        "holes with a long boundary": [filled - teeth, turn(filled - teeth), frame - checkerboard(92)],
         "blank": [frozenset(), frozenset({(3, 3)}), frozenset()],
         "edges of the field": [frozenset({(x, y)}) for x in (-4095, 4094) for y in (-4095, 4094)],
         "the whole field's frame": [frozenset({(-4095, -4095), (4094, 4094), (-4095, 4094), (4094, -4095), (0, 0)})],
@@ -151,7 +151,7 @@ def shapes() -> dict[str, list[Pixels]]:
     }
 
 
-def made_up(name: str, blacks: list[Pixels]) -> Case:
+def case_of(name: str, blacks: list[Pixels]) -> Case:
     """A font of these characters, with codes from 255 downwards, dx and widths of all kinds, and one code shipped again."""
     dxs, widths = (0, 655360, -65536, 98304, 999_999_999, -999_999_999), (0, 1, -655360, 999_999_999, -999_999_999)
     characters = [
@@ -163,7 +163,7 @@ def made_up(name: str, blacks: list[Pixels]) -> Case:
     return Case(name, b"".join(font_model.font_commands(characters)), blacks, same_bytes=True)
 
 
-def ended(front: bytes, locators: bytes, characters_end: int | None = None) -> bytes:
+def file_of(front: bytes, locators: bytes, characters_end: int | None = None) -> bytes:
     """A GF file with these bytes before the postamble, and these locators."""
     end_of_characters = len(front) if characters_end is None else characters_end
     post = front + struct.pack(">B9i", 248, end_of_characters, 10 << 20, -5, 544093, 272046, -9, 9, -9, 9) + locators
@@ -188,7 +188,7 @@ WHOLE = struct.pack(">2B4i", 245, 65, 5 * 65536, 0, 70, len(PREAMBLE))
 def loose() -> Case:
     """A font with special commands, like METAFONT's proofs. Its locator leads to the special commands before the character."""
     front = PREAMBLE + SPECIAL + LOOSE + b"".join(LOOSE_ROWS)
-    return Case("a font with special commands", ended(front + SPECIAL, WHOLE, len(front)), [LOOSE_BLACK], same_bytes=False)
+    return Case("a font with special commands", file_of(front + SPECIAL, WHOLE, len(front)), [LOOSE_BLACK], same_bytes=False)
 
 
 def cases() -> Iterator[Case]:
@@ -196,7 +196,7 @@ def cases() -> Iterator[Case]:
         for file in sorted((ROOT / folder).glob("*.gf")):
             yield Case(file.name, file.read_bytes(), None, same_bytes=True)
     for name, blacks in shapes().items():
-        yield made_up(name, blacks)
+        yield case_of(name, blacks)
     yield loose()
 
 
@@ -221,7 +221,7 @@ def check_contours(script: str) -> None:
 
 
 def script_of(font: pathlib.Path) -> str:
-    made = called(gf2mfp, [font])
+    made = call(gf2mfp, [font])
     expect(made.status == 0 and not made.told, f"gf2mfp exits with status {made.status}: {made.told}")
     return made.printed
 
@@ -235,7 +235,7 @@ def perform(program: str, script: str, font: pathlib.Path) -> None:
     expect(told == "".join(f"[{code}]\npublished\n" for code in codes), f"the program prints {told[:200]}")
 
 
-def seen(font: gf.Font) -> list[tuple[int, int, Pixels]]:
+def characters_of(font: gf.Font) -> list[tuple[int, int, Pixels]]:
     return [(character.code, character.previous, character.black) for character in font.characters]
 
 
@@ -248,7 +248,7 @@ def compare(case: Case, read: gf.Font, again: bytes) -> None:
     drawn = gf.read_font(again)
     expect(drawn.locators == read.locators, f"the locators are {drawn.locators} instead of {read.locators}")
     expect(len(drawn.characters) == len(read.characters), f"there are {len(drawn.characters)} characters")
-    for number, (one, other) in enumerate(zip(seen(drawn), seen(read))):
+    for number, (one, other) in enumerate(zip(characters_of(drawn), characters_of(read))):
         expect(one == other, f"character {number}, with code {other[0]}, differs")
 
 
@@ -284,7 +284,7 @@ def check_cut(folder: pathlib.Path) -> None:
     """A comb with 4096 corners is one contour, and one with 4098 is cut."""
     for shape, is_cut in ((comb(1023) - {(-1023, 0)}, False), (comb(1024), True)):
         font = folder / "comb.gf"
-        font.write_bytes(made_up("comb", [shape]).font)
+        font.write_bytes(case_of("comb", [shape]).font)
         count = script_of(font).count("contour")
         # The comb is shipped twice.
         expect((count > 2) == is_cut and count % 2 == 0, f"two combs have {count} contours")
@@ -304,38 +304,38 @@ def check_apart(folder: pathlib.Path) -> None:
 PIXEL = bytes([68, 65, 1, 1, 0, 0, 0, 1, 69])
 SHORT = struct.pack(">3B2i", 246, 65, 1, 0, len(PREAMBLE))
 WITHOUT_PICTURE = struct.pack(">3B2i", 246, 66, 1, 0, -1)
-FINE = ended(PREAMBLE + PIXEL, SHORT)
+FINE = file_of(PREAMBLE + PIXEL, SHORT)
 
 
-def located(dx: int = 0, dy: int = 0, width: int = 0) -> bytes:
+def pixel_with(dx: int = 0, dy: int = 0, width: int = 0) -> bytes:
     """A font with one pixel, and with these numbers in its locator."""
-    return ended(PREAMBLE + PIXEL, struct.pack(">2B4i", 245, 65, dx, dy, width, len(PREAMBLE)))
+    return file_of(PREAMBLE + PIXEL, struct.pack(">2B4i", 245, 65, dx, dy, width, len(PREAMBLE)))
 
 
-def placed(code: int, left: int, row: int) -> bytes:
+def pixel_at(code: int, left: int, row: int) -> bytes:
     """A font with one pixel in this column and row, in a character with this code."""
     front = PREAMBLE + struct.pack(">B6i", 67, code, -1, left, left + 1, row, row) + bytes([0, 1, 69])
-    return ended(front, struct.pack(">3B2i", 246, code % 256, 1, 0, len(PREAMBLE)))
+    return file_of(front, struct.pack(">3B2i", 246, code % 256, 1, 0, len(PREAMBLE)))
 
 
 NO_GF = {
     "byte 0: the file ends too early": b"",
     "byte 0: the first byte of a GF file is 247, and here is 97": b"addto",
     "byte 1: the number of the format is 131, and here is 130": b"\xf7\x82\0",
-    "byte 7: the command 69 does not begin a character": ended(PREAMBLE + bytes([69]), b""),
-    "byte 14: the command 247 is not allowed in a character": ended(PREAMBLE + PIXEL[:7] + bytes([247]), SHORT),
-    "byte 14: a black pixel is outside the character's box": ended(PREAMBLE + PIXEL[:7] + bytes([2, 69]), SHORT),
-    "byte 7: no character before this one begins at byte 3 and has its code 65": ended(
+    "byte 7: the command 69 does not begin a character": file_of(PREAMBLE + bytes([69]), b""),
+    "byte 14: the command 247 is not allowed in a character": file_of(PREAMBLE + PIXEL[:7] + bytes([247]), SHORT),
+    "byte 14: a black pixel is outside the character's box": file_of(PREAMBLE + PIXEL[:7] + bytes([2, 69]), SHORT),
+    "byte 7: no character before this one begins at byte 3 and has its code 65": file_of(
         PREAMBLE + struct.pack(">B6i", 67, 65, 3, 0, 0, 0, 0) + bytes([69]), SHORT
     ),
-    "byte 16: the postamble says that the characters end at byte 15, and they end at 16": ended(PREAMBLE + PIXEL, SHORT, 15),
-    "byte 7: no locator of the code 65 leads to this character, its last one": ended(PREAMBLE + PIXEL, b""),
-    "byte 64: the command 74 is not allowed in the postamble": ended(PREAMBLE + PIXEL, SHORT + bytes([74])),
-    "byte 64: the code 65 has two locators": ended(PREAMBLE + PIXEL, SHORT + SHORT),
-    "byte 64: the locator of the code 66 leads to byte 8, where no character begins": ended(
+    "byte 16: the postamble says that the characters end at byte 15, and they end at 16": file_of(PREAMBLE + PIXEL, SHORT, 15),
+    "byte 7: no locator of the code 65 leads to this character, its last one": file_of(PREAMBLE + PIXEL, b""),
+    "byte 64: the command 74 is not allowed in the postamble": file_of(PREAMBLE + PIXEL, SHORT + bytes([74])),
+    "byte 64: the code 65 has two locators": file_of(PREAMBLE + PIXEL, SHORT + SHORT),
+    "byte 64: the locator of the code 66 leads to byte 8, where no character begins": file_of(
         PREAMBLE + PIXEL, SHORT + WITHOUT_PICTURE[:7] + struct.pack(">i", 8)
     ),
-    "byte 7: the locator of the code 66 leads to a character of another code": ended(
+    "byte 7: the locator of the code 66 leads to a character of another code": file_of(
         PREAMBLE + PIXEL, SHORT + WITHOUT_PICTURE[:7] + SHORT[7:]
     ),
     "byte 65: the end says that the postamble is at byte 17, and it is at 16": FINE[:65] + struct.pack(">i", 17) + FINE[69:],
@@ -346,17 +346,17 @@ NO_GF = {
 AT, DIGITS = "character 65 at byte 7: ", "and a number of a script has 9 digits at most"
 FIELD, CODES = "leaves the field of pixels from -4095 to 4094", "its code is not from 0 to 255"
 NO_SCRIPT = {
-    "it has no character": ended(PREAMBLE, b""),
-    "character 66: the font has its width and no picture": ended(PREAMBLE + PIXEL, SHORT + WITHOUT_PICTURE),
-    AT + "its dy is 3, and a script has none": located(dy=3),
-    AT + f"its dx is 1000000000, {DIGITS}": located(dx=10**9),
-    AT + f"its width is -1000000000, {DIGITS}": located(width=-(10**9)),
-    AT + f"row 4095 {FIELD}": placed(65, 0, 4095),
-    AT + f"row -4096 {FIELD}": placed(65, 0, -4096),
-    AT + f"row 0 {FIELD}": placed(65, 4095, 0),
-    AT + f"row 1 {FIELD}": placed(65, -4096, 1),
-    f"character 321 at byte 7: {CODES}": placed(321, 0, 0),
-    f"character -191 at byte 7: {CODES}": placed(-191, 0, 0),
+    "it has no character": file_of(PREAMBLE, b""),
+    "character 66: the font has its width and no picture": file_of(PREAMBLE + PIXEL, SHORT + WITHOUT_PICTURE),
+    AT + "its dy is 3, and a script has none": pixel_with(dy=3),
+    AT + f"its dx is 1000000000, {DIGITS}": pixel_with(dx=10**9),
+    AT + f"its width is -1000000000, {DIGITS}": pixel_with(width=-(10**9)),
+    AT + f"row 4095 {FIELD}": pixel_at(65, 0, 4095),
+    AT + f"row -4096 {FIELD}": pixel_at(65, 0, -4096),
+    AT + f"row 0 {FIELD}": pixel_at(65, 4095, 0),
+    AT + f"row 1 {FIELD}": pixel_at(65, -4096, 1),
+    f"character 321 at byte 7: {CODES}": pixel_at(321, 0, 0),
+    f"character -191 at byte 7: {CODES}": pixel_at(-191, 0, 0),
 }
 
 
@@ -364,7 +364,7 @@ def check_refused(tool: types.ModuleType, wrong: str, font: bytes, folder: pathl
     """A tool must say what is wrong with a file, leave it as it is, and write nothing."""
     file = folder / "refused.gf"
     file.write_bytes(font)
-    ended_so = called(tool, [file, *(["--design-size", "10"] if tool == gfwords else [])])
+    ended_so = call(tool, [file, *(["--design-size", "10"] if tool == gfwords else [])])
     expected = Ended(1, "", f"{tool.__name__}.py: {file}: {wrong}\n")
     expect(ended_so == expected, f"it ends with {ended_so} instead of {expected}")
     expect(file.read_bytes() == font, "the file has changed")
@@ -386,7 +386,7 @@ def check_processes(folder: pathlib.Path) -> None:
         (1, gfwords, [fine, "--like", none]),
         (2, gfwords, [fine]),
     ):
-        within, alone = called(tool, words), by_itself(tool, words)
+        within, alone = call(tool, words), by_itself(tool, words)
         expect(alone.status == status, f"{tool.__name__}.py ends with {alone}")
         is_same = (within.status, within.printed, within.told[-40:]) == (status, alone.printed, alone.told[-40:])
         expect(is_same, f"{tool.__name__}.py ends with {within} in this process, and with {alone} in its own")
@@ -444,7 +444,7 @@ def check_tables(program: str) -> None:
 OLD = (10 << 20, -5, 544093, 272046)
 
 
-def worded() -> dict[str, tuple[int, ...]]:
+def words_by_options() -> dict[str, tuple[int, ...]]:
     """The font words that these options turn OLD into."""
     return {
         "--design-size 10 --checksum 1274110073 --resolution 600": (10485760, 1274110073, 544093, 544093),
@@ -466,7 +466,7 @@ def check_words(options: str, words: tuple[int, ...], folder: pathlib.Path) -> N
     file.write_bytes(font)
     file.chmod(0o640)
     other = ROOT / "examples" / "font.gf"
-    ended_so = called(gfwords, [file, *options.format(other=other).split()])
+    ended_so = call(gfwords, [file, *options.format(other=other).split()])
     expect(ended_so == Ended(0, "", ""), f"it ends with {ended_so}")
     expect(file.read_bytes() == font[:place] + struct.pack(">4i", *words) + font[place + 16 :], "the bytes differ")
     expect([path.name for path in alone.iterdir()] == [file.name], "another file is left")
@@ -492,7 +492,7 @@ def check_usage(options: str, wrong: str, folder: pathlib.Path) -> None:
     """Wrong options must be named, and the file must stay as it is."""
     file = folder / "usage.gf"
     file.write_bytes(FINE)
-    ended_so = called(gfwords, [file, *options.split()])
+    ended_so = call(gfwords, [file, *options.split()])
     expect(ended_so.status == 2 and ended_so.told.endswith(f"error: {wrong}\n"), f"it ends with {ended_so}")
     expect(file.read_bytes() == FINE, "the file has changed")
 
@@ -511,7 +511,7 @@ def checks(program: str) -> Iterator[tuple[str, Callable[[pathlib.Path], None]]]
     yield "processes of the tools", check_processes
     yield "the beginnings of a font", check_prefixes
     yield "fonts with a changed byte", check_changed_bytes
-    for options, words in worded().items():
+    for options, words in words_by_options().items():
         yield f"gfwords.py {options}", lambda folder, told=(options, words): check_words(*told, folder)
     for options, wrong in USAGE.items():
         yield f"gfwords.py {options}", lambda folder, told=(options, wrong): check_usage(*told, folder)

@@ -134,7 +134,7 @@ def leaves_field(picture):
     return any(x not in FIELD or y not in FIELD for x, y in picture)
 
 
-def stretched(place, factor):
+def stretch(place, factor):
     """The columns that a column becomes under a scale, or the rows that a row becomes."""
     return range(min(place * factor, (place + 1) * factor), max(place * factor, (place + 1) * factor))
 
@@ -221,8 +221,8 @@ class Model:
             return {
                 (u, v): w
                 for (x, y), w in self.picture(name).items()
-                for u in part(stretched(x, across))
-                for v in part(stretched(y, upwards))
+                for u in part(stretch(x, across))
+                for v in part(stretch(y, upwards))
             }
 
         corners = scaled(ends)

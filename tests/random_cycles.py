@@ -27,12 +27,12 @@ class Cycles(Spelling):
         x, y = (self.place(-4, 4) if self.happens(0.9) else self.choice([-4095, 4094]) for _ in range(2))
         return self.rectangle((x, x + 1), (y, y + 1))
 
-    def walked(self):
+    def walk(self):
         """A square that is walked many times, up to the greatest number of points. Some have a point too many, some turn back."""
         times = self.choice([*range(2, 12), *range(2, 12), 250, MAX_POINTS // 4])
         points = self.square()
         if self.happens(0.15):
-            return points * (times - 1) + self.spiked(points)
+            return points * (times - 1) + self.spike(points)
         return points * times + points[: self.choice([0, 0, 0, 1])]
 
     def polygon(self):
@@ -55,7 +55,7 @@ class Cycles(Spelling):
         points = points[start:] + points[:start]
         return points if self.happens(0.5) else points[::-1]
 
-    def spiked(self, points):
+    def spike(self, points):
         """A cycle with another point on one of its edges, or before or after the edge, where it then turns back."""
         place = self.place(0, len(points) - 1)
         (x, y), (u, v) = points[place], points[(place + 1) % len(points)]
@@ -71,7 +71,7 @@ class Cycles(Spelling):
         points = [(place, across) for place in (along[:-1] if along[-1] == along[0] else along)]
         return points if self.happens(0.5) else [(y, x) for x, y in points]
 
-    def retraced(self):
+    def retrace(self):
         """A cycle that goes along a path and back, and so winds around no pixel."""
         points = self.polygon()
         return points + points[:1] + points[:0:-1]
@@ -79,19 +79,19 @@ class Cycles(Spelling):
     def round_pixel(self, square):
         """A cycle around the pixel of a square, which the turning check may refuse."""
         way = self.random.random()
-        return square if way < 0.6 else self.spiked(square) if way < 0.8 else self.eight(square)
+        return square if way < 0.6 else self.spike(square) if way < 0.8 else self.eight(square)
 
     def points(self):
         way = self.random.random()
         if way < 0.08:
-            return self.thin(self.choice([FAR, NEAR])) if way < 0.06 else self.walked()
+            return self.thin(self.choice([FAR, NEAR])) if way < 0.06 else self.walk()
         if way < 0.18:
             return [(self.place(-3, 3), self.place(-3, 3)) for _ in range(self.place(1, 5))]
         if way < 0.28:
-            return self.choice([self.flat, self.retraced, lambda: self.eight(self.square())])()
+            return self.choice([self.flat, self.retrace, lambda: self.eight(self.square())])()
         points = self.polygon()
         if way < 0.32:
             moved = self.place(0, len(points) - 1)
             x, y = points[moved]
             points[moved] = self.choice([(self.number(FAR), y), (x, self.number(FAR))])
-        return self.spiked(points) if way > 0.8 else points
+        return self.spike(points) if way > 0.8 else points

@@ -50,7 +50,7 @@ class Chance(Cycles):
         for _ in range(self.place(3, 25)):
             for line in self.lines():
                 lines += [self.turningcheck(), line] if self.happens(turns) else [line]
-        lines = [self.ended(line) for line in [*lines, *map(self.show_of, NAMES), self.publish()]]
+        lines = [self.end(line) for line in [*lines, *map(self.show_of, NAMES), self.publish()]]
         inserted = wrong / (1 - wrong)
         return [other for line in lines for other in ([self.wrong(line), line] if self.happens(inserted) else [line])]
 
@@ -71,11 +71,11 @@ class Chance(Cycles):
 
     def lines(self):
         """One random line, or several that belong together."""
-        several = [self.doubled, self.framed, self.scattered]
+        several = [self.double, self.frame, self.scatter]
         kind = self.choice([*self.kinds(), *several])
         return kind() if kind in several else [kind()]
 
-    def ended(self, line):
+    def end(self, line):
         return line._replace(tokens=[*line.tokens, ";"]) if self.happens(0.15) else line
 
     def turningcheck(self):
@@ -109,7 +109,7 @@ class Chance(Cycles):
         words = ["also"] if sign > 0 else ["also", "-"]
         return Line(" ".join(words), ["addto", name, *words, source], lambda m: m.also(name, source, sign))
 
-    def doubled(self):
+    def double(self):
         """A picture that is doubled again and again, with a contour each time, so that weights reach the limit or exceed it."""
         name, square, weight = self.name(), self.square(), self.choice([1, 1, -1, -1, 2, -3])
         lines = [self.clear_of(name)] if self.happens(0.5) else []
@@ -122,9 +122,9 @@ class Chance(Cycles):
         others = [self.contour_of(name, self.round_pixel(square), self.weight()) for _ in range(self.place(0, 3))]
         return [*lines, *others, self.proof_of(name)]
 
-    def framed(self):
+    def frame(self):
         """A contour whose box or weights may be too large for a grid text, and a line that prints its grid text."""
-        name, points = self.name(), self.thin(NEAR) if self.happens(0.5) else self.walked()
+        name, points = self.name(), self.thin(NEAR) if self.happens(0.5) else self.walk()
         return [self.contour_of(name, points, self.choice([1, 1, -1, 2])), self.proof_of(name)]
 
     def range_of(self, keeps):
@@ -201,7 +201,7 @@ class Chance(Cycles):
         operands = ["code", *self.integer(code), "dx", *self.integer(dx), "width", *self.integer(width)]
         return Line("shipout", ["shipout", source, *operands], lambda m: m.ship(source, code, dx, width))
 
-    def scattered(self):
+    def scatter(self):
         """Strokes with gaps between them, some with negative weights, which are shipped again and again while more are added."""
         name, (column, row) = self.name(), self.choice(CORNERS)
         lines = [self.clear_of(name)] if self.happens(0.8) else []
@@ -222,9 +222,9 @@ class Chance(Cycles):
     def wrong(self, line):
         """A line that is not in the grammar, made from this line or another, and the place of the token that is refused."""
         if len(line.tokens) > 1000 or self.happens(0.5):
-            line = self.ended(self.choice([*self.kinds(), self.turningcheck, self.turningcheck])())
-        ways = [self.foreign, self.overlong, self.repeated, self.cut, self.parted, self.followed, self.begun]
-        others = [self.mixed, self.mixed, self.renamed, self.recoded, self.assigned, self.named]
+            line = self.end(self.choice([*self.kinds(), self.turningcheck, self.turningcheck])())
+        ways = [self.foreign, self.overlong, self.repeat, self.cut, self.part, self.follow, self.begin]
+        others = [self.mix, self.mix, self.rename, self.recode, self.assign, self.misname]
         tokens, refused = self.choice([*ways, *ways, *others])(line)
         return line._replace(tokens=tokens, refused=refused)
 
@@ -242,7 +242,7 @@ class Chance(Cycles):
         digits = self.choice([line.tokens[place].zfill(self.place(10, 30)), line.tokens[place].ljust(10, "0")])
         return [*line.tokens[:place], digits, *line.tokens[place + 1 :]], place
 
-    def repeated(self, line):
+    def repeat(self, line):
         """A line with a token that is repeated."""
         tokens = line.tokens or [";"]
         place = self.place(0, len(tokens) - 1)
@@ -257,23 +257,23 @@ class Chance(Cycles):
         place = self.within(line)
         return (line.tokens[:place], place) if place else self.foreign(line)
 
-    def parted(self, line):
+    def part(self, line):
         """A line with a `;` in the middle."""
         place = self.within(line)
         return ([*line.tokens[:place], ";", *line.tokens[place:]], place) if place else self.foreign(line)
 
-    def followed(self, line):
+    def follow(self, line):
         """A line with something after its `;`."""
         tokens = line.tokens if line.tokens[-1:] == [";"] else [*line.tokens, ";"]
         return [*tokens, self.choice(["a", "show", "1", "(", "-", ";", "cycle", *FOREIGN])], len(tokens)
 
-    def begun(self, line):
+    def begin(self, line):
         """A line in which another one starts."""
         place = self.place(1, max(len(line.tokens), 1))
         after = place if self.happens(0.5) else place + 1
         return [*(line.tokens[:place] or [";"]), self.choice(BEGINNINGS), *line.tokens[after:]], place
 
-    def mixed(self, line):
+    def mix(self, line):
         """The first tokens of a line and the last ones of another, or a line with one token left out, or with one replaced."""
         other = self.choice([*self.kinds(), self.turningcheck])().tokens or [";"]
         first, after = line.tokens[: self.place(0, len(line.tokens))], other[self.place(0, len(other)) :]
@@ -282,7 +282,7 @@ class Chance(Cycles):
         refused = refused_place(tokens)
         return self.foreign(line) if refused is None else (tokens, refused)
 
-    def assigned(self, _):
+    def assign(self, _):
         """An assignment of something else."""
         name, number = self.name(), self.integer(self.number(range(-2, 3)))
         check, others = ["turningcheck", ":="], ["nullpicture", name, "(", ")", ",", ";", "--", ":=", "cycle"]
@@ -292,7 +292,7 @@ class Chance(Cycles):
         lines += [([*check, *number, word], 2 + len(number)) for word in ("withweight", "-", ",", "--", name, ":=")]
         return self.choice(lines)
 
-    def named(self, _):
+    def misname(self, _):
         """A line with something that is not the name of a picture, or with a picture that cannot be changed."""
         word = self.choice(["nullpicture", "turningcheck", "cycle", "1", ","])
         lines = [["addto", word, "also", "a"], ["cull", word, "keeping", *self.pair(1, 2)]]
@@ -302,13 +302,13 @@ class Chance(Cycles):
         line = self.choice(sources)
         return line, len(line) - 1
 
-    def renamed(self, _):
+    def rename(self, _):
         """A transform whose second name differs from the first."""
         line = self.choice([self.shift, self.scale, self.turn, self.clear])()
         others = [name for name in [*NAMES, "c"] if name != line.tokens[0]]
         return [*line.tokens[:2], self.choice(others), *line.tokens[3:]], 2
 
-    def recoded(self, _):
+    def recode(self, _):
         """A shipout whose code is out of range."""
         code = self.choice([256, 257, 512, 65536, 999999999, -1, -5, -255, -256, -999999999])
         return self.ship_of(self.source(), code).tokens, 3

@@ -115,15 +115,15 @@ def count_font(counts, characters, commands):
     counts.update(WRITTEN[command[0]] for command in commands if command[0] in WRITTEN)
 
 
-def spelled(chance, lines):
+def spell(chance, lines):
     """Lines, each with its bytes, its columns, and its line end."""
     for i, line in enumerate(lines):
         end, part = chance.line_end(i == len(lines) - 1)
-        written, columns = chance.spelled(line.tokens)
+        written, columns = chance.spell(line.tokens)
         yield line, written + part, columns, end[len(part) :]
 
 
-def performed(cleared, lines, counts):
+def perform(cleared, lines, counts):
     """The lines that the model can perform, after `currentpicture` was cleared `cleared` times, and how a script of them ends."""
     model, kept, transcript = Model(cleared), [], ""
     for line, text, columns, end in lines:
@@ -156,10 +156,10 @@ def run(program, cleared, lines, path):
 def tell(program, number, cleared, lines, path):
     """Prints a script that differs, without all lines that can be left out while it still differs."""
     for place in reversed(range(len(lines))):
-        fewer, expected = performed(cleared, lines[:place] + lines[place + 1 :], collections.Counter())
+        fewer, expected = perform(cleared, lines[:place] + lines[place + 1 :], collections.Counter())
         if run(program, cleared, fewer, path) != expected:
             lines = fewer
-    lines, expected = performed(cleared, lines, collections.Counter())
+    lines, expected = perform(cleared, lines, collections.Counter())
     print(f"script {number}, after {cleared} lines that clear currentpicture:")
     print(*(text + end for _, text, _, end in lines), sep="\n")
     for end, kind in ((run(program, cleared, lines, path), "ended"), (expected, "and not")):
@@ -180,7 +180,7 @@ def main():
         for number in range(scripts):
             # Some scripts start shortly before the last operation that `currentpicture` may accept.
             cleared = MAX_OPERATIONS - chance.place(1, 3) if number % 250 == 0 else 0
-            lines, expected = performed(cleared, spelled(chance, chance.script(cleared > 0, wrong)), counts)
+            lines, expected = perform(cleared, spell(chance, chance.script(cleared > 0, wrong)), counts)
             if run(program, cleared, lines, path) != expected:
                 different += 1
                 if different <= TOLD:

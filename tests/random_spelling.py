@@ -49,7 +49,7 @@ class Spelling:
     def path(self, points):
         return [token for x, y in points for token in [*self.pair(x, y), "--"]] + ["cycle"]
 
-    def spelled(self, tokens):
+    def spell(self, tokens):
         """The tokens as the bytes of a line, and the columns of all tokens and of the place after the last one."""
         # A path of 4096 points leaves no room for spaces, because a line has at most 65,536 bytes.
         gaps = self.random.choices(GAPS if len(tokens) <= 1000 else [""], k=len(tokens) + 1)
@@ -65,18 +65,18 @@ class Spelling:
         if self.happens(0.15):
             text += "%" + "".join(chr(self.choice([9, *range(32, 127)])) for _ in range(self.place(0, 20)))
         if self.happens(0.01):
-            text, columns = self.lengthened(text, columns)
+            text, columns = self.lengthen(text, columns)
         line = text.encode()
-        return self.spoiled(line) if self.happens(0.015) else line, columns
+        return self.spoil(line) if self.happens(0.015) else line, columns
 
-    def lengthened(self, text, columns):
+    def lengthen(self, text, columns):
         """A line that is as long as a line may be, or one byte shorter or longer."""
         added = max(self.place(MAX_LINE - 1, MAX_LINE + 1) - len(text), 0)
         if self.happens(0.5):
             return text + "\t" * added, columns
         return " " * added + text, [column + added for column in columns]
 
-    def spoiled(self, line):
+    def spoil(self, line):
         """A line with a byte that no line may have, and a space after it, so that no carriage return is at the end."""
         place = self.place(0, len(line))
         return line[:place] + bytes([self.choice([0, 8, 11, 12, 13, 27, 31, 127, 128, 233, 255])]) + b" " + line[place:]

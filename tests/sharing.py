@@ -103,15 +103,15 @@ def comb(name, bottom, top, teeth=TEETH):
     return f"addto {name} contour {'--'.join(points)}--cycle\n"
 
 
-def striped(name, teeth=TEETH):
+def stripes(name, teeth=TEETH):
     """Lines for a comb in all rows of the field, and for a pole in all of them, which the picture keeps apart where those are long."""
     return comb(name, -4095, 4095, teeth) + box(name, -2, -4095, -1, 4095)
 
 
-def settled(name, teeth=TEETH):
+def settled_rows(name, teeth=TEETH):
     """Lines for the same picture after an operation that goes through all rows, and so adds the pole to them where it is apart. Each
     row has its own edges then, or each band where they are few."""
-    return striped(name, teeth) + f"{name} := {name} yscaled 1\n"
+    return stripes(name, teeth) + f"{name} := {name} yscaled 1\n"
 
 
 def cases():
@@ -149,12 +149,12 @@ def on_long_rows(of_comb):
     # times a pass, and those of a band ten times as much as is allowed.
     for about, bottom, top, bands in [("a row", 4070, 4071, 1), ("a band", 4063, 4079, 1), ("two bands", 4047, 4079, 2)]:
         line, shown = box("a", -9, bottom, -8, top), {"a": of_comb + top - bottom}
-        yield Case(f"a contour on {about} of long rows", striped("a"), line, shown, CONTOUR + 2 * bands * BAND)
+        yield Case(f"a contour on {about} of long rows", stripes("a"), line, shown, CONTOUR + 2 * bands * BAND)
     line, shown = box("a", -9, -4094, -8, 4095), {"a": of_comb + FIELD - 1}
-    yield Case("a contour on all long rows", striped("a"), line, shown, PASS)
+    yield Case("a contour on all long rows", stripes("a"), line, shown, PASS)
     # A copy of a picture shares both of its lists of groups.
-    yield Case("a copy of long rows", striped("a"), "addto b also a\n", {"b": of_comb}, 2 * LISTS)
-    live, line = striped("currentpicture"), box("currentpicture", -9, 4070, -8, 4071)
+    yield Case("a copy of long rows", stripes("a"), "addto b also a\n", {"b": of_comb}, 2 * LISTS)
+    live, line = stripes("currentpicture"), box("currentpicture", -9, 4070, -8, 4071)
     yield Case("a publish of long rows", live, "publish\n", {"currentpicture": of_comb}, 2 * LISTS)
     shown = {"currentpicture": of_comb + 1}
     yield Case("a contour on long rows after a publish", live + "publish\n", line, shown, CONTOUR + 2 * BAND)
@@ -168,7 +168,7 @@ def on_long_rows(of_comb):
     yield Case("contours are added to long rows", bands + count * line, line, shown, most, least)
     # The rows of a comb share their edges until the pole is added to them. That is done once; then a pass makes the cull.
     line, least = "cull a keeping (1,3) withweight 2\n", (FIELD - 1) * COMB
-    yield Case("a cull of long rows", striped("a"), line, {"a": 2 * of_comb}, least * 3 // 2 + PASS, least)
+    yield Case("a cull of long rows", stripes("a"), line, {"a": 2 * of_comb}, least * 3 // 2 + PASS, least)
 
 
 def on_settled_rows(of_comb):
@@ -178,17 +178,17 @@ def on_settled_rows(of_comb):
     for about, bottom, top in [("a band", 4063, 4079), ("two bands", 4047, 4079), ("all rows", -4094, 4095)]:
         least = (top - bottom) * COMB
         line, shown = box("a", -9, bottom, -8, top), {"a": of_comb + top - bottom}
-        yield Case(f"edges of {about}", settled("a"), line, shown, least * 3 // 2, least)
+        yield Case(f"edges of {about}", settled_rows("a"), line, shown, least * 3 // 2, least)
     # Only the row that is reached gets its own edges; the other rows of its band share theirs.
     line, shown = box("a", -9, 4070, -8, 4071), {"a": of_comb + 1}
-    yield Case("edges of one row", settled("a"), line, shown, CONTOUR + 2 * BAND + COMB * 3 // 2, COMB)
+    yield Case("edges of one row", settled_rows("a"), line, shown, CONTOUR + 2 * BAND + COMB * 3 // 2, COMB)
     line, shown = box("a", -9, 4070, -8, 4071), {"a": (FEW + 1) * FIELD + FEW + 1}
-    yield Case("a row of a band with one list", settled("a", FEW), line, shown, CONTOUR + 2 * BAND + SHORT)
+    yield Case("a row of a band with one list", settled_rows("a", FEW), line, shown, CONTOUR + 2 * BAND + SHORT)
     line, shown = "cull a keeping (1,3) withweight 2\n", {"a": 2 * of_comb}
-    yield Case("a cull of equal rows", settled("a"), line, shown, PASS)
-    yield Case("a negation of equal rows", settled("a"), "addto b also -a\n", {"b": -of_comb}, LISTS + PASS)
+    yield Case("a cull of equal rows", settled_rows("a"), line, shown, PASS)
+    yield Case("a negation of equal rows", settled_rows("a"), "addto b also -a\n", {"b": -of_comb}, LISTS + PASS)
     # A scale by a negative factor reflects first, and then stretches.
-    yield Case("mirrored rows", settled("a"), "a := a yscaled -1\n", {"a": of_comb}, 2 * PASS)
+    yield Case("mirrored rows", settled_rows("a"), "a := a yscaled -1\n", {"a": of_comb}, 2 * PASS)
 
 
 class Counter:

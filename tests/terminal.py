@@ -117,7 +117,7 @@ class Terminal:
 
 
 @contextlib.contextmanager
-def opened(folder: pathlib.Path) -> Iterator[Terminal]:
+def open_terminal(folder: pathlib.Path) -> Iterator[Terminal]:
     """A terminal, which is closed at the end."""
     terminal = Terminal(str(folder / "socket"))
     try:
@@ -284,7 +284,7 @@ def main() -> int:
         checks.append((check.__name__, lambda terminal, folder, check=check: check(terminal, program, folder)))
     wrong = 0
     for name, check in checks:
-        with tempfile.TemporaryDirectory() as path, opened(pathlib.Path(path)) as terminal:
+        with tempfile.TemporaryDirectory() as path, open_terminal(pathlib.Path(path)) as terminal:
             try:
                 check(terminal, pathlib.Path(path))
             except (Failure, subprocess.CalledProcessError) as failure:

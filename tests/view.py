@@ -28,7 +28,7 @@ import frame_model
 from font_model import font_commands
 from pixel_model import Model, TooSlow
 from random_lines import Chance
-from random_scripts import answer, spelled
+from random_scripts import answer, spell
 
 ROOT = pathlib.Path(__file__).resolve().parent.parent
 # Sizes of terminals: the least one, the usual one, and a wide one.
@@ -63,10 +63,10 @@ class Performance:
         return not any(frame_model.is_too_large(picture) for picture in self.published.values())
 
 
-def performed(chance: Chance) -> Performance:
+def performance(chance: Chance) -> Performance:
     """A random script, as the models perform it."""
     model, made = Model(), Performance()
-    for line, text, columns, end in spelled(chance, chance.script(False, 0.05)):
+    for line, text, columns, end in spell(chance, chance.script(False, 0.05)):
         before = model.copy()
         try:
             printed = answer(model, line, text, columns)
@@ -171,7 +171,7 @@ def main() -> int:
     chance = Chance(int(words[2]) if len(words) > 2 else 1)
     wrong = 0
     for number in range(scripts):
-        made = performed(chance)
+        made = performance(chance)
         size, is_plain = SIZES[number % len(SIZES)], number % 2 == 0
         if found := difference(program, made, size, is_plain, FONTS[number // 2 % len(FONTS)]):
             wrong += 1

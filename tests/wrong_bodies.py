@@ -65,14 +65,14 @@ class Body:
     bare: list[str] = dataclasses.field(default_factory=list)
 
     def judge(self, verdict: str, told: str) -> None:
-        self.verdict, self.told = verdict, shortened(told)
+        self.verdict, self.told = verdict, short_text(told)
 
     def meets_answer(self) -> bool:
         """Whether an answer that does not fit is all that refused it at first."""
         return self.verdict == REFUSED and self.told.startswith("proofs/")
 
 
-def shortened(text: str) -> str:
+def short_text(text: str) -> str:
     """A line of the prover, or its first part if it is very long."""
     return text if len(text) <= 240 else f"{text[:240]}.."
 
@@ -96,7 +96,7 @@ def bodies_of(crate: str, pattern: str) -> list[Body]:
 def texts_with(bodies: Iterable[Body], texts: dict[str, str]) -> dict[str, str]:
     """The texts of a crate with the edits of these bodies."""
     for body in bodies:
-        texts = {**texts, **body.edit.applied(texts)}
+        texts = {**texts, **body.edit.apply(texts)}
     return texts
 
 
@@ -133,7 +133,7 @@ def judge(body: Body, room: Room, said: str) -> None:
         body.judge(NOT_JUDGED, f"the check has no line for {', '.join(map(str, sorted(body.changed)))}")
     elif goals:
         body.judge(REFUSED, goals[0])
-        body.gone = shortened(gone[0]) if gone else ""
+        body.gone = short_text(gone[0]) if gone else ""
     elif not fallen:
         body.judge(PROVED, ", ".join(sorted(lines)))
     elif any(OF_ANOTHER.search(words) for words in fallen.values()):

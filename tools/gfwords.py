@@ -76,10 +76,10 @@ def read(file: pathlib.Path) -> tuple[bytes, gf.Font]:
     try:
         return font, gf.read_font(font)
     except gf.NotGf as fault:
-        raise SystemExit(told(file, str(fault))) from None
+        raise SystemExit(text_of(file, str(fault))) from None
 
 
-def told(file: pathlib.Path, fault: str) -> str:
+def text_of(file: pathlib.Path, fault: str) -> str:
     return f"gfwords.py: {file}: {fault}"
 
 
@@ -119,7 +119,7 @@ def main(words: list[str]) -> int:
         # A link keeps leading to the file.
         replace(file.resolve(), font[:place] + packed + font[place + len(packed) :])
     except OSError as fault:
-        print(told(fault.filename or file, fault.strerror or str(fault)), file=sys.stderr)
+        print(text_of(fault.filename or file, fault.strerror or str(fault)), file=sys.stderr)
         return 1
     return 0
 

@@ -99,7 +99,7 @@ class Statement:
     marks: dict[str, list[str]] = dataclasses.field(default_factory=dict)
 
 
-def scaled(text: str) -> fractions.Fraction:
+def number_of(text: str) -> fractions.Fraction:
     """The number that METAFONT has for this text, a multiple of 1/65536."""
     try:
         return fractions.Fraction(round(fractions.Fraction(text) * 65536), 65536)
@@ -107,7 +107,7 @@ def scaled(text: str) -> fractions.Fraction:
         raise Untranslated(f"{text} is no number") from None
 
 
-def rounded(number: fractions.Fraction) -> int:
+def nearest(number: fractions.Fraction) -> int:
     """The integer to which METAFONT rounds a number."""
     return math.floor(number + fractions.Fraction(1, 2))
 
@@ -146,7 +146,7 @@ def cut(points: list[Point]) -> typing.Iterator[list[Point]]:
 def transform(step: Step) -> list[str]:
     """What the script does to a picture for this step, if anything."""
     word, operand = step
-    numbers = [scaled(text) for text in re.findall(r"[-.\d]+", operand)]
+    numbers = [number_of(text) for text in re.findall(r"[-.\d]+", operand)]
     if word == "-":
         return []
     if word == "shifted" and len(numbers) == 2:
@@ -169,7 +169,7 @@ def is_factor(number: fractions.Fraction) -> bool:
 
 
 def shift(across: fractions.Fraction, up: fractions.Fraction) -> list[str]:
-    x, y = rounded(across), rounded(up)
+    x, y = nearest(across), nearest(up)
     return [f"shifted ({x},{y})"] if x or y else []
 
 
@@ -204,7 +204,7 @@ class Script:
             self.registers[name] = left[0]
         return self.registers[name]
 
-    def used(self, name: str) -> str:
+    def known_name(self, name: str) -> str:
         """The name in the script of a picture that must be known."""
         if name not in self.known:
             raise Untranslated(f"it is not known what the picture {name or 'without a name'} is")
@@ -215,18 +215,18 @@ class Script:
         return {name for name in self.known if re.match(r"[A-Za-z_]*", name)[0] == token}
 
     def contour(self, name: str, weight: str, points: list[Point]) -> None:
-        target = self.used(name)
+        target = self.known_name(name)
         tail = "" if weight == "1" else f" withweight {weight}"
         for part in cut(points):
             path = "--".join(f"({x},{y})" for x, y in part)
             self.lines.append(f"addto {target} contour {path}--cycle{tail}")
 
-    def moved(self, name: str, steps: list[Step]) -> str:
+    def name_after(self, name: str, steps: list[Step]) -> str:
         """The name in the script of a picture after these steps."""
         if not steps:
-            return self.used(name)
+            return self.known_name(name)
         sign = "-" if steps.count(NEGATED) % 2 else ""
-        self.lines += [f"{MOVED} := nullpicture", f"addto {MOVED} also {sign}{self.used(name)}"]
+        self.lines += [f"{MOVED} := nullpicture", f"addto {MOVED} also {sign}{self.known_name(name)}"]
         self.transform(MOVED, steps)
         return MOVED
 
@@ -235,27 +235,27 @@ class Script:
             self.lines += [f"{target} := {target} {done}" for done in transform(step)]
 
     def also(self, name: str, added: str, steps: list[Step]) -> None:
-        target = self.used(name)
+        target = self.known_name(name)
         if steps == [NEGATED]:
-            self.lines.append(f"addto {target} also -{self.used(added)}")
+            self.lines.append(f"addto {target} also -{self.known_name(added)}")
         elif added:
-            self.lines.append(f"addto {target} also {self.moved(added, steps)}")
+            self.lines.append(f"addto {target} also {self.name_after(added, steps)}")
 
     def assign(self, name: str, assigned: str, steps: list[Step]) -> None:
         target = self.register(name)
         if name == assigned and NEGATED not in steps:
-            self.transform(self.used(name), steps)
+            self.transform(self.known_name(name), steps)
             return
-        moved, cleared = self.moved(assigned, steps) if assigned else "", f"{target} := nullpicture"
+        moved, cleared = self.name_after(assigned, steps) if assigned else "", f"{target} := nullpicture"
         self.lines += [cleared] if self.lines[-1] != cleared else []
         self.lines += [f"addto {target} also {moved}"] if moved else []
         self.known.add(name)
 
     def cull(self, name: str, word: str, least: str, greatest: str, weight: str) -> None:
-        ends = f"({math.ceil(scaled(least))},{math.floor(scaled(greatest))})"
-        number = rounded(scaled(weight))
+        ends = f"({math.ceil(number_of(least))},{math.floor(number_of(greatest))})"
+        number = nearest(number_of(weight))
         tail = "" if number == 1 else f" withweight {number}"
-        self.lines.append(f"cull {self.used(name)} {word} {ends}{tail}")
+        self.lines.append(f"cull {self.known_name(name)} {word} {ends}{tail}")
 
     def ship(self, name: str, steps: list[Step], code: str, dx: str, across: str, up: str) -> None:
         """Ships a picture, moved by METAFONT's offsets, as the next character of the font."""
@@ -265,20 +265,20 @@ class Script:
         locator = self.font.locator(character)
         if character.code >= CODES:
             raise Untranslated(f"the character {character.code} has a code above {CODES - 1}, which a script cannot ship")
-        if character.code != rounded(scaled(code)) % CODES:
+        if character.code != nearest(number_of(code)) % CODES:
             raise Untranslated(f"METAFONT ships {code}, and the font has the character {character.code} in this place")
-        if locator.last == self.shipped and locator.dx != scaled(dx) * PIXEL:
+        if locator.last == self.shipped and locator.dx != number_of(dx) * PIXEL:
             raise Untranslated(f"the escapement of the character {character.code} is {dx} here, and another one in the font")
         if locator.dy:
             raise Untranslated(f"the character {character.code} has an escapement upwards")
-        if shift(scaled(across), scaled(up)):
+        if shift(number_of(across), number_of(up)):
             steps = [*steps, Step("shifted", f"({across},{up})")]
-        picture = self.moved(name, steps) if name else "nullpicture"
+        picture = self.name_after(name, steps) if name else "nullpicture"
         self.lines += [f"proof {picture}"] if character.code in self.proofs else []
         self.lines += [f"shipout {picture} code {character.code} dx {locator.dx} width {locator.width}", "publish"]
         self.shipped += 1
 
-    def finished(self) -> str:
+    def finish(self) -> str:
         """The complete script."""
         if not self.shipped:
             raise Untranslated("no character is shipped: METAFONT must have read tools/mf2mfp.mf before the font")
@@ -474,14 +474,14 @@ def whole_lines(log: str) -> typing.Iterator[tuple[int, str]]:
             yield number, whole
 
 
-def translated(log: str, script: Script) -> str:
+def translate(log: str, script: Script) -> str:
     """The script of a log. Anything that cannot be translated is reported with its line."""
     reader, number = Log(script), 0
     try:
         for number, line in whole_lines(log):
             reader.read(line)
         reader.end()
-        return script.finished()
+        return script.finish()
     except Untranslated as fault:
         raise Untranslated(f"line {number}: {fault}") from None
 
@@ -497,7 +497,7 @@ def main() -> int:
         font = read_font(path.read_bytes())
         check_proofs(font, words.proof)
         path = words.log
-        script = translated(path.read_text(encoding="latin-1"), Script(font, set(words.proof)))
+        script = translate(path.read_text(encoding="latin-1"), Script(font, set(words.proof)))
     except (OSError, NotGf, Untranslated) as fault:
         told = fault.strerror if isinstance(fault, OSError) else fault
         print(f"mf2mfp.py: {path}: {told}", file=sys.stderr)
