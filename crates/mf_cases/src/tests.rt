@@ -51,7 +51,7 @@ fn assert_ends<R: Abort + Wait + AllocGlobal, I: Read, C: Debug + Drop>(
     let alloc = rt.alloc();
     let mut writer = Sink::new(alloc);
     let result = run(rt, alloc, reader, &mut writer, settings);
-    assert_same(rt, (result.err(), writer.taken()), end, case);
+    assert_same(rt, (result.err(), writer.bytes()), end, case);
 }
 
 /// Asserts that the reader's script runs to its end and prints this transcript.

@@ -11,8 +11,7 @@ use assertions::{assert_holds, assert_same};
 use mf_cli::ProgramFault;
 use mf_cli::program::{BAD_WORDS, DONE, STREAM_FAULT, WANTING, program, report};
 use mf_desk::RunFault;
-use mf_testing::{Pieces, Script, Sink, worked_scripts};
-use std::alloc::{AllocError, Global};
+use mf_testing::{Pieces, Script, Sink, words_of, worked_scripts};
 use std::io::{Read, Write};
 use std::process::Abort;
 use std::rt::Files;
@@ -30,15 +29,6 @@ const USAGE: &[u8] = b"usage: mfpic [--viewers 0..16] [--gf FILE]\n";
 
 /// How the program ends: its exit status, what it has written to standard output, and its message.
 type End<'a> = (u8, &'a [u8], &'a [u8]);
-
-/// The words of a command line.
-fn words_of(alloc: Global, texts: &[&str]) -> Result<Vec<String>, AllocError> {
-    let mut words = Vec::new(alloc);
-    for text in texts {
-        words.push(String::from_str(alloc, text)?)?;
-    }
-    Ok(words)
-}
 
 /// Runs the program with these words, and returns its exit status.
 fn status_of<R: Abort + Wait + Threads + Files + AllocGlobal, I: Read, W: Write, E: Write>(
@@ -63,7 +53,7 @@ fn assert_ends_in<R: Abort + Wait + Threads + Files + AllocGlobal>(
 ) {
     let mut errors = Sink::new(rt.alloc());
     let status = status_of(rt, words, reader, &mut writer, &mut errors);
-    let found = (status, writer.taken(), errors.taken());
+    let found = (status, writer.bytes(), errors.bytes());
     assert_same(rt, found, end, words);
 }
 
@@ -78,7 +68,7 @@ fn assert_ends<R: Abort + Wait + Threads + Files + AllocGlobal>(
 }
 
 /// Performs the script beside `viewers` viewers, asserts that there is no fault, and returns what is written.
-fn written<R: Abort + Wait + Threads + Files + AllocGlobal>(
+fn output_beside<R: Abort + Wait + Threads + Files + AllocGlobal>(
     rt: &R,
     viewers: &str,
     script: &str,
@@ -89,7 +79,7 @@ fn written<R: Abort + Wait + Threads + Files + AllocGlobal>(
     let words = ["mfpic", "--viewers", viewers];
     let mut reader = Pieces::whole(script.as_bytes());
     let status = status_of(rt, &words, &mut reader, &mut writer, &mut errors);
-    let end = (status, errors.taken());
+    let end = (status, errors.bytes());
     assert_same(rt, end, (DONE, b"".as_slice()), (viewers, script));
     writer
 }
@@ -101,7 +91,7 @@ fn assert_performs<R: Abort + Wait + Threads + Files + AllocGlobal>(rt: &R, scri
     let mut errors = Sink::new(alloc);
     let mut reader = Pieces::whole(script.0.as_bytes());
     let status = status_of(rt, &["mfpic"], &mut reader, &mut writer, &mut errors);
-    let found = (status, writer.taken(), errors.taken());
+    let found = (status, writer.bytes(), errors.bytes());
     let end: End<'_> = (DONE, script.1.as_bytes(), b"");
     assert_same(rt, found, end, *script);
 }
@@ -120,8 +110,8 @@ fn assert_writes<R: Abort + Wait + Threads + Files + AllocGlobal>(
     script: &str,
     text: &str,
 ) {
-    let written = written(rt, viewers, script);
-    assert_same(rt, written.taken(), text.as_bytes(), (viewers, script));
+    let written = output_beside(rt, viewers, script);
+    assert_same(rt, written.bytes(), text.as_bytes(), (viewers, script));
 }
 
 const PUBLISHED: &str = "addto currentpicture contour (0,0)--(3,0)--(3,2)--(0,2)--cycle\npublish\n";
@@ -167,10 +157,10 @@ fn assert_viewers_agree<R: Abort + Wait + Threads + Files + AllocGlobal>(
     script: &Script,
 ) -> Result<(), Fail> {
     let (script, transcript) = *script;
-    let first = written(rt, "16", script);
-    let second = written(rt, "16", script);
-    assert_same(rt, first.taken(), second.taken(), script);
-    let lines = str::from_utf8(first.taken())?
+    let first = output_beside(rt, "16", script);
+    let second = output_beside(rt, "16", script);
+    assert_same(rt, first.bytes(), second.bytes(), script);
+    let lines = str::from_utf8(first.bytes())?
         .strip_prefix(transcript)
         .unwrap_or("");
     let line = lines.lines().next().unwrap_or("");
@@ -194,7 +184,7 @@ fn performs_scripts_beside_viewers(rt: HostRuntime) -> Result<(), Fail> {
 }
 
 /// Asserts that the words are refused before anything of the script is read.
-fn assert_refused<R: Abort + Wait + Threads + Files + AllocGlobal>(rt: &R, words: &[&str]) {
+fn assert_refused_unread<R: Abort + Wait + Threads + Files + AllocGlobal>(rt: &R, words: &[&str]) {
     let alloc = rt.alloc();
     let mut reader = Pieces::whole(LINE);
     let end: End<'_> = (BAD_WORDS, b"", USAGE);
@@ -208,11 +198,11 @@ fn assert_refused<R: Abort + Wait + Threads + Files + AllocGlobal>(rt: &R, words
 
 #[test]
 fn refuses_words(rt: HostRuntime) {
-    assert_refused(&rt, &["mfpic", "script"]);
-    assert_refused(&rt, &["mfpic", "--gf"]);
-    assert_refused(&rt, &["mfpic", "--help"]);
-    assert_refused(&rt, &["mfpic", "--gf", "a", "--gf", "b"]);
-    assert_refused(&rt, &["mfpic", "--viewers", "17"]);
+    assert_refused_unread(&rt, &["mfpic", "script"]);
+    assert_refused_unread(&rt, &["mfpic", "--gf"]);
+    assert_refused_unread(&rt, &["mfpic", "--help"]);
+    assert_refused_unread(&rt, &["mfpic", "--gf", "a", "--gf", "b"]);
+    assert_refused_unread(&rt, &["mfpic", "--viewers", "17"]);
 }
 
 #[test]
@@ -238,7 +228,7 @@ fn reports_a_write_fault(rt: HostRuntime) {
 fn assert_reports<R: Abort + AllocGlobal>(rt: &R, fault: RunFault, status: u8, message: &[u8]) {
     let mut errors = Sink::new(rt.alloc());
     let reported = report(&mut errors, ProgramFault::Run(fault));
-    assert_same(rt, (reported, errors.taken()), (status, message), fault);
+    assert_same(rt, (reported, errors.bytes()), (status, message), fault);
 }
 
 #[test]
@@ -266,7 +256,7 @@ fn assert_keeps<R: Abort + Wait + Threads + Files + AllocGlobal>(
 ) {
     let mut writer = Sink::new(rt.alloc());
     let found = status_of(rt, words, &mut reader, &mut writer, &mut errors);
-    assert_same(rt, (found, errors.taken()), (status, told), words);
+    assert_same(rt, (found, errors.bytes()), (status, told), words);
 }
 
 /// A message that cannot be written does not change the exit status.

@@ -38,7 +38,11 @@ fn push(rt: &impl Abort, builder: &mut RowBuilder, run: Run) {
 }
 
 /// The picture of these runs, given as row, first column, length and weight.
-pub(crate) fn weighted(rt: &impl Abort, alloc: Global, runs: &[(i32, i32, u32, i32)]) -> Picture {
+pub(crate) fn picture_of_runs(
+    rt: &impl Abort,
+    alloc: Global,
+    runs: &[(i32, i32, u32, i32)],
+) -> Picture {
     let mut builder = RowBuilder::new(alloc);
     for (y, x, len, weight) in runs {
         let run = Run {
@@ -64,7 +68,7 @@ pub(crate) fn picture(
         runs.push((*y, *x, *len, weight))
             .expect(rt, "there is room for the runs");
     }
-    weighted(rt, alloc, &runs)
+    picture_of_runs(rt, alloc, &runs)
 }
 
 /// A file without a comment.
@@ -108,12 +112,12 @@ pub(crate) fn assert_count(rt: &impl Abort, file: &GfFile, count: u32) {
 }
 
 /// The bytes of a file, which must be accepted when it is finished.
-pub(crate) fn finished(rt: &impl Abort, file: GfFile) -> GfBytes {
-    finished_with(rt, file, NO_WORDS)
+pub(crate) fn finish(rt: &impl Abort, file: GfFile) -> GfBytes {
+    finish_with(rt, file, NO_WORDS)
 }
 
 /// The bytes of a file, which must be accepted when it is finished with these numbers of the font.
-pub(crate) fn finished_with(rt: &impl Abort, file: GfFile, words: FontWords) -> GfBytes {
+pub(crate) fn finish_with(rt: &impl Abort, file: GfFile, words: FontWords) -> GfBytes {
     match file.finish(words) {
         Ok(bytes) => bytes,
         Err((_, fault)) => panic!(rt; "the file is refused: {fault:?}"),

@@ -15,22 +15,14 @@ pub struct Pieces<'a> {
 impl<'a> Pieces<'a> {
     /// Gives as many bytes in each read as are asked for.
     pub fn whole(bytes: &'a [u8]) -> Pieces<'a> {
-        Pieces {
-            rest: bytes,
-            size: usize::MAX,
-            later_size: usize::MAX,
-            fails: false,
-        }
+        Pieces::split(bytes, usize::MAX)
     }
 
     /// Gives one byte in each read.
     pub fn bytewise(bytes: &'a [u8]) -> Pieces<'a> {
-        Pieces {
-            rest: bytes,
-            size: 1,
-            later_size: 1,
-            fails: false,
-        }
+        let mut pieces = Pieces::split(bytes, 1);
+        pieces.later_size = 1;
+        pieces
     }
 
     /// Gives at most `first` bytes in its first read. `first` is at least 1.
@@ -45,12 +37,9 @@ impl<'a> Pieces<'a> {
 
     /// Fails with an error after these bytes.
     pub fn failing(bytes: &'a [u8]) -> Pieces<'a> {
-        Pieces {
-            rest: bytes,
-            size: usize::MAX,
-            later_size: usize::MAX,
-            fails: true,
-        }
+        let mut pieces = Pieces::whole(bytes);
+        pieces.fails = true;
+        pieces
     }
 }
 

@@ -6,7 +6,7 @@ use std::io::{self, ErrorKind, Write};
 /// fails it takes nothing and fails with an error.
 #[derive(Drop)]
 pub struct Sink {
-    taken: Vec<u8>,
+    bytes: Vec<u8>,
     /// The number of bytes that it still takes.
     room: usize,
     /// The greatest number of bytes that it takes in one write.
@@ -17,39 +17,26 @@ pub struct Sink {
 impl Sink {
     /// Takes all bytes.
     pub fn new(alloc: Global) -> Sink {
-        Sink {
-            taken: Vec::new(alloc),
-            room: usize::MAX,
-            size: usize::MAX,
-            fails: false,
-        }
+        Sink::full_after(alloc, usize::MAX)
     }
 
     /// Takes all bytes, and the first `count` of them without allocating.
-    pub fn reserved(alloc: Global, count: usize) -> Result<Sink, AllocError> {
+    pub fn with_capacity(alloc: Global, count: usize) -> Result<Sink, AllocError> {
         let mut sink = Sink::new(alloc);
-        sink.taken = Vec::with_capacity(alloc, count)?;
+        sink.bytes = Vec::with_capacity(alloc, count)?;
         Ok(sink)
     }
 
     /// Takes all bytes, one in each write.
     pub fn bytewise(alloc: Global) -> Sink {
-        Sink {
-            taken: Vec::new(alloc),
-            room: usize::MAX,
-            size: 1,
-            fails: false,
-        }
+        Sink::new(alloc).in_pieces(1)
     }
 
     /// Takes `room` bytes, and then fails with errors.
     pub fn failing(alloc: Global, room: usize) -> Sink {
-        Sink {
-            taken: Vec::new(alloc),
-            room,
-            size: usize::MAX,
-            fails: true,
-        }
+        let mut sink = Sink::full_after(alloc, room);
+        sink.fails = true;
+        sink
     }
 
     /// Takes no byte, and does not fail with an error.
@@ -60,7 +47,7 @@ impl Sink {
     /// Takes `room` bytes, and then no more, and does not fail with an error.
     pub fn full_after(alloc: Global, room: usize) -> Sink {
         Sink {
-            taken: Vec::new(alloc),
+            bytes: Vec::new(alloc),
             room,
             size: usize::MAX,
             fails: false,
@@ -74,8 +61,8 @@ impl Sink {
     }
 
     /// The bytes that it took.
-    pub fn taken(&self) -> &[u8] {
-        self.taken.as_slice()
+    pub fn bytes(&self) -> &[u8] {
+        self.bytes.as_slice()
     }
 }
 
@@ -85,7 +72,7 @@ impl Write for Sink {
             return Err(io::Error::from(ErrorKind::Other));
         }
         let count = self.size.min(self.room).min(buf.len());
-        self.taken.extend_from_slice(&buf[..count])?;
+        self.bytes.extend_from_slice(&buf[..count])?;
         self.room -= count;
         Ok(count)
     }
@@ -95,33 +82,50 @@ impl Write for Sink {
     }
 }
 
-/// A writer that fails with one error instead of a write, and takes all bytes after that.
+/// How a write fails.
+#[derive(Clone, Copy, Debug)]
+pub enum Failure {
+    /// With an error of this kind.
+    Error(ErrorKind),
+    /// It takes no byte.
+    NoByte,
+}
+
+/// A writer that fails in one write, and takes all bytes after that.
 #[derive(Drop)]
 pub struct FailsOnce {
     sink: Sink,
-    /// The number of bytes that it takes before its error.
+    /// The number of bytes that it takes before it fails.
     room: usize,
+    failure: Failure,
     has_failed: bool,
     calls_after: u32,
 }
 
 impl FailsOnce {
-    /// Takes `room` bytes, and then fails once.
+    /// Takes `room` bytes, and then fails once with an error.
     pub fn new(alloc: Global, room: usize) -> FailsOnce {
+        let failure = Failure::Error(ErrorKind::Other);
+        FailsOnce::over(Sink::new(alloc), room, failure)
+    }
+
+    /// Takes `room` bytes as this sink does, and then fails once in this way.
+    pub fn over(sink: Sink, room: usize, failure: Failure) -> FailsOnce {
         FailsOnce {
-            sink: Sink::new(alloc),
+            sink,
             room,
+            failure,
             has_failed: false,
             calls_after: 0,
         }
     }
 
-    /// The bytes that it took, before and after its error.
-    pub fn taken(&self) -> &[u8] {
-        self.sink.taken()
+    /// The bytes that it took, before and after its failure.
+    pub fn bytes(&self) -> &[u8] {
+        self.sink.bytes()
     }
 
-    /// The number of writes and flushes after its error.
+    /// The number of writes and flushes after its failure.
     pub fn calls_after(&self) -> u32 {
         self.calls_after
     }
@@ -135,7 +139,10 @@ impl Write for FailsOnce {
         }
         if self.room == 0 {
             self.has_failed = true;
-            return Err(io::Error::from(ErrorKind::Other));
+            return match self.failure {
+                Failure::Error(kind) => Err(io::Error::from(kind)),
+                Failure::NoByte => Ok(0),
+            };
         }
         let count = self.room.min(buf.len());
         let taken = self.sink.write(&buf[..count])?;
@@ -155,6 +162,8 @@ impl Write for FailsOnce {
 #[derive(Drop)]
 pub struct FlushFails {
     sink: Sink,
+    /// The kind of its errors.
+    kind: ErrorKind,
     /// The number of flushes that succeed before its first error.
     good: u32,
     /// The number of errors that are still to come.
@@ -164,10 +173,11 @@ pub struct FlushFails {
 }
 
 impl FlushFails {
-    /// Fails in one flush, after `good` others.
-    pub fn once(alloc: Global, good: u32) -> FlushFails {
+    /// Fails in one flush, after `good` others, with an error of this kind.
+    pub fn once_with(alloc: Global, good: u32, kind: ErrorKind) -> FlushFails {
         FlushFails {
             sink: Sink::new(alloc),
+            kind,
             good,
             errors: 1,
             has_failed: false,
@@ -175,20 +185,21 @@ impl FlushFails {
         }
     }
 
+    /// Fails in one flush, after `good` others.
+    pub fn once(alloc: Global, good: u32) -> FlushFails {
+        FlushFails::once_with(alloc, good, ErrorKind::Other)
+    }
+
     /// Fails in each flush after the first `good` ones.
     pub fn for_ever(alloc: Global, good: u32) -> FlushFails {
-        FlushFails {
-            sink: Sink::new(alloc),
-            good,
-            errors: u32::MAX,
-            has_failed: false,
-            calls_after: 0,
-        }
+        let mut writer = FlushFails::once(alloc, good);
+        writer.errors = u32::MAX;
+        writer
     }
 
     /// The bytes that it took, before and after its first error.
-    pub fn taken(&self) -> &[u8] {
-        self.sink.taken()
+    pub fn bytes(&self) -> &[u8] {
+        self.sink.bytes()
     }
 
     /// The number of writes and flushes after its first error.
@@ -221,6 +232,6 @@ impl Write for FlushFails {
         }
         self.errors -= 1;
         self.has_failed = true;
-        Err(io::Error::from(ErrorKind::Other))
+        Err(io::Error::from(self.kind))
     }
 }

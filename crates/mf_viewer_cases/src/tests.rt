@@ -69,7 +69,7 @@ type End<'a> = (Option<RunFault>, &'a [u8]);
 
 /// Performs the reader's script beside `viewers` viewers, who look `looks` times each. Asserts that no thread holds the gate any
 /// more when it returns.
-fn performed<R: Abort + Wait + Threads + AllocGlobal, I: Read, W: Write>(
+fn perform_beside<R: Abort + Wait + Threads + AllocGlobal, I: Read, W: Write>(
     rt: &R,
     reader: &mut I,
     writer: &mut W,

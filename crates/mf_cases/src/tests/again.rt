@@ -17,7 +17,7 @@ use std::sync::Wait;
 const TRIES: u32 = 2;
 
 /// Opens a session.
-fn opened<R: Abort + Wait>(rt: &R, alloc: Global) -> Session {
+fn open_in_tries<R: Abort + Wait>(rt: &R, alloc: Global) -> Session {
     for _ in 0..TRIES {
         if let Ok((session, _)) = Session::new(rt, alloc, 1, AMPLE.max_ops, AMPLE.max_bytes) {
             return session;
@@ -27,7 +27,12 @@ fn opened<R: Abort + Wait>(rt: &R, alloc: Global) -> Session {
 }
 
 /// Performs a line, and returns what it prints.
-fn performed<R: Abort + Wait>(rt: &R, alloc: Global, session: &mut Session, line: &str) -> Vec<u8> {
+fn perform_in_tries<R: Abort + Wait>(
+    rt: &R,
+    alloc: Global,
+    session: &mut Session,
+    line: &str,
+) -> Vec<u8> {
     for _ in 0..TRIES {
         if let Ok(text) = session.command(rt, alloc, line.as_bytes()) {
             return text;
@@ -37,13 +42,16 @@ fn performed<R: Abort + Wait>(rt: &R, alloc: Global, session: &mut Session, line
 }
 
 /// Ends the script of a session.
-fn finished<R: Abort + Wait>(rt: &R, session: Session) -> (Ended, GfFile) {
+fn finish_in_tries<R: Abort + Wait>(rt: &R, session: Session) -> (Ended, GfFile) {
     let mut session = session;
     for _ in 0..TRIES {
         match session.finish(rt) {
             Ok(ended) => return ended,
             Err(EndFault::Kept(back)) => session = back,
-            Err(EndFault::Halfway(closing, file)) => return (ended(rt, closing), file),
+            Err(EndFault::Halfway(closing, file)) => return (
+                publish_end_in_tries(rt, closing),
+                file,
+            ),
         }
     }
     session.discard(rt);
@@ -51,7 +59,7 @@ fn finished<R: Abort + Wait>(rt: &R, session: Session) -> (Ended, GfFile) {
 }
 
 /// Publishes the end of a picture.
-fn ended<R: Abort + Wait>(rt: &R, closing: Closing) -> Ended {
+fn publish_end_in_tries<R: Abort + Wait>(rt: &R, closing: Closing) -> Ended {
     let mut closing = closing;
     for _ in 0..TRIES {
         match closing.publish(rt) {
@@ -64,7 +72,7 @@ fn ended<R: Abort + Wait>(rt: &R, closing: Closing) -> Ended {
 }
 
 /// Finishes a font file.
-fn file_bytes(rt: &impl Abort, file: GfFile) -> GfBytes {
+fn file_bytes_in_tries(rt: &impl Abort, file: GfFile) -> GfBytes {
     let mut file = file;
     for _ in 0..TRIES {
         match file.finish(AMPLE.font) {
@@ -77,12 +85,12 @@ fn file_bytes(rt: &impl Abort, file: GfFile) -> GfBytes {
 }
 
 /// Asserts that the lines of a script print its transcript.
-fn assert_performs<R: Abort + Wait>(rt: &R, alloc: Global, script: &Script) {
+fn assert_performs_in_tries<R: Abort + Wait>(rt: &R, alloc: Global, script: &Script) {
     let (script, transcript) = *script;
-    let mut session = opened(rt, alloc);
+    let mut session = open_in_tries(rt, alloc);
     let mut rest = transcript.as_bytes();
     for line in script.lines() {
-        let text = performed(rt, alloc, &mut session, line);
+        let text = perform_in_tries(rt, alloc, &mut session, line);
         let more = rest.strip_prefix(text.as_slice());
         assert_holds(rt, more.is_some(), (script, line));
         rest = more.unwrap_or(b"");
@@ -92,26 +100,32 @@ fn assert_performs<R: Abort + Wait>(rt: &R, alloc: Global, script: &Script) {
 }
 
 /// Asserts that a script ends with this font file, and that the notice of its end has this revision.
-fn assert_ships<R: Abort + Wait>(rt: &R, alloc: Global, script: &str, revision: u32, bytes: &[u8]) {
-    let mut session = opened(rt, alloc);
+fn assert_ships_in_tries<R: Abort + Wait>(
+    rt: &R,
+    alloc: Global,
+    script: &str,
+    revision: u32,
+    bytes: &[u8],
+) {
+    let mut session = open_in_tries(rt, alloc);
     for line in script.lines() {
-        performed(rt, alloc, &mut session, line);
+        perform_in_tries(rt, alloc, &mut session, line);
     }
-    let (mut ended, file) = finished(rt, session);
+    let (mut ended, file) = finish_in_tries(rt, session);
     assert_same(rt, ended.notice().revision(), revision, script);
     ended.discard(rt);
-    assert_same(rt, file_bytes(rt, file).bytes(), bytes, script);
+    assert_same(rt, file_bytes_in_tries(rt, file).bytes(), bytes, script);
 }
 
 #[test]
 fn perform_lines(rt: HostRuntime) {
     for script in worked_scripts().iter().copied().flatten() {
-        assert_performs(&rt, rt.alloc(), script);
+        assert_performs_in_tries(&rt, rt.alloc(), script);
     }
 }
 
 /// What is shipped is in the font file that `finish` returns, and the notice tells of everything that was accepted.
 #[test]
 fn end_a_script(rt: HostRuntime) {
-    assert_ships(&rt, rt.alloc(), RECT, 1, RECT_FILE);
+    assert_ships_in_tries(&rt, rt.alloc(), RECT, 1, RECT_FILE);
 }

@@ -3,7 +3,7 @@
 mod texts;
 
 use super::AMPLE;
-use super::sessions::{finish, opened, perform};
+use super::sessions::{finish, open, perform};
 use crate::tests::assertions::{assert_holds, assert_same};
 use mf_session::Session;
 use mf_testing::worked_scripts;
@@ -41,7 +41,12 @@ fn append(rt: &impl Abort, texts: &mut Vec<u8>, text: &[u8]) {
 }
 
 /// Performs the lines of a script, and returns what they print.
-fn printed<R: Abort + Wait>(rt: &R, alloc: Global, session: &mut Session, script: &str) -> Vec<u8> {
+fn texts_of<R: Abort + Wait>(
+    rt: &R,
+    alloc: Global,
+    session: &mut Session,
+    script: &str,
+) -> Vec<u8> {
     let mut all = Vec::new(alloc);
     for line in script.lines() {
         let text = perform(rt, alloc, session, line);
@@ -67,12 +72,12 @@ fn perform_cut<R: Abort + Wait>(
 fn perform_cuts<R: Abort + Wait>(rt: &R, alloc: Global, session: &mut Session, line: &str) -> u32 {
     let bytes = line.as_bytes();
     let mut shipped: u32 = 0;
-    let is_long = printed(rt, alloc, session, LOOKS).len() > LONG;
+    let is_long = texts_of(rt, alloc, session, LOOKS).len() > LONG;
     let looks = if is_long { SHORT_LOOKS } else { LOOKS };
-    let mut before = printed(rt, alloc, session, looks);
+    let mut before = texts_of(rt, alloc, session, looks);
     for end in 0..bytes.len() {
         let text = perform_cut(rt, alloc, session, &bytes[..end]);
-        let after = printed(rt, alloc, session, looks);
+        let after = texts_of(rt, alloc, session, looks);
         if text.starts_with(b"refused") {
             assert_same(rt, after.as_slice(), before.as_slice(), (line, end));
         }
@@ -86,7 +91,7 @@ fn perform_cuts<R: Abort + Wait>(rt: &R, alloc: Global, session: &mut Session, l
 
 /// Asserts that a refused cut of a line of this script changes no picture, does not count as an operation, and ships nothing.
 fn assert_cuts_change_nothing<R: Abort + Wait>(rt: &R, alloc: Global, script: &str) {
-    let (mut session, _) = opened(rt, alloc, AMPLE.max_ops);
+    let (mut session, _) = open(rt, alloc, AMPLE.max_ops);
     let mut shipped: u32 = 0;
     for line in script.lines() {
         shipped = shipped.saturating_add(perform_cuts(rt, alloc, &mut session, line));
@@ -143,7 +148,7 @@ fn lawful_texts<R: Abort + Wait>(
 /// Asserts that the cuts of a line are refused or print what its entry says, and so do the lines that are performed after them.
 fn assert_cuts_print<R: Abort + Wait>(rt: &R, alloc: Global, cut_line: &CutLine) {
     let (line, columns, texts) = *cut_line;
-    let (mut session, _) = opened(rt, alloc, AMPLE.max_ops);
+    let (mut session, _) = open(rt, alloc, AMPLE.max_ops);
     let first = "addto a contour (0,0)--(3,0)--(3,1)--(0,1)--cycle";
     perform(rt, alloc, &mut session, first);
     let mut all = lawful_texts(rt, alloc, &mut session, line, columns);

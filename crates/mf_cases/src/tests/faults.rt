@@ -83,8 +83,8 @@ fn assert_ends_in<R: Abort + Wait + AllocGlobal, W: Write>(
 }
 
 /// Asserts that the sink has taken the first `count` bytes of these texts.
-fn assert_took(rt: &impl Abort, sink: &Sink, texts: &[u8], count: usize) {
-    let taken = sink.taken();
+fn assert_sink_took(rt: &impl Abort, sink: &Sink, texts: &[u8], count: usize) {
+    let taken = sink.bytes();
     assert_same(rt, taken.len(), count, "bytes");
     assert_holds(rt, texts.starts_with(taken), ("bytes", count));
 }
@@ -97,12 +97,12 @@ fn assert_takes<R: Abort + Wait + AllocGlobal>(
     count: usize,
 ) {
     assert_ends_in(rt, TWICE, &mut sink, fault);
-    assert_took(rt, &sink, TWO_SIXES, count);
+    assert_sink_took(rt, &sink, TWO_SIXES, count);
 }
 
 /// Asserts that a sink with room for `room` bytes takes these, both where it then fails with an error and where it then takes no
 /// byte.
-fn assert_fills<R: Abort + Wait + AllocGlobal>(rt: &R, room: usize) {
+fn assert_takes_room<R: Abort + Wait + AllocGlobal>(rt: &R, room: usize) {
     let fault = Some(RunFault::WriteFault(room as u128));
     assert_takes(rt, Sink::failing(rt.alloc(), room), fault, room);
     assert_takes(rt, Sink::full_after(rt.alloc(), room), fault, room);
@@ -111,7 +111,7 @@ fn assert_fills<R: Abort + Wait + AllocGlobal>(rt: &R, room: usize) {
 #[test]
 fn writer_fails(rt: HostRuntime) {
     for room in [0, 5, 14, 20] {
-        assert_fills(&rt, room);
+        assert_takes_room(&rt, room);
     }
     assert_takes(&rt, Sink::bytewise(rt.alloc()), None, 28);
 }
@@ -126,11 +126,11 @@ fn assert_buffered<R: Abort + Wait + AllocGlobal>(
 ) {
     let mut writer = BufWriter::new(rt.alloc(), sink).expect(rt, "there is room for a buffer");
     assert_ends_in(rt, TWICE_UNENDED, &mut writer, fault);
-    assert_took(rt, writer.get_ref(), TWO_SIXES, count);
+    assert_sink_took(rt, writer.get_ref(), TWO_SIXES, count);
 }
 
 /// Asserts this where the sink has room for `room` bytes, and the fault says that the buffered writer took `count` bytes.
-fn assert_flush_fails<R: Abort + Wait + AllocGlobal>(rt: &R, room: usize, count: u128) {
+fn assert_buffer_fails<R: Abort + Wait + AllocGlobal>(rt: &R, room: usize, count: u128) {
     let fault = Some(RunFault::WriteFault(count));
     assert_buffered(rt, Sink::failing(rt.alloc(), room), fault, room);
 }
@@ -139,8 +139,8 @@ fn assert_flush_fails<R: Abort + Wait + AllocGlobal>(rt: &R, room: usize, count:
 #[test]
 fn buffered_writer_is_flushed(rt: HostRuntime) {
     assert_buffered(&rt, Sink::new(rt.alloc()), None, 28);
-    assert_flush_fails(&rt, 5, 14);
-    assert_flush_fails(&rt, 20, 28);
+    assert_buffer_fails(&rt, 5, 14);
+    assert_buffer_fails(&rt, 20, 28);
 }
 
 /// A line that prints a total weight, twice, and the number of its bytes before the line feed.

@@ -19,7 +19,7 @@ fn outcome_of<R: Abort + Wait + AllocGlobal>(
     let mut writer = Sink::new(alloc);
     let mut reader = Pieces::whole(script.as_bytes());
     let outcome = run(rt, alloc, &mut reader, &mut writer, settings);
-    assert_same(rt, writer.taken(), transcript.as_bytes(), script);
+    assert_same(rt, writer.bytes(), transcript.as_bytes(), script);
     outcome.expect(rt, "the script is run to its end")
 }
 

@@ -102,11 +102,11 @@ fn session_after<R: Abort + Wait>(
     for line in before.lines() {
         perform(rt, alloc, &mut session, line);
     }
-    (session, seated(rt, &mut desk))
+    (session, only_viewer(rt, &mut desk))
 }
 
 /// The only viewer of a desk with one place.
-fn seated(rt: &impl Abort, desk: &mut Desk) -> Viewer {
+fn only_viewer(rt: &impl Abort, desk: &mut Desk) -> Viewer {
     let viewer = desk.viewer().expect(rt, "a place is left");
     assert_holds(rt, desk.viewer().is_err(), "one place");
     viewer
@@ -189,7 +189,7 @@ fn assert_file(rt: &impl Abort, file: GfFile, finished: Result<&[u8], GfFault>) 
 
 /// Asserts that a script has ended in this state: its notice tells of everything that was accepted, the viewer is shown it, and
 /// the font file is that of the state.
-fn assert_ended<R: Abort + Wait>(
+fn assert_ended_in<R: Abort + Wait>(
     rt: &R,
     (ended, file): (Ended, GfFile),
     viewer: Viewer,
@@ -206,7 +206,7 @@ fn assert_ended<R: Abort + Wait>(
 
 /// Asserts that the turning check of the session is on, that its next publish tells of everything that was accepted and shows it,
 /// and that the session ends in this state.
-fn assert_ends<R: Abort + Wait>(
+fn assert_goes_on_from<R: Abort + Wait>(
     rt: &R,
     alloc: Global,
     (session, viewer): (Session, Viewer),
@@ -225,11 +225,11 @@ fn assert_ends<R: Abort + Wait>(
     let told = format!(in alloc; "published {operations}\n").expect(rt, "there is room for a text");
     assert_same(rt, published.as_slice(), told.as_bytes(), "publish");
     let viewer = assert_shows(rt, viewer, operations, total);
-    assert_ended(rt, finish(rt, session), viewer, state);
+    assert_ended_in(rt, finish(rt, session), viewer, state);
 }
 
 /// Performs a line while allocations are refused.
-fn command_refused<R: Wait>(
+fn command_while_refused<R: Wait>(
     rt: &R,
     alloc: Global,
     session: &mut Session,
@@ -243,11 +243,11 @@ fn command_refused<R: Wait>(
 
 /// Asserts that the line prints its text and makes its change. Where an allocation fails, nothing has changed, and the line does
 /// both when it is performed again.
-fn assert_performs<R: Abort + Wait + AllocGlobal>(rt: &R, trial: &Trial) {
+fn assert_performs_while_refused<R: Abort + Wait + AllocGlobal>(rt: &R, trial: &Trial) {
     let (alloc, line) = (rt.alloc(), trial.line);
     let limits = (trial.max_ops, trial.max_bytes);
     let (mut session, mut viewer) = session_after(rt, alloc, limits, trial.before);
-    let answer = command_refused(rt, alloc, &mut session, line);
+    let answer = command_while_refused(rt, alloc, &mut session, line);
     let text = match answer {
         Ok(text) => text,
         Err(OutOfMemory) => {
@@ -257,5 +257,5 @@ fn assert_performs<R: Abort + Wait + AllocGlobal>(rt: &R, trial: &Trial) {
     };
     assert_same(rt, text.as_slice(), trial.text.as_bytes(), line);
     let viewer = assert_state(rt, alloc, (&mut session, viewer), &trial.new);
-    assert_ends(rt, alloc, (session, viewer), &trial.new);
+    assert_goes_on_from(rt, alloc, (session, viewer), &trial.new);
 }

@@ -66,14 +66,14 @@ fn many_times(alloc: Global, times: usize, weight: &[u8]) -> Result<Vec<u8>, All
 }
 
 /// A script that performs a line `times` times and then shows the picture.
-fn shown_after(alloc: Global, line: &[u8], times: usize) -> Result<Vec<u8>, AllocError> {
+fn script_with_show(alloc: Global, line: &[u8], times: usize) -> Result<Vec<u8>, AllocError> {
     script_of(alloc, &[&line.repeat(alloc, times)?, b"show a\n"])
 }
 
 /// Asserts that a contour that goes around the pixel (0, 0) `times` times, and then `show a`, print this text.
 fn assert_fills<R: Abort + Wait + AllocGlobal>(rt: &R, times: usize, text: &[u8]) {
     let line = many_times(rt.alloc(), times, b"1").expect(rt, "there is room for the line");
-    let script = shown_after(rt.alloc(), &line, 1).expect(rt, "there is room for the script");
+    let script = script_with_show(rt.alloc(), &line, 1).expect(rt, "there is room for the script");
     assert_prints(rt, Pieces::whole(&script), text, "a long contour");
 }
 
@@ -87,8 +87,8 @@ fn long_contours(rt: HostRuntime) {
 fn heavy_contours(alloc: Global) -> Result<Vec<u8>, AllocError> {
     let heavy = many_times(alloc, 1024, b"-3")?;
     let (ten, one) = (
-        shown_after(alloc, &heavy, 10)?,
-        shown_after(alloc, &heavy, 1)?,
+        script_with_show(alloc, &heavy, 10)?,
+        script_with_show(alloc, &heavy, 1)?,
     );
     script_of(alloc, &[&ten, &one])
 }

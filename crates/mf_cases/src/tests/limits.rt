@@ -81,6 +81,42 @@ fn refused_contours(rt: HostRuntime) {
     );
 }
 
+/// A pixel of weight 3 that is doubled 13 times, which gives 24,576, and once more, which would be too much.
+const HEAVY: &str = "addto currentpicture contour (0,0)--(1,0)--(1,1)--(0,1)--cycle withweight 3\n\
+                     addto currentpicture also currentpicture\n\
+                     addto currentpicture also currentpicture\n\
+                     addto currentpicture also currentpicture\n\
+                     addto currentpicture also currentpicture\n\
+                     addto currentpicture also currentpicture\n\
+                     addto currentpicture also currentpicture\n\
+                     addto currentpicture also currentpicture\n\
+                     addto currentpicture also currentpicture\n\
+                     addto currentpicture also currentpicture\n\
+                     addto currentpicture also currentpicture\n\
+                     addto currentpicture also currentpicture\n\
+                     addto currentpicture also currentpicture\n\
+                     addto currentpicture also currentpicture\n\
+                     addto currentpicture also currentpicture\n\
+                     show totalweight currentpicture\n\
+                     publish\n";
+
+/// The limit of operations comes before that of weights.
+#[test]
+fn weights_that_would_be_too_large(rt: HostRuntime) {
+    assert_prints_within(
+        &rt,
+        15,
+        HEAVY,
+        "refused WeightTooLarge\ntotalweight 24576\npublished 14\n",
+    );
+    assert_prints_within(
+        &rt,
+        14,
+        HEAVY,
+        "refused TooManyOperations\ntotalweight 24576\npublished 14\n",
+    );
+}
+
 /// A contour that changes no pixel is an operation.
 #[test]
 fn contours_without_pixels(rt: HostRuntime) {

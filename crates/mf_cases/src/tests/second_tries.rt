@@ -1,9 +1,9 @@
 //! A read that reports the end, and a read or a write that fails, are not tried again, whatever a second try would do.
 
 use super::{AMPLE, assert_ends};
-use crate::tests::assertions::{assert_holds, assert_same};
+use crate::tests::assertions::assert_same;
 use mf_desk::{RunFault, run};
-use mf_testing::{Pieces, Sink};
+use mf_testing::{FailsOnce, Failure, FlushFails, Pieces, Sink};
 use std::io::{self, ErrorKind, Read, Write};
 use std::process::Abort;
 use std::sync::Wait;
@@ -40,7 +40,7 @@ impl Read for Breaks<'_> {
 }
 
 /// A reader that breaks off between these two texts.
-fn broken<'a>(before: &'a str, later: &'a str, is_interrupted: bool) -> Breaks<'a> {
+fn break_between<'a>(before: &'a str, later: &'a str, is_interrupted: bool) -> Breaks<'a> {
     Breaks {
         before: Pieces::whole(before.as_bytes()),
         later: Pieces::whole(later.as_bytes()),
@@ -56,7 +56,7 @@ fn assert_interrupted<R: Abort + Wait + AllocGlobal>(
     later: &str,
     text: &str,
 ) {
-    let mut reader = broken(before, later, true);
+    let mut reader = break_between(before, later, true);
     let end = (Some(RunFault::ReadFault), text.as_bytes());
     assert_ends(rt, &mut reader, &AMPLE, end, before);
 }
@@ -77,62 +77,48 @@ fn nothing_is_written_where_the_second_read_fails(rt: HostRuntime) {
 
 /// Asserts that a run whose reader reports the end after this text, and would give a line after that, ends there without a fault,
 /// and prints this text.
-fn assert_ended<R: Abort + Wait + AllocGlobal>(rt: &R, before: &str, text: &str) {
-    let mut reader = broken(before, LINE, false);
+fn assert_stops_at_the_end<R: Abort + Wait + AllocGlobal>(rt: &R, before: &str, text: &str) {
+    let mut reader = break_between(before, LINE, false);
     assert_ends(rt, &mut reader, &AMPLE, (None, text.as_bytes()), before);
 }
 
 /// A terminal may give more after it has reported an end.
 #[test]
 fn nothing_is_read_after_the_end(rt: HostRuntime) {
-    assert_ended(&rt, "", "");
-    assert_ended(&rt, "show totalweight currentpicture", TEXT);
-    assert_ended(&rt, LINE, TEXT);
-}
-
-/// A writer that is interrupted in its first write or its first flush, and would take all bytes after that.
-#[derive(Drop)]
-struct InterruptedOnce {
-    in_write: bool,
-    in_flush: bool,
-    sink: Sink,
-}
-
-impl Write for InterruptedOnce {
-    fn write(&mut self, buf: &[u8]) -> io::Result<usize> {
-        if self.in_write {
-            self.in_write = false;
-            return Err(io::Error::from(ErrorKind::Interrupted));
-        }
-        self.sink.write(buf)
-    }
-
-    fn flush(&mut self) -> io::Result<()> {
-        if self.in_flush {
-            self.in_flush = false;
-            return Err(io::Error::from(ErrorKind::Interrupted));
-        }
-        Ok(())
-    }
-}
-
-/// Asserts that a run whose writer is interrupted in this way ends with `WriteFault`, and that the writer takes nothing.
-fn assert_write_fault<R: Abort + Wait + AllocGlobal>(rt: &R, in_write: bool, in_flush: bool) {
-    let alloc = rt.alloc();
-    let mut writer = InterruptedOnce {
-        in_write,
-        in_flush,
-        sink: Sink::new(alloc),
-    };
-    let mut reader = Pieces::whole(LINE.as_bytes());
-    let result = run(rt, alloc, &mut reader, &mut writer, &AMPLE);
-    let case = (in_write, in_flush);
-    assert_same(rt, result.err(), Some(RunFault::WriteFault(0)), case);
-    assert_holds(rt, writer.sink.taken().is_empty(), case);
+    assert_stops_at_the_end(&rt, "", "");
+    assert_stops_at_the_end(&rt, "show totalweight currentpicture", TEXT);
+    assert_stops_at_the_end(&rt, LINE, TEXT);
 }
 
 #[test]
 fn interrupted_write_is_a_fault(rt: HostRuntime) {
-    assert_write_fault(&rt, true, false);
-    assert_write_fault(&rt, false, true);
+    let alloc = rt.alloc();
+    let failure = Failure::Error(ErrorKind::Interrupted);
+    let mut writer = FailsOnce::over(Sink::new(alloc), 0, failure);
+    assert_write_fault(&rt, &mut writer);
+    assert_same(
+        &rt,
+        (writer.bytes(), writer.calls_after()),
+        (b"".as_slice(), 0),
+        "a write",
+    );
+}
+
+#[test]
+fn interrupted_flush_is_a_fault(rt: HostRuntime) {
+    let mut writer = FlushFails::once_with(rt.alloc(), 0, ErrorKind::Interrupted);
+    assert_write_fault(&rt, &mut writer);
+    assert_same(
+        &rt,
+        (writer.bytes(), writer.calls_after()),
+        (b"".as_slice(), 0),
+        "a flush",
+    );
+}
+
+/// Asserts that a run into this writer ends with `WriteFault` before any byte.
+fn assert_write_fault<R: Abort + Wait + AllocGlobal, W: Write>(rt: &R, writer: &mut W) {
+    let mut reader = Pieces::whole(LINE.as_bytes());
+    let result = run(rt, rt.alloc(), &mut reader, writer, &AMPLE);
+    assert_same(rt, result.err(), Some(RunFault::WriteFault(0)), "a writer");
 }

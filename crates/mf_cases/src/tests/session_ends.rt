@@ -3,7 +3,7 @@ ghost use Rattle.std.specs.Prelude.{◌≡◌};
 ghost use Rattle.mf_live.specs.Viewers as viewers;
 
 use super::AMPLE;
-use super::sessions::{finish, opened, perform};
+use super::sessions::{finish, open, perform};
 use crate::tests::assertions::assert_same;
 use mf_gf::{GfFault, GfFile};
 use mf_live::{Ended, Viewer};
@@ -13,8 +13,8 @@ use std::process::Abort;
 use std::sync::Wait;
 
 /// Ends a session that has performed these lines.
-fn finished<R: Abort + Wait>(rt: &R, alloc: Global, script: &str) -> (Ended, GfFile) {
-    let (mut session, _) = opened(rt, alloc, AMPLE.max_ops);
+fn end_after<R: Abort + Wait>(rt: &R, alloc: Global, script: &str) -> (Ended, GfFile) {
+    let (mut session, _) = open(rt, alloc, AMPLE.max_ops);
     for line in script.lines() {
         perform(rt, alloc, &mut session, line);
     }
@@ -37,7 +37,7 @@ pub(super) fn assert_shows<R: Abort>(rt: &R, viewer: Viewer, revision: u32, tota
 
 /// Asserts that the notice of the end tells of `revision` operations.
 fn assert_tells<R: Abort + Wait>(rt: &R, alloc: Global, script: &str, revision: u32) {
-    let (mut ended, _) = finished(rt, alloc, script);
+    let (mut ended, _) = end_after(rt, alloc, script);
     assert_same(rt, ended.notice().revision(), revision, script);
     ended.discard(rt);
 }
@@ -89,7 +89,7 @@ fn assert_hands_out<R: Abort + Wait>(
     count: u32,
     end: Result<&[u8], GfFault>,
 ) {
-    let (ended, file) = finished(rt, alloc, script);
+    let (ended, file) = end_after(rt, alloc, script);
     ended.discard(rt);
     assert_same(rt, file.count(), count, script);
     match file.finish(AMPLE.font) {
@@ -99,7 +99,7 @@ fn assert_hands_out<R: Abort + Wait>(
 }
 
 /// Asserts that the end hands out a font file with no character.
-fn assert_ships_nothing<R: Abort + Wait>(rt: &R, alloc: Global, script: &str) {
+fn assert_hands_out_nothing<R: Abort + Wait>(rt: &R, alloc: Global, script: &str) {
     assert_hands_out(rt, alloc, script, 0, Err(GfFault::NoCharacters));
 }
 
@@ -108,9 +108,9 @@ fn assert_ships_nothing<R: Abort + Wait>(rt: &R, alloc: Global, script: &str) {
 fn hand_out_the_font_file(rt: HostRuntime) {
     let alloc = rt.alloc();
     assert_hands_out(&rt, alloc, RECT, 1, Ok(RECT_FILE));
-    assert_ships_nothing(&rt, alloc, "");
-    assert_ships_nothing(&rt, alloc, "show a\n");
-    assert_ships_nothing(&rt, alloc, "shipout a code 256 dx 0 width 0\n");
+    assert_hands_out_nothing(&rt, alloc, "");
+    assert_hands_out_nothing(&rt, alloc, "show a\n");
+    assert_hands_out_nothing(&rt, alloc, "shipout a code 256 dx 0 width 0\n");
 }
 
 /// Asserts that a viewer that has looked at the blank picture, and learns the notice of the end after these lines, sees
@@ -123,7 +123,7 @@ fn assert_ends_with<R: Abort + Wait + AllocGlobal>(
     total: i64,
 ) {
     let alloc = rt.alloc();
-    let (mut session, mut desk) = opened(rt, alloc, max_ops);
+    let (mut session, mut desk) = open(rt, alloc, max_ops);
     let viewer = desk.viewer().expect(rt, "a place is left");
     let mut viewer = assert_shows(rt, viewer, 0, 0);
     perform(rt, alloc, &mut session, lines.0);

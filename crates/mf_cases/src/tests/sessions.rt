@@ -7,9 +7,10 @@ ghost use Rattle.mf_live.specs.Writers.{ended_identity};
 ghost use Rattle.mf_text.specs.Registers.{IsName};
 
 use super::AMPLE;
+use super::session_ends::assert_shows;
 use crate::tests::assertions::assert_same;
 use mf_gf::GfFile;
-use mf_live::{Desk, Ended, Viewer};
+use mf_live::{Desk, Ended};
 use mf_session::Session;
 use mf_testing::{Script, worked_scripts};
 use mf_text::Name;
@@ -18,7 +19,7 @@ use std::process::Abort;
 use std::sync::Wait;
 
 /// Opens a session that accepts at most `max_ops` operations on `currentpicture`, with a desk of one place.
-pub(crate) fn opened<R: Abort + Wait>(rt: &R, alloc: Global, max_ops: u32) -> (Session, Desk)
+pub(crate) fn open<R: Abort + Wait>(rt: &R, alloc: Global, max_ops: u32) -> (Session, Desk)
     ensures start { StandsFor result.0 start }
     ensures identity { desk_identity result.1 ≡ identity result.0 }
 {
@@ -63,9 +64,9 @@ fn is_operation(line: &str, text: &[u8]) -> bool {
 }
 
 /// Asserts that the lines of a script print its transcript, and that the notice of its end tells of the accepted operations.
-fn assert_performs<R: Abort + Wait>(rt: &R, alloc: Global, script: &Script) {
+fn assert_performs_in_session<R: Abort + Wait>(rt: &R, alloc: Global, script: &Script) {
     let (script, transcript) = *script;
-    let (mut session, _) = opened(rt, alloc, AMPLE.max_ops);
+    let (mut session, _) = open(rt, alloc, AMPLE.max_ops);
     let mut printed = Vec::new(alloc);
     let mut operations: u32 = 0;
     for line in script.lines() {
@@ -87,12 +88,12 @@ fn assert_performs<R: Abort + Wait>(rt: &R, alloc: Global, script: &Script) {
 #[test]
 fn perform_scripts(rt: HostRuntime) {
     for script in worked_scripts().iter().copied().flatten() {
-        assert_performs(&rt, rt.alloc(), script);
+        assert_performs_in_session(&rt, rt.alloc(), script);
     }
 }
 
 /// Asserts that the line prints this text.
-fn assert_prints<R: Abort + Wait + AllocGlobal>(
+fn assert_line_prints<R: Abort + Wait + AllocGlobal>(
     rt: &R,
     session: &mut Session,
     line: &str,
@@ -110,13 +111,13 @@ fn assert_total(rt: &impl Abort, session: &Session, name: Name, total: i64)
 }
 
 /// Asserts that these lines print their texts.
-fn assert_all_print<R: Abort + Wait + AllocGlobal>(
+fn assert_lines_print<R: Abort + Wait + AllocGlobal>(
     rt: &R,
     session: &mut Session,
     lines: &[(&str, &str)],
 ) {
     for (line, text) in lines {
-        assert_prints(rt, session, line, text);
+        assert_line_prints(rt, session, line, text);
     }
 }
 
@@ -138,30 +139,13 @@ const LENDING: &[(&str, &str)] = &[
 
 #[test]
 fn lend_pictures(rt: HostRuntime) {
-    let (mut session, _) = opened(&rt, rt.alloc(), 2);
-    assert_all_print(&rt, &mut session, LENDING);
+    let (mut session, _) = open(&rt, rt.alloc(), 2);
+    assert_lines_print(&rt, &mut session, LENDING);
     assert_total(&rt, &session, Name::Current, 18);
     assert_total(&rt, &session, Name::Register(0), 0);
     assert_total(&rt, &session, Name::Register(24), 0);
     assert_total(&rt, &session, Name::Register(25), 12);
     session.discard(&rt);
-}
-
-/// Asserts that the viewer is shown `revision` operations, and a picture with this total weight.
-fn assert_sees(rt: &impl Abort, viewer: Viewer, revision: u32, total: i64) {
-    match viewer.look() {
-        Ok(look) => {
-            let seen = (look.revision(), look.picture().total());
-            assert_same(rt, seen, (revision, total), "a look");
-            drop(look);
-        }
-        Err(_) => panic!(rt; "the writer is there"),
-    }
-}
-
-/// A viewer that the desk hands out.
-fn seated(rt: &impl Abort, desk: &mut Desk) -> Viewer {
-    desk.viewer().expect(rt, "a place is left")
 }
 
 const FILLING: &[(&str, &str)] = &[
@@ -179,10 +163,10 @@ const FILLING: &[(&str, &str)] = &[
 /// The desk of a session hands out viewers of its `currentpicture`.
 #[test]
 fn have_viewers(rt: HostRuntime) {
-    let (mut session, mut desk) = opened(&rt, rt.alloc(), AMPLE.max_ops);
-    let viewer = seated(&rt, &mut desk);
-    assert_all_print(&rt, &mut session, FILLING);
-    assert_sees(&rt, viewer, 1, 6);
+    let (mut session, mut desk) = open(&rt, rt.alloc(), AMPLE.max_ops);
+    let viewer = desk.viewer().expect(&rt, "a place is left");
+    assert_lines_print(&rt, &mut session, FILLING);
+    assert_shows(&rt, viewer, 1, 6);
     assert_total(&rt, &session, Name::Current, 12);
     session.discard(&rt);
 }

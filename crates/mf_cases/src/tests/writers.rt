@@ -9,7 +9,7 @@ use std::process::Abort;
 use std::sync::Wait;
 
 /// Asserts that the writer took the first `count` bytes that the script prints, and that it was not called after its failure.
-fn assert_took(rt: &impl Abort, count: usize, taken: &[u8], calls_after: u32) {
+fn assert_writer_took(rt: &impl Abort, count: usize, taken: &[u8], calls_after: u32) {
     assert_same(rt, Some(taken), TWO_SIXES.get(..count), count);
     assert_same(rt, calls_after, 0, ("calls after", count));
 }
@@ -26,7 +26,7 @@ fn assert_fails_once<R: Abort + Wait + AllocGlobal>(
     let mut writer = FailsOnce::new(alloc, room);
     let result = run(rt, alloc, &mut Pieces::whole(TWICE), &mut writer, &AMPLE);
     assert_same(rt, result.err(), fault, room);
-    assert_took(rt, count, writer.taken(), writer.calls_after());
+    assert_writer_took(rt, count, writer.bytes(), writer.calls_after());
 }
 
 /// A write that fails, before a text or in the middle of one, is the last.
@@ -55,7 +55,7 @@ fn assert_flush_fails<R: Abort + Wait + AllocGlobal>(
     let result = run(rt, rt.alloc(), &mut reader, &mut writer, &AMPLE);
     let fault = RunFault::WriteFault(count as u128);
     assert_same(rt, result.err(), Some(fault), "a flush");
-    assert_took(rt, count, writer.taken(), writer.calls_after());
+    assert_writer_took(rt, count, writer.bytes(), writer.calls_after());
 }
 
 /// Asserts this where one flush fails after `good` others, and where all flushes after these fail.
@@ -81,7 +81,7 @@ fn failed_flush_is_a_fault(rt: HostRuntime) {
 }
 
 /// The number of bytes that are written once `read` bytes were read: the first line prints nothing, and the others 14 bytes each.
-fn written_after(read: usize) -> usize {
+fn bytes_after(read: usize) -> usize {
     let mut ended: usize = 0;
     for byte in TWICE.iter().take(read) {
         if *byte == b'\n' {
@@ -97,6 +97,6 @@ fn each_read_comes_after_a_flush(rt: HostRuntime) {
     for read in 0..=TWICE.len() {
         let writer = FlushFails::once(rt.alloc(), read as u32);
         let reader = Pieces::bytewise(TWICE);
-        assert_flush_fails(&rt, reader, writer, written_after(read));
+        assert_flush_fails(&rt, reader, writer, bytes_after(read));
     }
 }

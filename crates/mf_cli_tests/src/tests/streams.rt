@@ -6,7 +6,7 @@ use super::{End, USAGE, assert_ends, assert_ends_in, status_of};
 use crate::tests::assertions::assert_same;
 use mf_cli::program::{BAD_WORDS, DONE, STREAM_FAULT};
 use mf_testing::{FailsOnce, FlushFails, LineFeeds, Pieces, RECT_FILE, Remembers, Sink};
-use std::io::{self, Read};
+use std::io::Read;
 use std::process::Abort;
 use std::rt::Files;
 use std::sync::Wait;
@@ -41,7 +41,7 @@ const WRITE_FAULT: &[u8] = b"mfpic: WriteFault\n";
 const READ_FAULT: &[u8] = b"mfpic: ReadFault\n";
 
 /// The words that ask for `viewers` viewers and this font file.
-fn asking<'a>(viewers: &'a str, path: &'a str) -> [&'a str; 5] {
+fn words_for<'a>(viewers: &'a str, path: &'a str) -> [&'a str; 5] {
     ["mfpic", "--viewers", viewers, "--gf", path]
 }
 
@@ -58,7 +58,7 @@ fn assert_fails_once<R: Abort + Wait + Threads + Files + AllocGlobal>(
     let mut errors = Sink::new(alloc);
     let mut reader = Pieces::whole(SCRIPT);
     let status = status_of(rt, words, &mut reader, &mut writer, &mut errors);
-    let end: End<'_> = (status, writer.taken(), errors.taken());
+    let end: End<'_> = (status, writer.bytes(), errors.bytes());
     let front = texts.get(..room).unwrap_or(b"");
     assert_same(rt, end, (STREAM_FAULT, front, WRITE_FAULT), room);
     assert_same(rt, writer.calls_after(), 0, ("calls after", room));
@@ -72,7 +72,7 @@ fn assert_fails_anywhere<R: Abort + Wait + Threads + Files + AllocGlobal>(
     path: &str,
     texts: &[u8],
 ) {
-    let words = asking(viewers, path);
+    let words = words_for(viewers, path);
     put(rt, path, KEPT);
     for room in 0..texts.len() {
         assert_fails_once(rt, &words, texts, room);
@@ -127,7 +127,7 @@ fn assert_flush_fails<R: Abort + Wait + Threads + Files + AllocGlobal>(
     let mut errors = Sink::new(alloc);
     let mut reader = Remembers::new(Pieces::whole(script));
     let status = status_of(rt, words, &mut reader, &mut writer, &mut errors);
-    let end: End<'_> = (status, writer.taken(), errors.taken());
+    let end: End<'_> = (status, writer.bytes(), errors.bytes());
     assert_same(rt, end, (STREAM_FAULT, texts, WRITE_FAULT), (script, good));
     let later = (reader.reads(), writer.calls_after());
     assert_same(rt, later, (reads, 0), (script, good));
@@ -138,7 +138,7 @@ fn faults_of_flushes_are_reported(rt: HostRuntime) -> Result<(), Fail> {
     let path = path_of(&rt, "flush")?;
     put(&rt, path.as_str(), KEPT);
     for (viewers, script, good, texts, reads) in FLUSHES {
-        let words = asking(*viewers, path.as_str());
+        let words = words_for(*viewers, path.as_str());
         assert_flush_fails(&rt, &words, *script, *good, *texts, *reads);
     }
     assert_file(&rt, path.as_str(), KEPT);
@@ -161,7 +161,7 @@ fn a_piece_of_a_line_is_not_performed(rt: HostRuntime) -> Result<(), Fail> {
     let path = path_of(&rt, "reader")?;
     put(&rt, path.as_str(), KEPT);
     for viewers in ["0", "2"] {
-        let words = asking(viewers, path.as_str());
+        let words = words_for(viewers, path.as_str());
         let end: End<'_> = (STREAM_FAULT, ENDED, READ_FAULT);
         assert_ends(&rt, &words, Pieces::failing(UNENDED), end);
     }
@@ -170,25 +170,9 @@ fn a_piece_of_a_line_is_not_performed(rt: HostRuntime) -> Result<(), Fail> {
     Ok(())
 }
 
-/// A reader that gives the bytes of `first`, and then one line feed in each read.
-#[derive(Drop)]
-struct Prolonged<'a> {
-    first: Pieces<'a>,
-    rest: LineFeeds,
-}
-
-impl Read for Prolonged<'_> {
-    fn read(&mut self, buf: &mut [u8]) -> io::Result<usize> {
-        match self.first.read(buf)? {
-            0 => self.rest.read(buf),
-            count => Ok(count),
-        }
-    }
-}
-
 /// Asserts that a script of `reads` reads, the first of which gives the lines of `SCRIPT`, ends in this way and leaves this font
 /// file.
-fn assert_reads<R: Abort + Wait + Threads + Files + AllocGlobal>(
+fn assert_script_of_reads<R: Abort + Wait + Threads + Files + AllocGlobal>(
     rt: &R,
     path: &str,
     reads: u32,
@@ -196,17 +180,13 @@ fn assert_reads<R: Abort + Wait + Threads + Files + AllocGlobal>(
     file: &[u8],
 ) {
     let alloc = rt.alloc();
-    let mut reader = Prolonged {
-        first: Pieces::whole(SCRIPT),
-        rest: LineFeeds {
-            left: reads.saturating_sub(2),
-        },
-    };
+    let left = reads.saturating_sub(2);
+    let mut reader = Pieces::whole(SCRIPT).chain(LineFeeds { left });
     let mut writer = Sink::new(alloc);
     let mut errors = Sink::new(alloc);
     let words = ["mfpic", "--gf", path];
     let status = status_of(rt, &words, &mut reader, &mut writer, &mut errors);
-    assert_same(rt, (status, writer.taken(), errors.taken()), end, reads);
+    assert_same(rt, (status, writer.bytes(), errors.bytes()), end, reads);
     assert_file(rt, path, file);
 }
 
@@ -216,9 +196,9 @@ fn a_script_of_too_many_reads_writes_no_font_file(rt: HostRuntime) -> Result<(),
     let path = path_of(&rt, "reads")?;
     put(&rt, path.as_str(), KEPT);
     let end: End<'_> = (STREAM_FAULT, TEXTS, READ_FAULT);
-    assert_reads(&rt, path.as_str(), 1_048_577, end, KEPT);
+    assert_script_of_reads(&rt, path.as_str(), 1_048_577, end, KEPT);
     let end = (DONE, TEXTS, b"".as_slice());
-    assert_reads(&rt, path.as_str(), 1_048_576, end, RECT_FILE);
+    assert_script_of_reads(&rt, path.as_str(), 1_048_576, end, RECT_FILE);
     remove(&rt, path.as_str());
     Ok(())
 }
@@ -238,7 +218,7 @@ fn assert_breaks_message<R: Abort + Wait + Threads + Files + AllocGlobal>(
         let mut errors = FailsOnce::new(alloc, room);
         let found = status_of(rt, words, &mut reader, &mut writer, &mut errors);
         let front = message.get(..room).unwrap_or(b"");
-        let end = (found, errors.taken(), errors.calls_after());
+        let end = (found, errors.bytes(), errors.calls_after());
         assert_same(rt, end, (status, front, 0), room);
     }
 }
@@ -261,7 +241,7 @@ fn messages_are_written_in_pieces(rt: HostRuntime) {
     let status = status_of(&rt, &["mfpic"], &mut reader, &mut writer, &mut errors);
     assert_same(
         &rt,
-        (status, errors.taken()),
+        (status, errors.bytes()),
         (STREAM_FAULT, READ_FAULT),
         "in pieces",
     );

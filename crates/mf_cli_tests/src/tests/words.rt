@@ -1,24 +1,15 @@
 //! Tests of command lines: each form that is accepted, and each that is refused.
-use super::words_of;
 use crate::tests::assertions::assert_same;
 use mf_options::WordsFault;
+use mf_testing::{command_line, words_of};
 use mf_words::{Words, read_words};
-use std::alloc::{AllocError, Global};
+use std::alloc::Global;
 use std::process::Abort;
 use std::test::Fail;
 
-/// The program's name, and these words after it.
-pub(super) fn command_line(alloc: Global, texts: &[&str]) -> Result<Vec<String>, AllocError> {
-    let mut words = words_of(alloc, &["mfpic"])?;
-    for text in texts {
-        words.push(String::from_str(alloc, text)?)?;
-    }
-    Ok(words)
-}
-
 /// What the words after the program's name ask for.
 fn read(alloc: Global, texts: &[&str]) -> Result<Words, WordsFault> {
-    read_words(alloc, command_line(alloc, texts)?)
+    read_words(alloc, command_line(alloc, "mfpic", texts)?)
 }
 
 /// Asserts that the words ask for `viewers` viewers and this FILE.

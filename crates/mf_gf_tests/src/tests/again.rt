@@ -2,7 +2,7 @@
 
 use super::files::{Part, assert_bytes, assert_parts};
 use super::{
-    MAX_BYTES, RECT, assert_count, assert_length, finished, gf_file, picture, ship, ship_rectangle,
+    MAX_BYTES, RECT, assert_count, assert_length, finish, gf_file, picture, ship, ship_rectangle,
     with_rectangle,
 };
 use mf_gf::GfFile;
@@ -33,7 +33,7 @@ fn code_again(rt: HostRuntime) {
     let mut file = with_rectangle(&rt, alloc, MAX_BYTES);
     ship_rectangle(&rt, alloc, &mut file);
     assert_count(&rt, &file, 2);
-    assert_bytes(&rt, alloc, &finished(&rt, file), twice());
+    assert_bytes(&rt, alloc, &finish(&rt, file), twice());
 }
 
 /// The place of the third character, whose p is the place of the second one.
@@ -59,7 +59,7 @@ fn code_a_third_time(rt: HostRuntime) {
     ship_rectangle(&rt, alloc, &mut file);
     ship_rectangle(&rt, alloc, &mut file);
     assert_count(&rt, &file, 3);
-    assert_parts(&rt, &finished(&rt, file), third());
+    assert_parts(&rt, &finish(&rt, file), third());
 }
 
 /// The only locator of two characters has the numbers of the second one.
@@ -79,7 +79,7 @@ fn numbers_of_the_last(rt: HostRuntime) {
     let mut file = with_rectangle(&rt, alloc, MAX_BYTES);
     let rect = picture(&rt, alloc, RECT, 1);
     ship(&rt, &mut file, 65, (0, 1), &rect);
-    assert_parts(&rt, &finished(&rt, file), last_numbers());
+    assert_parts(&rt, &finish(&rt, file), last_numbers());
 }
 
 /// Thirty pixels of row 9, from column -7 on.
@@ -108,7 +108,7 @@ fn box_of_both(rt: HostRuntime) {
     let mut file = gf_file(&rt, alloc);
     ship(&rt, &mut file, 65, (0, 0), &picture(&rt, alloc, FAR, 1));
     ship(&rt, &mut file, 65, (0, 0), &picture(&rt, alloc, UNIT, 1));
-    assert_parts(&rt, &finished(&rt, file), parts_of_both());
+    assert_parts(&rt, &finish(&rt, file), parts_of_both());
 }
 
 /// Ships `count` characters without black pixels, all with the same code.
@@ -154,7 +154,7 @@ fn many() -> &'static [Part] {
 /// Asserts that a file has this number of characters, this length and these parts.
 fn assert_file(rt: &impl Abort, file: GfFile, count: u32, length: usize, parts: &[Part]) {
     assert_count(rt, &file, count);
-    let bytes = finished(rt, file);
+    let bytes = finish(rt, file);
     assert_length(rt, &bytes, length);
     assert_parts(rt, &bytes, parts);
 }

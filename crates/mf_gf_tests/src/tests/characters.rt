@@ -1,6 +1,6 @@
 //! The bytes of single characters.
 
-use super::{assert_part, finished, gf_file, picture, ship, weighted};
+use super::{assert_part, finish, gf_file, picture, picture_of_runs, ship};
 use crate::tests::assertions::assert_same;
 use std::alloc::Global;
 use std::process::Abort;
@@ -193,7 +193,7 @@ fn assert_character(rt: &impl Abort, alloc: Global, case: &Case) {
     let black = picture(rt, alloc, case.black, 1);
     let shipped = file.ship(case.code, 0, 0, &black);
     assert_same(rt, shipped, Ok(()), case.about);
-    let file = finished(rt, file);
+    let file = finish(rt, file);
     assert_part(rt, &file, PREAMBLE, case.bytes, case.about);
     let end = PREAMBLE.saturating_add(case.bytes.len());
     assert_part(rt, &file, end, b"\xf8", case.about);
@@ -231,8 +231,14 @@ const RUNS: &[(i32, i32, u32, i32)] = &[
 fn weights(rt: HostRuntime) {
     let alloc = rt.alloc();
     let mut file = gf_file(&rt, alloc);
-    ship(&rt, &mut file, 9, (0, 0), &weighted(&rt, alloc, RUNS));
+    ship(
+        &rt,
+        &mut file,
+        9,
+        (0, 0),
+        &picture_of_runs(&rt, alloc, RUNS),
+    );
     // Columns 0 to 2 and 4 to 5 of row 2, then a blank row, then column 6 of row 0.
     let bytes = b"\x44\x09\x07\x07\x02\x02\x00\x03\x01\x02\x47\x01\x06\x01\x45";
-    assert_part(&rt, &finished(&rt, file), PREAMBLE, bytes, "weights");
+    assert_part(&rt, &finish(&rt, file), PREAMBLE, bytes, "weights");
 }

@@ -1,7 +1,7 @@
 //! The bytes of complete files.
 
 use super::{
-    MAX_BYTES, RECT, assert_count, assert_length, assert_part, finished, finished_with, gf_file,
+    MAX_BYTES, RECT, assert_count, assert_length, assert_part, finish, finish_with, gf_file,
     picture, ship, with_rectangle,
 };
 use crate::tests::assertions::assert_same;
@@ -43,7 +43,7 @@ fn one_character(rt: HostRuntime) {
     let alloc = rt.alloc();
     let file = with_rectangle(&rt, alloc, MAX_BYTES);
     assert_count(&rt, &file, 1);
-    assert_bytes(&rt, alloc, &finished(&rt, file), one());
+    assert_bytes(&rt, alloc, &finish(&rt, file), one());
 }
 
 /// A font with a comment and one character.
@@ -99,7 +99,7 @@ fn long_fields(rt: HostRuntime) {
     let mut file = gf_file(&rt, alloc);
     let gaps = picture(&rt, alloc, GAPS, 1);
     ship(&rt, &mut file, 66, (100_000, 1_048_576), &gaps);
-    assert_bytes(&rt, alloc, &finished(&rt, file), long());
+    assert_bytes(&rt, alloc, &finish(&rt, file), long());
 }
 
 /// A part of a file: the place of its first byte, its bytes, and what they are.
@@ -147,9 +147,41 @@ fn two_characters(rt: HostRuntime) {
     ship(&rt, &mut file, 66, (0, 0), &unit);
     ship(&rt, &mut file, 65, (0, 0), &unit);
     assert_count(&rt, &file, 2);
-    let file = finished(&rt, file);
+    let file = finish(&rt, file);
     assert_length(&rt, &file, 92);
     assert_parts(&rt, &file, two());
+}
+
+/// Parts of a file of columns 7 and 8 of row 5, and of a character without black pixels. The box of the postamble is around both, and
+/// the numbers of the second box are all 0.
+const BESIDE_BLANK: &[Part] = &[
+    (3, b"\x44\x01\x02\x09\x00\x05\x00\x02\x45", "the pixels"),
+    (12, b"\x44\x02\x00\x00\x00\x00\x45", "no pixels"),
+    (19, b"\xf8\x00\x00\x00\x13", "the postamble"),
+    (
+        40,
+        b"\x00\x00\x00\x00\x00\x00\x00\x09\x00\x00\x00\x00\x00\x00\x00\x05",
+        "the box",
+    ),
+];
+
+fn beside_blank() -> &'static [Part] {
+    BESIDE_BLANK
+}
+
+#[test]
+fn box_of_a_blank_character(rt: HostRuntime) {
+    let alloc = rt.alloc();
+    let mut file = gf_file(&rt, alloc);
+    ship(
+        &rt,
+        &mut file,
+        1,
+        (0, 0),
+        &picture(&rt, alloc, &[(5, 7, 2)], 1),
+    );
+    ship(&rt, &mut file, 2, (0, 0), &picture(&rt, alloc, &[], 1));
+    assert_parts(&rt, &finish(&rt, file), beside_blank());
 }
 
 /// Numbers of a font. No two have the same bytes, and all but `ds` are at the ends of their ranges.
@@ -200,7 +232,7 @@ pub(crate) fn corners_file(rt: &impl Abort, alloc: Global) -> GfFile {
 fn comment_and_words(rt: HostRuntime) {
     let alloc = rt.alloc();
     let file = corners_file(&rt, alloc);
-    assert_bytes(&rt, alloc, &finished_with(&rt, file, WORDS), corners());
+    assert_bytes(&rt, alloc, &finish_with(&rt, file, WORDS), corners());
 }
 
 /// Asserts that the locator of a character with this escapement, the only one of its file, begins with these bytes.
@@ -211,7 +243,7 @@ fn assert_locator(rt: &impl Abort, alloc: Global, dx: i32, locator: &[u8]) {
     let bytes = parts
         .concat(alloc)
         .expect(rt, "there is room for the bytes");
-    assert_part(rt, &finished(rt, file), 49, &bytes, ("dx", dx));
+    assert_part(rt, &finish(rt, file), 49, &bytes, ("dx", dx));
 }
 
 /// Escapements of a whole number of pixels up to 255 have a short locator.
@@ -261,7 +293,7 @@ fn whole_field(rt: HostRuntime) {
     let alloc = rt.alloc();
     let mut file = gf_file(&rt, alloc);
     ship(&rt, &mut file, 97, (0, 0), &field(&rt, alloc));
-    let file = finished(&rt, file);
+    let file = finish(&rt, file);
     // Each of the 8,190 rows takes one byte to begin it and three to paint it. boc takes 25 bytes, and eoc one.
     assert_length(&rt, &file, 32_848);
     assert_part(&rt, &file, 32_789, b"\xf8", "the postamble");

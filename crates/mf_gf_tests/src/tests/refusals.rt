@@ -1,7 +1,7 @@
 //! Files and characters that are refused, and what is left after that.
 
 use super::{
-    NO_WORDS, RECT, assert_count, assert_length, finished, part, picture, ship, ship_rectangle,
+    NO_WORDS, RECT, assert_count, assert_length, finish, part, picture, ship, ship_rectangle,
     short_file, with_rectangle,
 };
 use crate::tests::assertions::assert_same;
@@ -54,7 +54,7 @@ fn assert_refused(
 
 /// Asserts that two files can be finished and then have the same bytes.
 fn assert_same_files(rt: &impl Abort, file: GfFile, other: GfFile) {
-    let (file, other) = (finished(rt, file), finished(rt, other));
+    let (file, other) = (finish(rt, file), finish(rt, other));
     assert_same(rt, file.bytes(), other.bytes(), "the file");
 }
 
@@ -73,7 +73,7 @@ fn code_that_was_shipped(rt: HostRuntime) {
 }
 
 /// Asserts that finishing the file is refused with this fault, and returns the file.
-pub(crate) fn unfinished(rt: &impl Abort, file: GfFile, fault: GfFault) -> GfFile {
+pub(crate) fn assert_end_refused(rt: &impl Abort, file: GfFile, fault: GfFault) -> GfFile {
     match file.finish(NO_WORDS) {
         Ok(_) => panic!(rt; "the file is finished"),
         Err((file, found)) => {
@@ -87,9 +87,9 @@ pub(crate) fn unfinished(rt: &impl Abort, file: GfFile, fault: GfFault) -> GfFil
 fn no_characters(rt: HostRuntime) {
     let alloc = rt.alloc();
     let file = short_file(&rt, alloc, 72);
-    let mut file = unfinished(&rt, file, GfFault::NoCharacters);
+    let mut file = assert_end_refused(&rt, file, GfFault::NoCharacters);
     ship(&rt, &mut file, 65, (0, 0), &picture(&rt, alloc, RECT, 1));
-    assert_length(&rt, &finished(&rt, file), 72);
+    assert_length(&rt, &finish(&rt, file), 72);
 }
 
 /// `NoCharacters` comes before `FileTooLong`.
@@ -98,7 +98,7 @@ fn no_characters_before_length(rt: HostRuntime) {
     let alloc = rt.alloc();
     let rect = picture(&rt, alloc, RECT, 1);
     let file = short_file(&rt, alloc, 3);
-    let mut file = unfinished(&rt, file, GfFault::NoCharacters);
+    let mut file = assert_end_refused(&rt, file, GfFault::NoCharacters);
     assert_count(&rt, &file, 0);
     assert_refused(&rt, &mut file, 65, (0, 0), &rect, GfFault::FileTooLong);
 }
@@ -158,18 +158,18 @@ fn lengths(rt: HostRuntime) {
     with_rectangle(&rt, alloc, 14);
 
     let file = with_rectangle(&rt, alloc, 71);
-    let file = unfinished(&rt, file, GfFault::FileTooLong);
+    let file = assert_end_refused(&rt, file, GfFault::FileTooLong);
     assert_count(&rt, &file, 1);
 
     let file = with_rectangle(&rt, alloc, 72);
-    assert_length(&rt, &finished(&rt, file), 72);
+    assert_length(&rt, &finish(&rt, file), 72);
 }
 
 /// A limit beyond the greatest number of the format is accepted.
 #[test]
-fn greatest_limit(rt: HostRuntime) {
+fn limit_beyond_the_greatest_number(rt: HostRuntime) {
     let alloc = rt.alloc();
     let mut file = short_file(&rt, alloc, u32::MAX);
     ship(&rt, &mut file, 65, (0, 0), &picture(&rt, alloc, RECT, 1));
-    assert_length(&rt, &finished(&rt, file), 72);
+    assert_length(&rt, &finish(&rt, file), 72);
 }

@@ -1,11 +1,11 @@
 //! Files that are written to writers.
 
-use super::{MAX_BYTES, finished, gf_file, part, picture, ship, with_rectangle};
+use super::{MAX_BYTES, finish, gf_file, part, picture, ship, with_rectangle};
 use crate::tests::assertions::assert_same;
 use mf_gf::{GfBytes, WriteFault};
-use mf_testing::Sink;
+use mf_testing::{FailsOnce, Failure, Sink};
 use std::alloc::Global;
-use std::io::{self, ErrorKind, Write};
+use std::io::ErrorKind;
 use std::process::Abort;
 
 /// Asserts that writing the file into memory gives its bytes.
@@ -27,7 +27,7 @@ fn assert_cut(rt: &impl Abort, file: &GfBytes, writer: Sink, room: usize) {
     );
     assert_same(
         rt,
-        writer.taken(),
+        writer.bytes(),
         part(rt, file.bytes(), 0, room),
         ("room for", room),
     );
@@ -55,9 +55,9 @@ fn assert_cuts(rt: &impl Abort, alloc: Global, file: &GfBytes, at_once: usize) {
 }
 
 #[test]
-fn written(rt: HostRuntime) {
+fn files_are_written(rt: HostRuntime) {
     let alloc = rt.alloc();
-    let file = finished(&rt, with_rectangle(&rt, alloc, MAX_BYTES));
+    let file = finish(&rt, with_rectangle(&rt, alloc, MAX_BYTES));
     assert_written_to_memory(&rt, alloc, &file);
     assert_cuts(&rt, alloc, &file, 1);
     assert_cuts(&rt, alloc, &file, 7);
@@ -68,11 +68,11 @@ fn written(rt: HostRuntime) {
 fn assert_whole(rt: &impl Abort, alloc: Global, file: &GfBytes, at_once: usize) {
     let mut writer = Sink::failing(alloc, file.bytes().len()).in_pieces(at_once);
     assert_same(rt, file.write_to(&mut writer), Ok(()), ("at once", at_once));
-    assert_same(rt, writer.taken(), file.bytes(), ("at once", at_once));
+    assert_same(rt, writer.bytes(), file.bytes(), ("at once", at_once));
 }
 
 #[test]
-fn written_in_parts(rt: HostRuntime) {
+fn files_are_written_in_parts(rt: HostRuntime) {
     let alloc = rt.alloc();
     let mut file = gf_file(&rt, alloc);
     ship(
@@ -82,51 +82,9 @@ fn written_in_parts(rt: HostRuntime) {
         (327_680, 0),
         &picture(&rt, alloc, &[(1, 0, 3)], 1),
     );
-    let file = finished(&rt, file);
+    let file = finish(&rt, file);
     assert_whole(&rt, alloc, &file, 1);
     assert_whole(&rt, alloc, &file, 7);
-}
-
-/// How a write fails.
-#[derive(Clone, Copy, Debug)]
-enum Failure {
-    /// The writer fails with an error of this kind.
-    Error(ErrorKind),
-    /// The writer takes no byte.
-    NoByte,
-}
-
-/// A writer that fails in one write, and takes all bytes in the writes before and after it.
-#[derive(Drop)]
-struct FailingOnce {
-    taken: Vec<u8>,
-    /// The greatest number of bytes that it takes in one write.
-    size: usize,
-    /// The number of writes before the one that fails.
-    before: usize,
-    failure: Failure,
-    /// The number of writes so far.
-    writes: usize,
-}
-
-impl Write for FailingOnce {
-    fn write(&mut self, buf: &[u8]) -> io::Result<usize> {
-        let before = self.writes;
-        self.writes = before.saturating_add(1);
-        if before == self.before {
-            return match self.failure {
-                Failure::Error(kind) => Err(io::Error::from(kind)),
-                Failure::NoByte => Ok(0),
-            };
-        }
-        let count = self.size.min(buf.len());
-        self.taken.extend_from_slice(&buf[..count])?;
-        Ok(count)
-    }
-
-    fn flush(&mut self) -> io::Result<()> {
-        Ok(())
-    }
 }
 
 /// Asserts that a writer that fails after `before` writes, each of at most `size` bytes, has taken the bytes of these writes and
@@ -138,25 +96,19 @@ fn assert_asked_no_more(
     (before, size): (usize, usize),
     failure: Failure,
 ) {
-    let mut writer = FailingOnce {
-        taken: Vec::new(alloc),
-        size,
-        before,
-        failure,
-        writes: 0,
-    };
     let sent = before.saturating_mul(size);
+    let sink = Sink::new(alloc).in_pieces(size);
+    let mut writer = FailsOnce::over(sink, sent, failure);
     let written = file.write_to(&mut writer);
     let fault = WriteFault(sent as u128);
     assert_same(rt, written, Err(fault), (failure, "after", sent));
-    let taken = writer.taken.as_slice();
-    assert_same(rt, taken, part(rt, file.bytes(), 0, sent), failure);
-    assert_same(rt, writer.writes, before.saturating_add(1), "writes");
+    assert_same(rt, writer.bytes(), part(rt, file.bytes(), 0, sent), failure);
+    assert_same(rt, writer.calls_after(), 0, "calls after the failure");
 }
 
 /// The file of the rectangle, 72 bytes.
 fn rectangle_bytes(rt: &impl Abort, alloc: Global) -> GfBytes {
-    finished(rt, with_rectangle(rt, alloc, MAX_BYTES))
+    finish(rt, with_rectangle(rt, alloc, MAX_BYTES))
 }
 
 #[test]

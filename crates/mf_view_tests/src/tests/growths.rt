@@ -5,7 +5,7 @@ use super::paces::Held;
 use mf_easel::{Easel, EaselFault};
 use mf_frame::{Canvas, Style};
 use mf_live::Desk;
-use mf_stage::{Plates, Stage, StageFault};
+use mf_stage::{Plates, Publication, Stage, StageFault};
 use mf_testing::{Pieces, Sink, grow_again, refuse_growths};
 use std::alloc::Global;
 use std::process::Abort;
@@ -44,7 +44,7 @@ fn a_look_is_drawn(rt: HostRuntime) {
     let viewer = desk.viewer().expect(&rt, "there is a place");
     let canvas = Canvas::new(50, 6).expect(&rt, "the terminal is large enough");
     let mut easel = Easel::new(viewer, canvas, Style::Plain);
-    let mut screen = Sink::reserved(alloc, 1000).expect(&rt, "there is room for a frame");
+    let mut screen = Sink::with_capacity(alloc, 1000).expect(&rt, "there is room for a frame");
     refuse_growths(alloc);
     let looked = easel.look(alloc, &mut screen);
     grow_again(alloc);
@@ -52,44 +52,63 @@ fn a_look_is_drawn(rt: HostRuntime) {
         Ok(looked) => looked,
         Err(fault) => {
             assert_same(&rt, fault, EaselFault::OutOfMemory, "the refusal");
-            assert_same(&rt, screen.taken().len(), 0, "nothing is drawn");
+            assert_same(&rt, screen.bytes().len(), 0, "nothing is drawn");
             easel
                 .look(alloc, &mut screen)
                 .expect(&rt, "there is room to look")
         }
     };
     assert_same(&rt, looked, Some(1), "the revision");
-    assert_same(&rt, screen.taken(), FRAME.as_bytes(), "the frame");
+    assert_same(&rt, screen.bytes(), FRAME.as_bytes(), "the frame");
     stage.discard(&rt);
 }
 
-/// A line that runs out of memory prints its text or nothing, and ends the script; with ample memory its plate has its path.
+/// Asserts that revision 1 was published, and that its plate has a path in the folder `plates`.
+fn assert_plate(rt: &impl Abort, published: Option<Publication>) {
+    let published = published.expect(rt, "something is published");
+    assert_same(rt, published.revision, 1, "the revision");
+    let path = published.plate.map(|plate| plate.svg.path);
+    let name = path.expect(rt, "there is a plate");
+    assert_same(rt, name.as_str(), "plates/0000001.svg", "the path");
+}
+
+/// A line that runs out of memory prints its text or nothing; with ample memory its plate has its path.
 #[test]
 fn a_publish_has_a_plate(rt: HostRuntime) {
     let alloc = rt.alloc();
     let folder = String::from_str(alloc, "plates").expect(&rt, "there is room for a name");
     let (mut stage, _) = stage_and_desk(&rt, alloc, Some(Plates { folder, pgm: true }));
-    let mut transcript = Sink::reserved(alloc, 1000).expect(&rt, "there is room for a text");
+    let mut transcript = Sink::with_capacity(alloc, 1000).expect(&rt, "there is room for a text");
     refuse_growths(alloc);
     let answered = stage.answer(&rt, alloc, b"publish", &mut transcript);
     grow_again(alloc);
+    let text: &[u8] = b"published 1\n";
     match answered {
-        Ok(Some(made)) => {
-            assert_same(&rt, made.revision, 1, "the revision");
-            let path = made.plate.map(|plate| plate.svg.path);
-            let name = path.expect(&rt, "there is a plate");
-            assert_same(&rt, name.as_str(), "plates/0000001.svg", "the path");
-            assert_same(
-                &rt,
-                transcript.taken(),
-                b"published 1\n".as_slice(),
-                "the text",
-            );
+        Ok(published) => {
+            assert_plate(&rt, published);
+            assert_same(&rt, transcript.bytes(), text, "the text");
         }
-        Ok(None) => assert_same(&rt, false, true, "something is published"),
-        Err(fault) => assert_same(&rt, fault, StageFault::OutOfMemory, "the refusal"),
+        Err(fault) => {
+            assert_same(&rt, fault, StageFault::OutOfMemory, "the refusal");
+            let is_whole = transcript.bytes().is_empty() || transcript.bytes() == text;
+            assert_same(&rt, is_whole, true, "a whole text");
+            let again = stage.answer(&rt, alloc, b"publish", &mut transcript);
+            assert_plate(&rt, again.expect(&rt, "memory is ample"));
+        }
     }
     stage.discard(&rt);
+}
+
+/// Asserts that nothing was performed on a stage, and that its desk has one place.
+fn assert_new<R: Abort + Wait>(rt: &R, alloc: Global, (stage, desk): (Stage, Desk)) {
+    let (mut stage, mut desk) = (stage, desk);
+    let mut transcript = Sink::new(alloc);
+    let answered = stage.answer(rt, alloc, b"show currentpicture", &mut transcript);
+    assert_same(rt, answered.is_ok(), true, "answered");
+    assert_same(rt, transcript.bytes(), b"blank\n".as_slice(), "the picture");
+    let places = (desk.viewer().is_ok(), desk.viewer().is_ok());
+    assert_same(rt, places, (true, false), "places");
+    stage.discard(rt);
 }
 
 /// A stage that cannot be made has no desk; with ample memory it is made.
@@ -99,14 +118,14 @@ fn a_stage_is_made(rt: HostRuntime) {
     refuse_growths(alloc);
     let made = Stage::new(&rt, alloc, MAX_OPS, MAX_BYTES, None);
     grow_again(alloc);
-    match made {
-        Ok((stage, _)) => stage.discard(&rt),
+    let made = match made {
+        Ok(made) => made,
         Err(fault) => {
             assert_same(&rt, fault, StageFault::OutOfMemory, "the refusal");
-            let (stage, _) = stage_and_desk(&rt, alloc, None);
-            stage.discard(&rt);
+            Stage::new(&rt, alloc, MAX_OPS, MAX_BYTES, None).expect(&rt, "memory is ample")
         }
-    }
+    };
+    assert_new(&rt, alloc, made);
 }
 
 /// A script that runs out of memory has printed the texts of its first lines, each whole; with ample memory all of them.
@@ -114,7 +133,7 @@ fn a_stage_is_made(rt: HostRuntime) {
 fn a_script_is_performed(rt: HostRuntime) {
     let alloc = rt.alloc();
     let (mut stage, _) = stage_and_desk(&rt, alloc, None);
-    let mut transcript = Sink::reserved(alloc, 1000).expect(&rt, "there is room for a text");
+    let mut transcript = Sink::with_capacity(alloc, 1000).expect(&rt, "there is room for a text");
     refuse_growths(alloc);
     let performed = stage.perform(
         &rt,
@@ -124,7 +143,7 @@ fn a_script_is_performed(rt: HostRuntime) {
         &Held::new(),
     );
     grow_again(alloc);
-    let told = transcript.taken();
+    let told = transcript.bytes();
     match performed {
         Ok(()) => assert_same(
             &rt,
@@ -152,8 +171,9 @@ fn a_stage_is_finished(rt: HostRuntime) {
     let finished = stage.finish(&rt, alloc);
     grow_again(alloc);
     match finished {
-        Ok((ended, file)) => {
+        Ok((mut ended, file)) => {
             assert_same(&rt, file.count(), 0, "the characters");
+            assert_same(&rt, ended.notice().revision(), 1, "the notice");
             ended.discard(&rt);
         }
         Err(fault) => assert_same(&rt, fault, StageFault::OutOfMemory, "the refusal"),

@@ -1,11 +1,11 @@
 //! Messages: the text and the status of each fault, which of two faults is told, and a stream of messages that fails.
 use super::assertions::assert_same;
-use mf_testing::{FailsOnce, Pieces, Sink};
+use mf_testing::{FailsOnce, Pieces, Sink, words_of};
 use mf_view::ProgramFault;
 use mf_view::program::{
     BAD_WORDS, STREAM_FAULT, TOO_SMALL, WANTING, program, refuse_words, report,
 };
-use std::alloc::{AllocError, Global};
+use std::alloc::Global;
 use std::io::Write;
 use std::process::Abort;
 use std::rt::Files;
@@ -75,12 +75,12 @@ fn assert_breaks_off(
         let mut errors = FailsOnce::new(alloc, room);
         let found = report(&mut errors, fault);
         let front = message.as_bytes().get(..room).unwrap_or(b"");
-        assert_same(rt, (found, errors.taken()), (status, front), message);
+        assert_same(rt, (found, errors.bytes()), (status, front), message);
         assert_same(rt, errors.calls_after(), 0, "calls after the fault");
     }
     let mut errors = Sink::bytewise(alloc);
     assert_same(rt, report(&mut errors, fault), status, message);
-    assert_same(rt, errors.taken(), message.as_bytes(), "in pieces");
+    assert_same(rt, errors.bytes(), message.as_bytes(), "in pieces");
 }
 
 #[test]
@@ -96,7 +96,7 @@ fn the_usage_breaks_off(rt: HostRuntime) {
         let mut errors = FailsOnce::new(rt.alloc(), room);
         let found = refuse_words(&mut errors);
         let front = USAGE.get(..room).unwrap_or(b"");
-        let end = (found, errors.taken(), errors.calls_after());
+        let end = (found, errors.bytes(), errors.calls_after());
         assert_same(&rt, end, (BAD_WORDS, front, 0), room);
     }
 }
@@ -105,15 +105,6 @@ fn the_usage_breaks_off(rt: HostRuntime) {
 const SCRIPT: &[u8] = b"show totalweight a\npublish\nshow totalweight b\n";
 
 const TOLD: &[u8] = b"totalweight 0\npublished 0\ntotalweight 0\n";
-
-/// The words of a command line.
-fn words_of(alloc: Global, texts: &[&str]) -> Result<Vec<String>, AllocError> {
-    let mut words = Vec::new(alloc);
-    for text in texts {
-        words.push(String::from_str(alloc, text)?)?;
-    }
-    Ok(words)
-}
 
 /// Runs the program with these words, and returns its exit status.
 fn status_of<S: Abort + Wait + Threads + Files + Clock + Sync, W: Write + Send, E: Write>(
@@ -143,8 +134,8 @@ fn the_fault_of_the_script_is_told_before_that_of_the_screen(rt: HostRuntime) {
         &mut errors,
     );
     let told: &[u8] = b"totalweight 0\npublished 0\ntotalweight 0\nmfview: ReadFault\n";
-    assert_same(&rt, (status, errors.taken()), (STREAM_FAULT, told), "told");
-    assert_same(&rt, screen.taken(), b"revision 0".as_slice(), "drawn");
+    assert_same(&rt, (status, errors.bytes()), (STREAM_FAULT, told), "told");
+    assert_same(&rt, screen.bytes(), b"revision 0".as_slice(), "drawn");
 }
 
 /// A room for bytes of the transcript, and what is told where the stream of messages fails once after that.
@@ -172,7 +163,7 @@ fn a_transcript_that_is_cut_is_told(rt: HostRuntime) {
             &mut screen,
             &mut errors,
         );
-        assert_same(&rt, (status, errors.taken()), (STREAM_FAULT, told), room);
+        assert_same(&rt, (status, errors.bytes()), (STREAM_FAULT, told), room);
     }
 }
 
@@ -189,7 +180,7 @@ fn assert_keeps<S: Abort + Wait + Threads + Files + Clock + Sync>(
     let (mut screen, mut errors) = (Sink::new(alloc), Sink::failing(alloc, room));
     let reader = Pieces::failing(SCRIPT);
     let found = status_of(rt, alloc, texts, reader, &mut screen, &mut errors);
-    assert_same(rt, (found, errors.taken()), (status, told), texts);
+    assert_same(rt, (found, errors.bytes()), (status, told), texts);
 }
 
 /// A message that cannot be written does not change the exit status.

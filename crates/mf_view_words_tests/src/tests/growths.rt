@@ -1,11 +1,9 @@
 //! Words that are read while allocations are refused.
 
 use crate::tests::assertions::assert_same;
-use crate::tests::words::{
-    ALL, ALL_WORDS, Asked, assert_asks, assert_refused, assert_shows, command_line,
-};
+use crate::tests::words::{ALL, ALL_WORDS, Asked, assert_asks, assert_refused, assert_shows};
 use mf_options::WordsFault;
-use mf_testing::{grow_again, refuse_growths};
+use mf_testing::{command_line, grow_again, refuse_growths};
 use mf_view_words::{Request, read_words};
 use std::process::Abort;
 
@@ -15,7 +13,7 @@ fn read_while_refused<R: Abort + AllocGlobal>(
     texts: &[&str],
 ) -> Result<Request, WordsFault> {
     let alloc = rt.alloc();
-    let words = command_line(alloc, texts).expect(rt, "there is room for the words");
+    let words = command_line(alloc, "mfview", texts).expect(rt, "there is room for the words");
     refuse_growths(alloc);
     let asked = read_words(alloc, words);
     grow_again(alloc);

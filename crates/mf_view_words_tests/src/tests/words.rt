@@ -2,23 +2,14 @@
 
 use crate::tests::assertions::{assert_holds, assert_same};
 use mf_options::WordsFault;
+use mf_testing::command_line;
 use mf_view_words::{HELP, Request, Words, read_words};
-use std::alloc::{AllocError, Global};
+use std::alloc::Global;
 use std::process::Abort;
-
-/// The program's name, and these words after it.
-pub(super) fn command_line(alloc: Global, texts: &[&str]) -> Result<Vec<String>, AllocError> {
-    let mut words = Vec::new(alloc);
-    words.push(String::from_str(alloc, "mfview")?)?;
-    for text in texts {
-        words.push(String::from_str(alloc, text)?)?;
-    }
-    Ok(words)
-}
 
 /// What the words after the program's name ask for.
 fn read(alloc: Global, texts: &[&str]) -> Result<Request, WordsFault> {
-    read_words(alloc, command_line(alloc, texts)?)
+    read_words(alloc, command_line(alloc, "mfview", texts)?)
 }
 
 /// The values that words ask for, apart from the files: the columns, the rows, the pause, the design size and the resolution, and

@@ -1,7 +1,7 @@
 //! Looks after the end of a script, and after a fault that has ended its picture.
 
 use super::flags::{Count, Flag, ReadsAfter, TURNS, TellsOfEnd};
-use super::outcomes::{assert_saw, outcome_of, shared};
+use super::outcomes::{assert_saw, outcome_of, share};
 use super::{AMPLE, BLANK, FILLED, SIX};
 use crate::tests::assertions::{assert_holds, assert_same};
 use mf_desk::{RunFault, perform};
@@ -48,7 +48,7 @@ fn looks_after_the_end_show_the_last_picture(rt: HostRuntime) {
         ended: Flag::new(),
         seen: Flag::new(),
     };
-    let gate = shared(&rt, outlasts);
+    let gate = share(&rt, outlasts);
     let mut reader = TellsOfEnd {
         flag: &gate.ended,
         reader: ReadsAfter {
@@ -92,7 +92,7 @@ fn threads_end_after_a_fault(rt: HostRuntime) {
         held: Flag::new(),
         failed: Flag::new(),
     };
-    let gate = shared(&rt, outlasts);
+    let gate = share(&rt, outlasts);
     let mut reader = TellsOfEnd {
         flag: &gate.failed,
         reader: ReadsAfter {
@@ -112,7 +112,7 @@ fn threads_end_after_a_fault(rt: HostRuntime) {
         &gate,
     );
     assert_same(&rt, result.err(), Some(RunFault::ReadFault), "the fault");
-    assert_same(&rt, writer.taken(), b"", "what is written");
+    assert_same(&rt, writer.bytes(), b"", "what is written");
     assert_same(&rt, Arc::strong_count(&gate), 1, "owners of the gate");
     assert_holds(&rt, gate.looks.get() < MANY as u64, "a look is refused");
 }

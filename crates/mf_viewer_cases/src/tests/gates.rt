@@ -1,7 +1,7 @@
 //! Viewers that wait while they hold a look.
 
 use super::flags::{Count, Flag, ReadsAfter, TURNS, WaitsForText};
-use super::outcomes::{assert_saw, outcome_of, outcome_telling, shared};
+use super::outcomes::{assert_saw, outcome_of, outcome_telling, share};
 use super::{BLANK, PUBLISHED, PUBLISHED_TEXT, SIX};
 use crate::tests::assertions::{assert_holds, assert_same};
 use mf_testing::Pieces;
@@ -35,7 +35,7 @@ impl Gate for SetsFlag {
 
 #[test]
 fn looks_before_the_first_read(rt: HostRuntime) {
-    let gate = shared(&rt, SetsFlag { held: Flag::new() });
+    let gate = share(&rt, SetsFlag { held: Flag::new() });
     let mut reader = ReadsAfter {
         flag: &gate.held,
         pieces: Pieces::whole(PUBLISHED.as_bytes()),
@@ -72,7 +72,7 @@ fn looks_show_what_was_published(rt: HostRuntime) {
     let waits = WaitsAWhile {
         printed: Flag::new(),
     };
-    let gate = shared(&rt, waits);
+    let gate = share(&rt, waits);
     let outcome = outcome_telling(
         &rt,
         &gate,
@@ -91,7 +91,7 @@ fn looks_show_what_was_published(rt: HostRuntime) {
 /// Only a publish waits for a look. The lines before it are performed while a look is held.
 #[test]
 fn lines_are_performed_while_a_look_is_held(rt: HostRuntime) {
-    let gate = shared(&rt, WaitsForText::new());
+    let gate = share(&rt, WaitsForText::new());
     let mut reader = ReadsAfter {
         flag: &gate.held,
         pieces: Pieces::whole(SHOWN),
@@ -135,7 +135,7 @@ fn second_publish_waits_for_a_held_look(rt: HostRuntime) {
         published: Flag::new(),
         seen: Flag::new(),
     };
-    let gate = shared(&rt, holds);
+    let gate = share(&rt, holds);
     let mut reader = ReadsAfter {
         flag: &gate.held,
         pieces: Pieces::whole(PUBLISHED_TWICE),
@@ -194,7 +194,7 @@ fn records_are_in_the_order_of_the_viewers(rt: HostRuntime) {
         printed: Flag::new(),
         missed: Flag::new(),
     };
-    let gate = shared(&rt, turns);
+    let gate = share(&rt, turns);
     let mut reader = ReadsAfter {
         flag: &gate.held,
         pieces: Pieces::whole(PUBLISHED.as_bytes()),

@@ -4,7 +4,9 @@ ghost use Rattle.std.specs.Prelude.{◌≤◌};
 use super::{AMPLE, BLANK, SIX};
 use crate::tests::assertions::{assert_holds, assert_same};
 use mf_desk::{Outcome, RunFault, perform};
-use mf_testing::{Pieces, RECT, RECT_FILE, Remembers, Sink, grow_again, refuse_growths};
+use mf_testing::{
+    Pieces, RECT, RECT_FILE, Remembers, Sink, count_of_texts, grow_again, refuse_growths,
+};
 use mf_watch::{Glance, OpenGate};
 use std::process::Abort;
 use std::sync::{Arc, Wait};
@@ -90,20 +92,6 @@ const EMPTY_BESIDE_FOUR: &Case = &Case {
     file: None,
 };
 
-/// The number of first texts that the bytes consist of, or `None` if they are not a number of complete texts.
-fn count_of_texts(texts: &[&str], bytes: &[u8]) -> Option<usize> {
-    let mut rest = bytes;
-    let mut count = 0usize;
-    for text in texts {
-        if rest.is_empty() {
-            return Some(count);
-        }
-        rest = rest.strip_prefix(text.as_bytes())?;
-        count = count.saturating_add(1);
-    }
-    if rest.is_empty() { Some(count) } else { None }
-}
-
 /// Asserts that `viewers` viewers have looked twice and once more at the end, and that the font file is that of the case.
 fn assert_outcome(rt: &impl Abort, outcome: &Outcome, viewers: u32, case: &Case) {
     assert_same(rt, outcome.seen.len(), viewers as usize, "viewers");
@@ -157,7 +145,7 @@ fn assert_performs<R: Abort + Wait + Threads + AllocGlobal>(rt: &R, viewers: u32
     let alloc = rt.alloc();
     let gate = Arc::new(alloc, OpenGate).expect(rt, "there is room for a gate");
     let mut reader = reader_of(case);
-    let mut writer = Sink::reserved(alloc, 1_000).expect(rt, "there is room for the texts");
+    let mut writer = Sink::with_capacity(alloc, 1_000).expect(rt, "there is room for the texts");
     refuse_growths(alloc);
     let result = perform(
         rt,
@@ -173,7 +161,7 @@ fn assert_performs<R: Abort + Wait + Threads + AllocGlobal>(rt: &R, viewers: u32
     let left = Left {
         result,
         reads: reader.reads(),
-        taken: writer.taken(),
+        taken: writer.bytes(),
     };
     assert_answer(rt, &left, viewers, case);
     assert_same(rt, Arc::strong_count(&gate), 1, "owners of the gate");
@@ -204,7 +192,7 @@ fn assert_performs_again<R: Abort + Wait + Threads + AllocGlobal>(
     );
     let outcome = result.expect(rt, "memory is ample");
     assert_outcome(rt, &outcome, viewers, case);
-    let count = count_of_texts(case.texts, writer.taken());
+    let count = count_of_texts(case.texts, writer.bytes());
     assert_same(rt, count, Some(case.texts.len()), "all texts");
     assert_same(rt, Arc::strong_count(gate), 1, "owners of the gate");
 }

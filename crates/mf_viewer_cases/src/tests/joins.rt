@@ -50,7 +50,7 @@ fn assert_ends_late<R: Abort + Wait + Threads + AllocGlobal>(
     let result = perform(rt, alloc, &mut reader, &mut writer, &AMPLE, 1, 1, &gate);
     assert_same(
         rt,
-        (result.err(), writer.taken()),
+        (result.err(), writer.bytes()),
         (Some(fault), text),
         fault,
     );

@@ -3,7 +3,7 @@ ghost use Rattle.std.specs.Prelude.{◌≤◌};
 
 use super::flags::{Count, Flag};
 use super::lines::blank_lines;
-use super::outcomes::{outcome_of, shared};
+use super::outcomes::{outcome_of, share};
 use crate::tests::assertions::{assert_holds, assert_same};
 use mf_testing::Pieces;
 use mf_watch::Gate;
@@ -39,7 +39,7 @@ fn assert_meet<R: Abort + Wait + Threads + AllocGlobal>(rt: &R, viewers: u32)
         held: Count::new(),
         missed: Flag::new(),
     };
-    let gate = shared(rt, meeting);
+    let gate = share(rt, meeting);
     let text = blank_lines(rt.alloc(), viewers as usize).expect(rt, "there is room for the lines");
     let mut reader = Pieces::whole(b"");
     outcome_of(rt, &gate, &mut reader, viewers, 2, text.as_bytes());

@@ -2,7 +2,7 @@
 ghost use Rattle.std.specs.Prelude.{◌≤◌};
 
 use super::flags::{Count, Flag};
-use super::outcomes::shared;
+use super::outcomes::share;
 use super::{AMPLE, PUBLISHED};
 use crate::tests::assertions::{assert_holds, assert_same};
 use mf_desk::perform;
@@ -50,7 +50,7 @@ fn assert_called_once<R: Abort + Wait + Threads + AllocGlobal>(rt: &R, viewers: 
 {
     let alloc = rt.alloc();
     let counts = CountsLooks::of(alloc, viewers).expect(rt, "there is room for counts");
-    let gate = shared(rt, counts);
+    let gate = share(rt, counts);
     let mut reader = Pieces::whole(PUBLISHED.as_bytes());
     let mut writer = Sink::new(alloc);
     let result = perform(

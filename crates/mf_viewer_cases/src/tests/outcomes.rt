@@ -13,7 +13,7 @@ use std::sync::{Arc, Wait};
 use std::thread::Threads;
 
 /// A gate that threads can share.
-pub(super) fn shared<R: Abort + AllocGlobal, G: Gate + Drop>(rt: &R, gate: G) -> Arc<G> {
+pub(super) fn share<R: Abort + AllocGlobal, G: Gate + Drop>(rt: &R, gate: G) -> Arc<G> {
     Arc::new(rt.alloc(), gate).expect(rt, "there is room for a gate")
 }
 
@@ -32,7 +32,7 @@ pub(super) fn outcome_of<R: Abort + Wait + Threads + AllocGlobal, I: Read, G: Ga
     let alloc = rt.alloc();
     let mut writer = Sink::new(alloc);
     let result = perform(rt, alloc, reader, &mut writer, &AMPLE, viewers, looks, gate);
-    assert_same(rt, writer.taken(), transcript, "the transcript");
+    assert_same(rt, writer.bytes(), transcript, "the transcript");
     assert_same(rt, Arc::strong_count(gate), 1, "owners of the gate");
     result.expect(rt, "the script is performed to its end")
 }
@@ -57,7 +57,7 @@ pub(super) fn outcome_telling<R: Abort + Wait + Threads + AllocGlobal, I: Read, 
         sink: Sink::new(alloc),
     };
     let result = perform(rt, alloc, reader, &mut writer, &AMPLE, viewers, looks, gate);
-    assert_same(rt, writer.sink.taken(), transcript, "the transcript");
+    assert_same(rt, writer.sink.bytes(), transcript, "the transcript");
     assert_same(rt, Arc::strong_count(gate), 1, "owners of the gate");
     result.expect(rt, "the script is performed to its end")
 }

@@ -1,6 +1,6 @@
 //! Readers that fail while there are viewers, and how much is read.
 
-use super::{AMPLE, BOTH_SEE_SIX, End, FILLED, PUBLISHED, performed};
+use super::{AMPLE, BOTH_SEE_SIX, End, FILLED, PUBLISHED, perform_beside};
 use crate::tests::assertions::{assert_holds, assert_same};
 use mf_desk::RunFault;
 use mf_testing::{LineFeeds, Pieces, Remembers, Sink};
@@ -18,8 +18,8 @@ fn assert_reads<R: Abort + Wait + Threads + AllocGlobal, I: Read + Drop>(
 ) {
     let mut reader = Remembers::new(reader);
     let mut writer = Sink::new(rt.alloc());
-    let result = performed(rt, &mut reader, &mut writer, &AMPLE, 2, 3);
-    assert_same(rt, (result.err(), writer.taken()), end, reads);
+    let result = perform_beside(rt, &mut reader, &mut writer, &AMPLE, 2, 3);
+    assert_same(rt, (result.err(), writer.bytes()), end, reads);
     assert_same(rt, reader.reads(), reads, "reads");
     assert_holds(rt, reader.greatest() <= 65_536, reader.greatest());
 }

@@ -5,7 +5,7 @@
 //! and the publish would wait for each other until the gate gives up.
 
 use super::flags::{ReadsAfter, WaitsForText};
-use super::outcomes::{outcome_telling, shared};
+use super::outcomes::{outcome_telling, share};
 use crate::tests::assertions::assert_holds;
 use mf_testing::Pieces;
 use std::alloc::{AllocError, Global};
@@ -34,7 +34,7 @@ fn assert_goes_out<R: Abort + Wait + Threads + AllocGlobal>(rt: &R, line: &str, 
     let alloc = rt.alloc();
     let script = script_with(alloc, line).expect(rt, "there is room for a script");
     let transcript = transcript_with(alloc, text).expect(rt, "there is room for a transcript");
-    let gate = shared(rt, WaitsForText::new());
+    let gate = share(rt, WaitsForText::new());
     let mut reader = ReadsAfter {
         flag: &gate.held,
         pieces: Pieces::whole(script.as_bytes()),

@@ -2,7 +2,7 @@
 ghost use Rattle.std.specs.Prelude.{◌≤◌};
 
 use super::lines::{blank_lines, line};
-use super::{AMPLE, BLANK, BOTH_SEE_SIX, FILLED, PUBLISHED, PUBLISHED_TEXT, SIX, performed};
+use super::{AMPLE, BLANK, BOTH_SEE_SIX, FILLED, PUBLISHED, PUBLISHED_TEXT, SIX, perform_beside};
 use crate::tests::assertions::{assert_holds, assert_same};
 use mf_desk::Outcome;
 use mf_testing::{Pieces, RECT, RECT_FILE, Script, Sink, worked_scripts};
@@ -24,8 +24,8 @@ fn outcome_beside<R: Abort + Wait + Threads + AllocGlobal>(
 {
     let mut writer = Sink::new(rt.alloc());
     let mut reader = Pieces::whole(script.as_bytes());
-    let result = performed(rt, &mut reader, &mut writer, &AMPLE, viewers, looks);
-    assert_same(rt, writer.taken(), text.as_bytes(), script);
+    let result = perform_beside(rt, &mut reader, &mut writer, &AMPLE, viewers, looks);
+    assert_same(rt, writer.bytes(), text.as_bytes(), script);
     result.expect(rt, "the script is performed to its end")
 }
 
@@ -145,7 +145,7 @@ fn assert_saw_whole_publishes(rt: &impl Abort, seen: &[Glance]) {
 fn assert_whole_publishes<R: Abort + Wait + Threads + AllocGlobal>(rt: &R, script: &str) {
     let mut reader = Pieces::bytewise(script.as_bytes());
     let mut writer = Sink::new(rt.alloc());
-    let outcome = performed(rt, &mut reader, &mut writer, &AMPLE, 4, 20_000).expect(
+    let outcome = perform_beside(rt, &mut reader, &mut writer, &AMPLE, 4, 20_000).expect(
         rt,
         "the script is performed to its end",
     );
@@ -196,7 +196,7 @@ fn last_of(rt: &impl Abort, seen: &[Glance], script: &str) -> Glance {
 }
 
 /// What three viewers of a script see last. Asserts that it is the same for all, and that the line of each says it.
-fn seen_last<R: Abort + Wait + Threads + AllocGlobal>(
+fn last_glance<R: Abort + Wait + Threads + AllocGlobal>(
     rt: &R,
     script: &Script,
 ) -> Result<Glance, AllocError> {
@@ -204,7 +204,7 @@ fn seen_last<R: Abort + Wait + Threads + AllocGlobal>(
     let (script, transcript) = *script;
     let mut writer = Sink::new(alloc);
     let mut reader = Pieces::whole(script.as_bytes());
-    let outcome = performed(rt, &mut reader, &mut writer, &AMPLE, 3, 5).expect(
+    let outcome = perform_beside(rt, &mut reader, &mut writer, &AMPLE, 3, 5).expect(
         rt,
         "the script is performed to its end",
     );
@@ -216,17 +216,17 @@ fn seen_last<R: Abort + Wait + Threads + AllocGlobal>(
         assert_same(rt, last_of(rt, seen, script), last, script);
         text.push_str(&line(alloc, number, &last)?)?;
     }
-    assert_same(rt, writer.taken(), text.as_bytes(), script);
+    assert_same(rt, writer.bytes(), text.as_bytes(), script);
     Ok(last)
 }
 
 /// What viewers see last of the scripts that change `currentpicture`.
-fn all_seen_last<R: Abort + Wait + Threads + AllocGlobal>(
+fn last_glances<R: Abort + Wait + Threads + AllocGlobal>(
     rt: &R,
 ) -> Result<Vec<(u32, i64)>, AllocError> {
     let mut all = Vec::new(rt.alloc());
     for script in worked_scripts().iter().copied().flatten() {
-        let Glance { revision, total } = seen_last(rt, script)?;
+        let Glance { revision, total } = last_glance(rt, script)?;
         if revision > 0 {
             all.push((revision, total))?;
         }
@@ -237,6 +237,6 @@ fn all_seen_last<R: Abort + Wait + Threads + AllocGlobal>(
 /// The line of each viewer says what it has seen last, which is the same for all.
 #[test]
 fn print_what_they_see_last(rt: HostRuntime) {
-    let all = all_seen_last(&rt).expect(&rt, "there is room for the lines");
+    let all = last_glances(&rt).expect(&rt, "there is room for the lines");
     assert_same(&rt, all.as_slice(), SEEN_LAST, "what is seen last");
 }

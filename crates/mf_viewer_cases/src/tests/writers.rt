@@ -1,6 +1,6 @@
 //! Writers that fail while there are viewers, and font files that are too long.
 
-use super::{AMPLE, End, PUBLISHED, PUBLISHED_TEXT, performed};
+use super::{AMPLE, End, PUBLISHED, PUBLISHED_TEXT, perform_beside};
 use crate::tests::assertions::{assert_holds, assert_same};
 use mf_desk::{RunFault, Settings};
 use mf_testing::{FailsOnce, FlushFails, Pieces, RECT, Remembers, Sink};
@@ -18,7 +18,7 @@ fn assert_publishes<R: Abort + Wait + Threads + AllocGlobal, W: Write>(
     case: usize,
 ) {
     let mut reader = Pieces::whole(PUBLISHED.as_bytes());
-    let result = performed(rt, &mut reader, writer, &AMPLE, 2, 3);
+    let result = perform_beside(rt, &mut reader, writer, &AMPLE, 2, 3);
     assert_same(rt, result.err(), fault, case);
 }
 
@@ -34,11 +34,11 @@ fn assert_write_fault<R: Abort + Wait + Threads + AllocGlobal>(rt: &R, room: usi
     let fault = Some(RunFault::WriteFault(room as u128));
     let mut writer = FailsOnce::new(rt.alloc(), room);
     assert_publishes(rt, &mut writer, fault, room);
-    assert_front(rt, writer.taken(), room);
+    assert_front(rt, writer.bytes(), room);
     assert_same(rt, writer.calls_after(), 0, room);
     let mut writer = Sink::full_after(rt.alloc(), room);
     assert_publishes(rt, &mut writer, fault, room);
-    assert_front(rt, writer.taken(), room);
+    assert_front(rt, writer.bytes(), room);
 }
 
 /// Asserts this for each of these numbers of bytes.
@@ -69,7 +69,7 @@ fn write_fails_once_in_the_line_of_viewer_1(rt: HostRuntime) {
 fn writer_has_just_enough_room(rt: HostRuntime) {
     let mut writer = Sink::failing(rt.alloc(), 80);
     assert_publishes(&rt, &mut writer, None, 80);
-    assert_front(&rt, writer.taken(), 80);
+    assert_front(&rt, writer.bytes(), 80);
 }
 
 /// Asserts that a run ends where a flush fails once after `good` others, when the writer has taken `count` bytes, after `reads`
@@ -83,10 +83,10 @@ fn assert_flush_fault<R: Abort + Wait + Threads + AllocGlobal>(
 ) {
     let mut reader = Remembers::new(Pieces::whole(script.as_bytes()));
     let mut writer = FlushFails::once(rt.alloc(), good);
-    let result = performed(rt, &mut reader, &mut writer, &AMPLE, 2, 3);
+    let result = perform_beside(rt, &mut reader, &mut writer, &AMPLE, 2, 3);
     let fault = RunFault::WriteFault(count as u128);
     assert_same(rt, result.err(), Some(fault), good);
-    assert_front(rt, writer.taken(), count);
+    assert_front(rt, writer.bytes(), count);
     assert_same(rt, (writer.calls_after(), reader.reads()), (0, reads), good);
 }
 
@@ -119,7 +119,7 @@ fn assert_buffered<R: Abort + Wait + Threads + AllocGlobal>(rt: &R, room: usize,
         "there is room for a buffer",
     );
     assert_publishes(rt, &mut writer, Some(RunFault::WriteFault(count)), room);
-    assert_front(rt, writer.get_ref().taken(), room);
+    assert_front(rt, writer.get_ref().bytes(), room);
 }
 
 /// The buffer is flushed before the second read, which reports the end.
@@ -144,7 +144,7 @@ fn everything_buffered_is_handed_on(rt: HostRuntime) {
         "there is room for a buffer",
     );
     assert_publishes(&rt, &mut writer, None, 80);
-    assert_front(&rt, writer.get_ref().taken(), 80);
+    assert_front(&rt, writer.get_ref().bytes(), 80);
 }
 
 /// Asserts that a script that ships the rectangle beside two viewers ends in this way where the font file may have `max_bytes`
@@ -158,9 +158,9 @@ fn assert_ships_within<R: Abort + Wait + Threads + AllocGlobal>(
     let settings = Settings { max_bytes, ..AMPLE };
     let mut reader = Pieces::whole(RECT.as_bytes());
     let mut writer = Sink::new(rt.alloc());
-    let result = performed(rt, &mut reader, &mut writer, &settings, 2, 3);
+    let result = perform_beside(rt, &mut reader, &mut writer, &settings, 2, 3);
     let end: End<'_> = (fault, text.as_bytes());
-    assert_same(rt, (result.err(), writer.taken()), end, max_bytes);
+    assert_same(rt, (result.err(), writer.bytes()), end, max_bytes);
 }
 
 /// What is printed when the rectangle is shipped.
@@ -198,8 +198,8 @@ fn no_font_file_is_short_enough(rt: HostRuntime) {
     };
     let mut reader = Remembers::new(Pieces::whole(RECT.as_bytes()));
     let mut writer = Sink::new(rt.alloc());
-    let result = performed(&rt, &mut reader, &mut writer, &settings, 2, 3);
+    let result = perform_beside(&rt, &mut reader, &mut writer, &settings, 2, 3);
     let end: End<'_> = (Some(RunFault::FileTooLong), b"");
-    assert_same(&rt, (result.err(), writer.taken()), end, "2 bytes");
+    assert_same(&rt, (result.err(), writer.bytes()), end, "2 bytes");
     assert_same(&rt, reader.reads(), 0, "reads");
 }

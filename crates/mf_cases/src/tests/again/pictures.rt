@@ -40,7 +40,7 @@ const APART: &[Run] = &[
 ];
 
 /// The cycle through the corners.
-fn rectangle(rt: &impl Abort, alloc: Global) -> Cycle {
+fn rectangle_in_tries(rt: &impl Abort, alloc: Global) -> Cycle {
     for _ in 0..TRIES {
         if let Ok(points) = CORNERS.to_vec(alloc) {
             match Cycle::new(points) {
@@ -75,7 +75,7 @@ fn assert_op(rt: &impl Abort, op: &Op) {
 }
 
 /// A copy of the cycle, which stays as it was even where the copy is refused.
-fn copied_cycle(rt: &impl Abort, alloc: Global, cycle: &Cycle) -> Cycle {
+fn copy_cycle(rt: &impl Abort, alloc: Global, cycle: &Cycle) -> Cycle {
     for _ in 0..TRIES {
         let copy = cycle.copy(alloc);
         assert_cycle(rt, cycle);
@@ -87,7 +87,7 @@ fn copied_cycle(rt: &impl Abort, alloc: Global, cycle: &Cycle) -> Cycle {
 }
 
 /// A copy of an operation, which stays as it was even where the copy is refused.
-fn copied_op(rt: &impl Abort, alloc: Global, op: &Op) -> Op {
+fn copy_op(rt: &impl Abort, alloc: Global, op: &Op) -> Op {
     for _ in 0..TRIES {
         let copy = op.copy(alloc);
         assert_op(rt, op);
@@ -110,7 +110,7 @@ fn push(rt: &impl Abort, builder: &mut RowBuilder, run: Run) {
 }
 
 /// The picture with these runs. A builder whose picture is refused is gone, so the runs are then pushed to another one.
-fn built(rt: &impl Abort, alloc: Global, runs: &[Run]) -> Picture {
+fn picture_of(rt: &impl Abort, alloc: Global, runs: &[Run]) -> Picture {
     for _ in 0..TRIES {
         let mut builder = RowBuilder::new(alloc);
         for run in runs {
@@ -125,7 +125,13 @@ fn built(rt: &impl Abort, alloc: Global, runs: &[Run]) -> Picture {
 
 /// The picture after an operation. The picture itself, which has these runs, and the operation stay as they were, even where the
 /// operation is refused.
-fn changed(rt: &impl Abort, alloc: Global, picture: &Picture, op: &Op, runs: &[Run]) -> Picture {
+fn picture_after(
+    rt: &impl Abort,
+    alloc: Global,
+    picture: &Picture,
+    op: &Op,
+    runs: &[Run],
+) -> Picture {
     for _ in 0..TRIES {
         let answer = after(alloc, picture, op);
         assert_runs(rt, picture, runs);
@@ -145,10 +151,10 @@ fn assert_equal(rt: &impl Abort, one: &Picture, other: &Picture) {
 
 /// Asserts that an operation, and its copy, change the two rows to these runs.
 fn assert_makes(rt: &impl Abort, alloc: Global, op: &Op, runs: &[Run]) {
-    let picture = built(rt, alloc, APART);
-    let copy = copied_op(rt, alloc, op);
-    let new = changed(rt, alloc, &picture, op, APART);
-    let same = changed(rt, alloc, &picture, &copy, APART);
+    let picture = picture_of(rt, alloc, APART);
+    let copy = copy_op(rt, alloc, op);
+    let new = picture_after(rt, alloc, &picture, op, APART);
+    let same = picture_after(rt, alloc, &picture, &copy, APART);
     assert_runs(rt, &new, runs);
     assert_equal(rt, &new, &same);
 }
@@ -177,18 +183,18 @@ fn stretching(rt: &impl Abort, x: i32, y: i32) -> Op {
 }
 
 /// Asserts that filling a copy of the rectangle's cycle makes the picture with its runs.
-fn assert_fills(rt: &impl Abort, alloc: Global) {
-    let cycle = copied_cycle(rt, alloc, &rectangle(rt, alloc));
+fn assert_fills_copy(rt: &impl Abort, alloc: Global) {
+    let cycle = copy_cycle(rt, alloc, &rectangle_in_tries(rt, alloc));
     let blank = Picture::blank(alloc);
-    let filled = changed(rt, alloc, &blank, &filling(rt, cycle, 1), &[]);
-    let built = built(rt, alloc, BLOCK);
+    let filled = picture_after(rt, alloc, &blank, &filling(rt, cycle, 1), &[]);
+    let built = picture_of(rt, alloc, BLOCK);
     assert_equal(rt, &filled, &built);
     assert_runs(rt, &built, BLOCK);
 }
 
 #[test]
 fn fill_a_rectangle(rt: HostRuntime) {
-    assert_fills(&rt, rt.alloc());
+    assert_fills_copy(&rt, rt.alloc());
 }
 
 /// The two rows after the rectangle is filled in with weight 2, after its picture is added, and after it is subtracted.
@@ -214,7 +220,7 @@ const REST: &[Run] = &[
 
 /// Asserts that adding or subtracting the rectangle changes the two rows to these runs.
 fn assert_adds(rt: &impl Abort, alloc: Global, sign: Sign, runs: &[Run]) {
-    let op = Op::Also(built(rt, alloc, BLOCK), sign);
+    let op = Op::Also(picture_of(rt, alloc, BLOCK), sign);
     assert_makes(rt, alloc, &op, runs);
 }
 
@@ -222,7 +228,7 @@ fn assert_adds(rt: &impl Abort, alloc: Global, sign: Sign, runs: &[Run]) {
 #[test]
 fn add_to_a_picture(rt: HostRuntime) {
     let alloc = rt.alloc();
-    let contour = filling(&rt, rectangle(&rt, alloc), 2);
+    let contour = filling(&rt, rectangle_in_tries(&rt, alloc), 2);
     assert_makes(&rt, alloc, &contour, FILLED);
     assert_adds(&rt, alloc, Sign::Plus, SUM);
     assert_adds(&rt, alloc, Sign::Minus, REST);

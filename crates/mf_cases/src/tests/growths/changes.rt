@@ -1,6 +1,6 @@
 //! Lines that change a picture.
 
-use super::{STATE, State, TRIAL, Trial, assert_performs};
+use super::{STATE, State, TRIAL, Trial, assert_performs_while_refused};
 
 const CLOCKWISE: &Trial = &Trial {
     line: "addto currentpicture contour (0,0)--(0,2)--(4,2)--(4,0)--cycle withweight -2",
@@ -14,7 +14,7 @@ const CLOCKWISE: &Trial = &Trial {
 
 #[test]
 fn contour_is_added_to_the_live_picture(rt: HostRuntime) {
-    assert_performs(&rt, CLOCKWISE);
+    assert_performs_while_refused(&rt, CLOCKWISE);
 }
 
 const FIRST_CONTOUR: &Trial = &Trial {
@@ -28,7 +28,7 @@ const FIRST_CONTOUR: &Trial = &Trial {
 
 #[test]
 fn contour_is_added_to_a_blank_register(rt: HostRuntime) {
-    assert_performs(&rt, FIRST_CONTOUR);
+    assert_performs_while_refused(&rt, FIRST_CONTOUR);
 }
 
 const CONTOUR: &Trial = &Trial {
@@ -42,7 +42,7 @@ const CONTOUR: &Trial = &Trial {
 
 #[test]
 fn contour_is_added_to_a_register(rt: HostRuntime) {
-    assert_performs(&rt, CONTOUR);
+    assert_performs_while_refused(&rt, CONTOUR);
 }
 
 const SUM: &Trial = &Trial {
@@ -57,7 +57,7 @@ const SUM: &Trial = &Trial {
 
 #[test]
 fn register_is_added_to_the_live_picture(rt: HostRuntime) {
-    assert_performs(&rt, SUM);
+    assert_performs_while_refused(&rt, SUM);
 }
 
 const SUM_IN_REGISTER: &Trial = &Trial {
@@ -71,7 +71,7 @@ const SUM_IN_REGISTER: &Trial = &Trial {
 
 #[test]
 fn live_picture_is_added_to_a_register(rt: HostRuntime) {
-    assert_performs(&rt, SUM_IN_REGISTER);
+    assert_performs_while_refused(&rt, SUM_IN_REGISTER);
 }
 
 const DOUBLE: &Trial = &Trial {
@@ -85,7 +85,7 @@ const DOUBLE: &Trial = &Trial {
 
 #[test]
 fn register_is_added_to_itself(rt: HostRuntime) {
-    assert_performs(&rt, DOUBLE);
+    assert_performs_while_refused(&rt, DOUBLE);
 }
 
 const DIFFERENCE: &Trial = &Trial {
@@ -100,7 +100,7 @@ const DIFFERENCE: &Trial = &Trial {
 
 #[test]
 fn live_picture_is_subtracted_from_itself(rt: HostRuntime) {
-    assert_performs(&rt, DIFFERENCE);
+    assert_performs_while_refused(&rt, DIFFERENCE);
 }
 
 const CULL: &Trial = &Trial {
@@ -115,7 +115,7 @@ const CULL: &Trial = &Trial {
 
 #[test]
 fn live_picture_is_culled(rt: HostRuntime) {
-    assert_performs(&rt, CULL);
+    assert_performs_while_refused(&rt, CULL);
 }
 
 const CULL_IN_REGISTER: &Trial = &Trial {
@@ -129,7 +129,7 @@ const CULL_IN_REGISTER: &Trial = &Trial {
 
 #[test]
 fn register_is_culled(rt: HostRuntime) {
-    assert_performs(&rt, CULL_IN_REGISTER);
+    assert_performs_while_refused(&rt, CULL_IN_REGISTER);
 }
 
 const SHIFT: &Trial = &Trial {
@@ -144,7 +144,7 @@ const SHIFT: &Trial = &Trial {
 
 #[test]
 fn live_picture_is_shifted(rt: HostRuntime) {
-    assert_performs(&rt, SHIFT);
+    assert_performs_while_refused(&rt, SHIFT);
 }
 
 const SHIFT_IN_REGISTER: &Trial = &Trial {
@@ -158,7 +158,7 @@ const SHIFT_IN_REGISTER: &Trial = &Trial {
 
 #[test]
 fn register_is_shifted(rt: HostRuntime) {
-    assert_performs(&rt, SHIFT_IN_REGISTER);
+    assert_performs_while_refused(&rt, SHIFT_IN_REGISTER);
 }
 
 const SCALE: &Trial = &Trial {
@@ -173,7 +173,7 @@ const SCALE: &Trial = &Trial {
 
 #[test]
 fn live_picture_is_scaled(rt: HostRuntime) {
-    assert_performs(&rt, SCALE);
+    assert_performs_while_refused(&rt, SCALE);
 }
 
 const SCALE_IN_REGISTER: &Trial = &Trial {
@@ -187,7 +187,7 @@ const SCALE_IN_REGISTER: &Trial = &Trial {
 
 #[test]
 fn register_is_scaled(rt: HostRuntime) {
-    assert_performs(&rt, SCALE_IN_REGISTER);
+    assert_performs_while_refused(&rt, SCALE_IN_REGISTER);
 }
 
 const ACROSS: &Trial = &Trial {
@@ -202,7 +202,7 @@ const ACROSS: &Trial = &Trial {
 
 #[test]
 fn live_picture_is_scaled_horizontally(rt: HostRuntime) {
-    assert_performs(&rt, ACROSS);
+    assert_performs_while_refused(&rt, ACROSS);
 }
 
 const ACROSS_IN_REGISTER: &Trial = &Trial {
@@ -216,7 +216,7 @@ const ACROSS_IN_REGISTER: &Trial = &Trial {
 
 #[test]
 fn register_is_reflected_horizontally(rt: HostRuntime) {
-    assert_performs(&rt, ACROSS_IN_REGISTER);
+    assert_performs_while_refused(&rt, ACROSS_IN_REGISTER);
 }
 
 const UPWARDS: &Trial = &Trial {
@@ -231,7 +231,7 @@ const UPWARDS: &Trial = &Trial {
 
 #[test]
 fn live_picture_is_reflected_vertically(rt: HostRuntime) {
-    assert_performs(&rt, UPWARDS);
+    assert_performs_while_refused(&rt, UPWARDS);
 }
 
 const UPWARDS_IN_REGISTER: &Trial = &Trial {
@@ -245,7 +245,7 @@ const UPWARDS_IN_REGISTER: &Trial = &Trial {
 
 #[test]
 fn register_is_scaled_vertically(rt: HostRuntime) {
-    assert_performs(&rt, UPWARDS_IN_REGISTER);
+    assert_performs_while_refused(&rt, UPWARDS_IN_REGISTER);
 }
 
 const QUARTER: &Trial = &Trial {
@@ -260,7 +260,7 @@ const QUARTER: &Trial = &Trial {
 
 #[test]
 fn live_picture_is_turned_by_90_degrees(rt: HostRuntime) {
-    assert_performs(&rt, QUARTER);
+    assert_performs_while_refused(&rt, QUARTER);
 }
 
 const HALF: &Trial = &Trial {
@@ -275,7 +275,7 @@ const HALF: &Trial = &Trial {
 
 #[test]
 fn live_picture_is_turned_by_180_degrees(rt: HostRuntime) {
-    assert_performs(&rt, HALF);
+    assert_performs_while_refused(&rt, HALF);
 }
 
 const THREE_QUARTERS: &Trial = &Trial {
@@ -289,5 +289,5 @@ const THREE_QUARTERS: &Trial = &Trial {
 
 #[test]
 fn register_is_turned_by_270_degrees(rt: HostRuntime) {
-    assert_performs(&rt, THREE_QUARTERS);
+    assert_performs_while_refused(&rt, THREE_QUARTERS);
 }

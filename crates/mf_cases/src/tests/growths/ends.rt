@@ -1,7 +1,8 @@
 //! How sessions start and end, and lines that allocate nothing.
 
 use super::{
-    AMPLE, SCRIPT, STATE, State, assert_ended, assert_ends, assert_state, seated, session_after,
+    AMPLE, SCRIPT, STATE, State, assert_ended_in, assert_goes_on_from, assert_state, only_viewer,
+    session_after,
 };
 use crate::tests::assertions::assert_same;
 use crate::tests::sessions::{finish, perform};
@@ -27,7 +28,7 @@ const BLANK: State = State {
 };
 
 /// Opens a session with one place while allocations are refused.
-fn opened_refused<R: Wait>(rt: &R, alloc: Global) -> Result<(Session, Desk), GfFault> {
+fn open_while_refused<R: Wait>(rt: &R, alloc: Global) -> Result<(Session, Desk), GfFault> {
     refuse_growths(alloc);
     let made = Session::new(rt, alloc, 1, LIMITS.0, LIMITS.1);
     grow_again(alloc);
@@ -35,8 +36,8 @@ fn opened_refused<R: Wait>(rt: &R, alloc: Global) -> Result<(Session, Desk), GfF
 }
 
 /// A session that is opened in this way, or with ample memory where that was refused.
-fn opened<R: Abort + Wait>(rt: &R, alloc: Global) -> (Session, Desk) {
-    match opened_refused(rt, alloc) {
+fn open_in_the_end<R: Abort + Wait>(rt: &R, alloc: Global) -> (Session, Desk) {
+    match open_while_refused(rt, alloc) {
         Ok(made) => made,
         Err(fault) => {
             assert_same(rt, fault, GfFault::OutOfMemory, "a session");
@@ -49,23 +50,23 @@ fn opened<R: Abort + Wait>(rt: &R, alloc: Global) -> (Session, Desk) {
 /// Asserts that nothing has happened in a session, and that it then performs the script.
 fn assert_starts<R: Abort + Wait>(rt: &R, alloc: Global, (session, desk): (Session, Desk)) {
     let (mut session, mut desk) = (session, desk);
-    let viewer = seated(rt, &mut desk);
+    let viewer = only_viewer(rt, &mut desk);
     let viewer = assert_state(rt, alloc, (&mut session, viewer), &BLANK);
     for line in SCRIPT.lines() {
         perform(rt, alloc, &mut session, line);
     }
     let viewer = assert_state(rt, alloc, (&mut session, viewer), &STATE);
-    assert_ends(rt, alloc, (session, viewer), &STATE);
+    assert_goes_on_from(rt, alloc, (session, viewer), &STATE);
 }
 
 #[test]
 fn session_starts(rt: HostRuntime) {
-    let made = opened(&rt, rt.alloc());
+    let made = open_in_the_end(&rt, rt.alloc());
     assert_starts(&rt, rt.alloc(), made);
 }
 
 /// Ends a script while allocations are refused. Hands the session back where that fails.
-fn finish_refused<R: Abort + Wait>(
+fn finish_while_refused<R: Abort + Wait>(
     rt: &R,
     alloc: Global,
     session: Session,
@@ -84,7 +85,7 @@ fn finish_refused<R: Abort + Wait>(
 }
 
 /// Asserts that a session that is handed back is in the same state as before, and returns it.
-fn handed_back<R: Abort + Wait>(
+fn assert_as_before<R: Abort + Wait>(
     rt: &R,
     alloc: Global,
     (session, viewer): (Session, Viewer),
@@ -99,11 +100,11 @@ fn handed_back<R: Abort + Wait>(
 /// ample memory.
 fn assert_finishes<R: Abort + Wait>(rt: &R, alloc: Global, before: &str, state: &State) {
     let (session, viewer) = session_after(rt, alloc, LIMITS, before);
-    match finish_refused(rt, alloc, session) {
-        Ok(made) => assert_ended(rt, made, viewer, state),
+    match finish_while_refused(rt, alloc, session) {
+        Ok(made) => assert_ended_in(rt, made, viewer, state),
         Err(session) => {
-            let (session, viewer) = handed_back(rt, alloc, (session, viewer), state);
-            assert_ended(rt, finish(rt, session), viewer, state);
+            let (session, viewer) = assert_as_before(rt, alloc, (session, viewer), state);
+            assert_ended_in(rt, finish(rt, session), viewer, state);
         }
     }
 }
@@ -128,11 +129,11 @@ fn published_script_ends(rt: HostRuntime) {
 /// Asserts that a session whose end is refused goes on: it publishes, and ends later.
 fn assert_goes_on<R: Abort + Wait>(rt: &R, alloc: Global) {
     let (session, viewer) = session_after(rt, alloc, LIMITS, "");
-    match finish_refused(rt, alloc, session) {
-        Ok(made) => assert_ended(rt, made, viewer, &STATE),
+    match finish_while_refused(rt, alloc, session) {
+        Ok(made) => assert_ended_in(rt, made, viewer, &STATE),
         Err(session) => {
-            let back = handed_back(rt, alloc, (session, viewer), &STATE);
-            assert_ends(rt, alloc, back, &STATE);
+            let back = assert_as_before(rt, alloc, (session, viewer), &STATE);
+            assert_goes_on_from(rt, alloc, back, &STATE);
         }
     }
 }
@@ -161,7 +162,12 @@ const CLEARED: State = State {
 };
 
 /// Performs these lines, and returns how many of them succeed and print nothing.
-fn performed<R: Wait>(rt: &R, alloc: Global, session: &mut Session, lines: &[&str]) -> usize {
+fn count_without_text<R: Wait>(
+    rt: &R,
+    alloc: Global,
+    session: &mut Session,
+    lines: &[&str],
+) -> usize {
     let mut count: usize = 0;
     for line in lines {
         if let Ok(text) = session.command(rt, alloc, line.as_bytes())
@@ -179,14 +185,14 @@ fn assert_allocate_nothing<R: Abort + Wait>(rt: &R, alloc: Global) {
     let (mut session, viewer) = session_after(rt, alloc, LIMITS, "");
     refuse_growths(alloc);
     let shown = session.command(rt, alloc, b"show a");
-    let count = performed(rt, alloc, &mut session, NOT_ALLOCATING);
+    let count = count_without_text(rt, alloc, &mut session, NOT_ALLOCATING);
     grow_again(alloc);
     assert_same(rt, count, NOT_ALLOCATING.len(), "lines that take no memory");
     if let Ok(text) = shown {
         assert_same(rt, text.as_slice(), STATE.a.as_bytes(), "show a");
     }
     let viewer = assert_state(rt, alloc, (&mut session, viewer), &CLEARED);
-    assert_ends(rt, alloc, (session, viewer), &CLEARED);
+    assert_goes_on_from(rt, alloc, (session, viewer), &CLEARED);
 }
 
 #[test]

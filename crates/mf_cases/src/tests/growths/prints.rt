@@ -1,6 +1,6 @@
 //! Lines that print pictures, publish and ship.
 
-use super::{STATE, State, TRIAL, Trial, assert_performs};
+use super::{STATE, State, TRIAL, Trial, assert_performs_while_refused};
 
 const RUNS: &Trial = &Trial {
     line: "show currentpicture",
@@ -10,7 +10,7 @@ const RUNS: &Trial = &Trial {
 
 #[test]
 fn live_picture_is_shown(rt: HostRuntime) {
-    assert_performs(&rt, RUNS);
+    assert_performs_while_refused(&rt, RUNS);
 }
 
 const BLANK_RUNS: &Trial = &Trial {
@@ -21,7 +21,7 @@ const BLANK_RUNS: &Trial = &Trial {
 
 #[test]
 fn blank_register_is_shown(rt: HostRuntime) {
-    assert_performs(&rt, BLANK_RUNS);
+    assert_performs_while_refused(&rt, BLANK_RUNS);
 }
 
 const TOTAL: &Trial = &Trial {
@@ -32,7 +32,7 @@ const TOTAL: &Trial = &Trial {
 
 #[test]
 fn total_is_shown(rt: HostRuntime) {
-    assert_performs(&rt, TOTAL);
+    assert_performs_while_refused(&rt, TOTAL);
 }
 
 const GRID: &Trial = &Trial {
@@ -43,7 +43,7 @@ const GRID: &Trial = &Trial {
 
 #[test]
 fn grid_is_shown(rt: HostRuntime) {
-    assert_performs(&rt, GRID);
+    assert_performs_while_refused(&rt, GRID);
 }
 
 const BLANK_GRID: &Trial = &Trial {
@@ -54,7 +54,7 @@ const BLANK_GRID: &Trial = &Trial {
 
 #[test]
 fn blank_grid_is_shown(rt: HostRuntime) {
-    assert_performs(&rt, BLANK_GRID);
+    assert_performs_while_refused(&rt, BLANK_GRID);
 }
 
 const PUBLISHED: State = State {
@@ -71,7 +71,7 @@ const PUBLISH: &Trial = &Trial {
 
 #[test]
 fn publish_shows_what_was_accepted(rt: HostRuntime) {
-    assert_performs(&rt, PUBLISH);
+    assert_performs_while_refused(&rt, PUBLISH);
 }
 
 /// Nothing is pending.
@@ -86,7 +86,7 @@ const AGAIN: &Trial = &Trial {
 
 #[test]
 fn publish_of_nothing_prints_again(rt: HostRuntime) {
-    assert_performs(&rt, AGAIN);
+    assert_performs_while_refused(&rt, AGAIN);
 }
 
 const SHIPPED: &Trial = &Trial {
@@ -112,7 +112,7 @@ const SHIPPED: &Trial = &Trial {
 
 #[test]
 fn live_picture_is_shipped(rt: HostRuntime) {
-    assert_performs(&rt, SHIPPED);
+    assert_performs_while_refused(&rt, SHIPPED);
 }
 
 const SHIPPED_AGAIN: &Trial = &Trial {
@@ -139,7 +139,7 @@ const SHIPPED_AGAIN: &Trial = &Trial {
 
 #[test]
 fn code_is_shipped_again(rt: HostRuntime) {
-    assert_performs(&rt, SHIPPED_AGAIN);
+    assert_performs_while_refused(&rt, SHIPPED_AGAIN);
 }
 
 const SHIPPED_BLANK: &Trial = &Trial {
@@ -165,5 +165,5 @@ const SHIPPED_BLANK: &Trial = &Trial {
 
 #[test]
 fn blank_picture_is_shipped(rt: HostRuntime) {
-    assert_performs(&rt, SHIPPED_BLANK);
+    assert_performs_while_refused(&rt, SHIPPED_BLANK);
 }

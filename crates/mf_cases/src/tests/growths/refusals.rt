@@ -1,6 +1,6 @@
 //! Lines that are refused. Printing the refusal allocates.
 
-use super::{STATE, State, TRIAL, Trial, assert_performs};
+use super::{STATE, State, TRIAL, Trial, assert_performs_while_refused};
 use mf_gf::GfFault;
 
 const FORM: &Trial = &Trial {
@@ -11,7 +11,7 @@ const FORM: &Trial = &Trial {
 
 #[test]
 fn form_is_refused(rt: HostRuntime) {
-    assert_performs(&rt, FORM);
+    assert_performs_while_refused(&rt, FORM);
 }
 
 /// The line has a byte that is not in ASCII.
@@ -23,7 +23,7 @@ const BYTES: &Trial = &Trial {
 
 #[test]
 fn bytes_are_refused(rt: HostRuntime) {
-    assert_performs(&rt, BYTES);
+    assert_performs_while_refused(&rt, BYTES);
 }
 
 const PATH: &Trial = &Trial {
@@ -34,7 +34,7 @@ const PATH: &Trial = &Trial {
 
 #[test]
 fn path_is_refused(rt: HostRuntime) {
-    assert_performs(&rt, PATH);
+    assert_performs_while_refused(&rt, PATH);
 }
 
 const WEIGHT: &Trial = &Trial {
@@ -45,7 +45,7 @@ const WEIGHT: &Trial = &Trial {
 
 #[test]
 fn weight_is_refused(rt: HostRuntime) {
-    assert_performs(&rt, WEIGHT);
+    assert_performs_while_refused(&rt, WEIGHT);
 }
 
 const RANGE: &Trial = &Trial {
@@ -56,7 +56,7 @@ const RANGE: &Trial = &Trial {
 
 #[test]
 fn range_is_refused(rt: HostRuntime) {
-    assert_performs(&rt, RANGE);
+    assert_performs_while_refused(&rt, RANGE);
 }
 
 const FACTOR: &Trial = &Trial {
@@ -67,7 +67,7 @@ const FACTOR: &Trial = &Trial {
 
 #[test]
 fn factor_is_refused(rt: HostRuntime) {
-    assert_performs(&rt, FACTOR);
+    assert_performs_while_refused(&rt, FACTOR);
 }
 
 const ANGLE: &Trial = &Trial {
@@ -78,7 +78,7 @@ const ANGLE: &Trial = &Trial {
 
 #[test]
 fn angle_is_refused(rt: HostRuntime) {
-    assert_performs(&rt, ANGLE);
+    assert_performs_while_refused(&rt, ANGLE);
 }
 
 const REVERSAL: &Trial = &Trial {
@@ -89,7 +89,7 @@ const REVERSAL: &Trial = &Trial {
 
 #[test]
 fn reversal_is_refused(rt: HostRuntime) {
-    assert_performs(&rt, REVERSAL);
+    assert_performs_while_refused(&rt, REVERSAL);
 }
 
 const TURNING: &Trial = &Trial {
@@ -100,7 +100,7 @@ const TURNING: &Trial = &Trial {
 
 #[test]
 fn turning_is_refused(rt: HostRuntime) {
-    assert_performs(&rt, TURNING);
+    assert_performs_while_refused(&rt, TURNING);
 }
 
 const LEAVING: &Trial = &Trial {
@@ -111,7 +111,7 @@ const LEAVING: &Trial = &Trial {
 
 #[test]
 fn live_picture_may_not_leave_the_field(rt: HostRuntime) {
-    assert_performs(&rt, LEAVING);
+    assert_performs_while_refused(&rt, LEAVING);
 }
 
 const LEAVING_IN_REGISTER: &Trial = &Trial {
@@ -122,7 +122,7 @@ const LEAVING_IN_REGISTER: &Trial = &Trial {
 
 #[test]
 fn register_may_not_leave_the_field(rt: HostRuntime) {
-    assert_performs(&rt, LEAVING_IN_REGISTER);
+    assert_performs_while_refused(&rt, LEAVING_IN_REGISTER);
 }
 
 const HEAVY: &Trial = &Trial {
@@ -154,7 +154,7 @@ const DOUBLED: State = State {
 
 #[test]
 fn weight_of_the_live_picture_may_not_be_too_large(rt: HostRuntime) {
-    assert_performs(&rt, HEAVY);
+    assert_performs_while_refused(&rt, HEAVY);
 }
 
 const HEAVY_IN_REGISTER: &Trial = &Trial {
@@ -185,7 +185,7 @@ const DOUBLED_REGISTER: State = State {
 
 #[test]
 fn weight_of_a_register_may_not_be_too_large(rt: HostRuntime) {
-    assert_performs(&rt, HEAVY_IN_REGISTER);
+    assert_performs_while_refused(&rt, HEAVY_IN_REGISTER);
 }
 
 /// The box of the row is 130 pixels wide.
@@ -205,7 +205,7 @@ const STRETCHED: State = State {
 
 #[test]
 fn grid_may_not_be_too_large(rt: HostRuntime) {
-    assert_performs(&rt, WIDE);
+    assert_performs_while_refused(&rt, WIDE);
 }
 
 /// The session has accepted as many operations as its limit allows.
@@ -218,7 +218,7 @@ const LIMITED: &Trial = &Trial {
 
 #[test]
 fn clear_is_refused_for_the_limit(rt: HostRuntime) {
-    assert_performs(&rt, LIMITED);
+    assert_performs_while_refused(&rt, LIMITED);
 }
 
 /// The preamble and the first character take 12 bytes, and this character would take 11 more. Even without it, the finished file
@@ -239,5 +239,5 @@ const UNFINISHED: State = State {
 
 #[test]
 fn file_may_not_be_too_long(rt: HostRuntime) {
-    assert_performs(&rt, LONG_FILE);
+    assert_performs_while_refused(&rt, LONG_FILE);
 }

@@ -2,9 +2,11 @@
 
 use crate::tests::assertions::{assert_holds, assert_same};
 use crate::tests::font_files::{KEPT, assert_file, path_of, put, remove};
-use crate::tests::{End, USAGE, assert_ends, words_of};
+use crate::tests::{End, USAGE, assert_ends};
 use mf_cli::program::{BAD_WORDS, DONE, WANTING, program};
-use mf_testing::{Pieces, RECT_FILE, Remembers, Sink, grow_again, refuse_growths};
+use mf_testing::{
+    Pieces, RECT_FILE, Remembers, Sink, count_of_texts, grow_again, refuse_growths, words_of,
+};
 use std::process::Abort;
 use std::rt::Files;
 use std::sync::Wait;
@@ -53,20 +55,20 @@ struct Left {
 impl Left {
     /// The exit status, what was written, and the message.
     fn end(&self) -> End<'_> {
-        (self.status, self.writer.taken(), self.errors.taken())
+        (self.status, self.writer.bytes(), self.errors.bytes())
     }
 }
 
 /// What the script leaves with these words. Allocations are refused once the list of words is made.
-fn performed_while_refused<R: Abort + Wait + Threads + Files + AllocGlobal>(
+fn run_while_refused<R: Abort + Wait + Threads + Files + AllocGlobal>(
     rt: &R,
     texts: &[&str],
 ) -> Left {
     let alloc = rt.alloc();
     let words = words_of(alloc, texts).expect(rt, "there is room for the words");
     let mut reader = Remembers::new(Pieces::whole(SCRIPT));
-    let mut writer = Sink::reserved(alloc, 1_000).expect(rt, "there is room for the texts");
-    let mut errors = Sink::reserved(alloc, 1_000).expect(rt, "there is room for a message");
+    let mut writer = Sink::with_capacity(alloc, 1_000).expect(rt, "there is room for the texts");
+    let mut errors = Sink::with_capacity(alloc, 1_000).expect(rt, "there is room for a message");
     refuse_growths(alloc);
     let status = program(rt, alloc, words, &mut reader, &mut writer, &mut errors);
     grow_again(alloc);
@@ -78,27 +80,12 @@ fn performed_while_refused<R: Abort + Wait + Threads + Files + AllocGlobal>(
     }
 }
 
-/// Whether the bytes are the complete texts of the first lines, of any number of them.
-fn are_first(texts: &[&str], bytes: &[u8]) -> bool {
-    let mut rest = bytes;
-    for text in texts {
-        if rest.is_empty() {
-            return true;
-        }
-        let Some(more) = rest.strip_prefix(text.as_bytes()) else {
-            return false;
-        };
-        rest = more;
-    }
-    rest.is_empty()
-}
-
 /// Asserts that the run ended with `OutOfMemory`, and that it wrote the complete texts of the first lines.
 fn assert_out_of_memory(rt: &impl Abort, left: &Left) {
-    let written = left.writer.taken();
+    let written = left.writer.bytes();
     let end: End<'_> = (WANTING, written, b"mfpic: OutOfMemory\n");
     assert_same(rt, left.end(), end, "memory was wanting");
-    assert_holds(rt, are_first(TEXTS, written), "whole texts");
+    assert_holds(rt, count_of_texts(TEXTS, written).is_some(), "whole texts");
 }
 
 /// Asserts that a viewer had no place or no thread, and that nothing was read or written.
@@ -112,7 +99,7 @@ fn assert_has_no_place(rt: &impl Abort, left: &Left) {
 #[test]
 fn a_script_is_performed(rt: HostRuntime) {
     let words = ["mfpic"];
-    let left = performed_while_refused(&rt, &words);
+    let left = run_while_refused(&rt, &words);
     let end: End<'_> = (DONE, ALONE.as_bytes(), b"");
     if left.status == DONE {
         assert_same(&rt, left.end(), end, "the run is done");
@@ -127,11 +114,11 @@ fn a_script_is_performed(rt: HostRuntime) {
 #[test]
 fn a_script_is_performed_beside_viewers(rt: HostRuntime) {
     let words = ["mfpic", "--viewers", "2"];
-    let left = performed_while_refused(&rt, &words);
+    let left = run_while_refused(&rt, &words);
     let end: End<'_> = (DONE, BESIDE_TWO.as_bytes(), b"");
     if left.status == DONE {
         assert_same(&rt, left.end(), end, "the run is done");
-    } else if left.errors.taken() == b"mfpic: NoPlace\n".as_slice() {
+    } else if left.errors.bytes() == b"mfpic: NoPlace\n".as_slice() {
         assert_has_no_place(&rt, &left);
     } else {
         assert_out_of_memory(&rt, &left);
@@ -145,7 +132,7 @@ fn a_font_file_is_written(rt: HostRuntime) -> Result<(), Fail> {
     let path = path_of(&rt, "wanting")?;
     let words = ["mfpic", "--gf", path.as_str()];
     put(&rt, path.as_str(), KEPT);
-    let left = performed_while_refused(&rt, &words);
+    let left = run_while_refused(&rt, &words);
     let end: End<'_> = (DONE, ALONE.as_bytes(), b"");
     if left.status == DONE {
         assert_same(&rt, left.end(), end, "the run is done");
@@ -164,7 +151,7 @@ fn a_font_file_is_written(rt: HostRuntime) -> Result<(), Fail> {
 #[test]
 fn words_are_refused(rt: HostRuntime) {
     let words = ["mfpic", "--viewers", "17"];
-    let left = performed_while_refused(&rt, &words);
+    let left = run_while_refused(&rt, &words);
     let end: End<'_> = (BAD_WORDS, b"", USAGE);
     if left.status == BAD_WORDS {
         assert_same(&rt, left.end(), end, "the words are refused");

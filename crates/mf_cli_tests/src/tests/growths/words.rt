@@ -1,16 +1,16 @@
 //! Words that are read while allocations are refused.
 
 use crate::tests::assertions::{assert_holds, assert_same};
-use crate::tests::words::{assert_reads, assert_refused, assert_words, command_line};
+use crate::tests::words::{assert_reads, assert_refused, assert_words};
 use mf_options::WordsFault;
-use mf_testing::{grow_again, refuse_growths};
+use mf_testing::{command_line, grow_again, refuse_growths};
 use mf_words::{Words, read_words};
 use std::process::Abort;
 
 /// What the words after the program's name ask for. Allocations are refused once the list of words is made.
 fn read_while_refused<R: Abort + AllocGlobal>(rt: &R, texts: &[&str]) -> Result<Words, WordsFault> {
     let alloc = rt.alloc();
-    let words = command_line(alloc, texts).expect(rt, "there is room for the words");
+    let words = command_line(alloc, "mfpic", texts).expect(rt, "there is room for the words");
     refuse_growths(alloc);
     let asked = read_words(alloc, words);
     grow_again(alloc);

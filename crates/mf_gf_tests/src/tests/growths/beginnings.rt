@@ -2,7 +2,7 @@
 
 use crate::tests::assertions::assert_same;
 use crate::tests::files::{Part, assert_parts};
-use crate::tests::{MAX_BYTES, assert_count, assert_length, assert_part, finished, ship_rectangle};
+use crate::tests::{MAX_BYTES, assert_count, assert_length, assert_part, finish, ship_rectangle};
 use mf_gf::{GfFault, GfFile};
 use mf_testing::{grow_again, refuse_growths};
 use std::alloc::Global;
@@ -20,7 +20,12 @@ fn longest_comment(rt: &impl Abort, alloc: Global) -> Vec<u8> {
 }
 
 /// The new file, or where it was refused, one that is made with ample memory.
-fn begun(rt: &impl Abort, alloc: Global, comment: &[u8], file: Result<GfFile, GfFault>) -> GfFile {
+fn begin_in_the_end(
+    rt: &impl Abort,
+    alloc: Global,
+    comment: &[u8],
+    file: Result<GfFile, GfFault>,
+) -> GfFile {
     match file {
         Ok(file) => file,
         Err(fault) => {
@@ -68,10 +73,10 @@ fn a_file_with_the_longest_comment_is_begun(rt: HostRuntime) {
     refuse_growths(alloc);
     let file = GfFile::new(alloc, &comment, MAX_BYTES);
     grow_again(alloc);
-    let mut file = begun(&rt, alloc, &comment, file);
+    let mut file = begin_in_the_end(&rt, alloc, &comment, file);
     assert_count(&rt, &file, 0);
     ship_rectangle(&rt, alloc, &mut file);
-    let file = finished(&rt, file);
+    let file = finish(&rt, file);
     assert_length(&rt, &file, 328);
     assert_part(&rt, &file, 0, b"\xf7\x83\xff", "the preamble");
     assert_part(&rt, &file, 3, &comment, "the comment");

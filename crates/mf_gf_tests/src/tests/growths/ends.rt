@@ -3,9 +3,9 @@
 use crate::tests::again::twice;
 use crate::tests::assertions::assert_same;
 use crate::tests::files::{WORDS, assert_bytes, corners, corners_file, one};
-use crate::tests::refusals::unfinished;
+use crate::tests::refusals::assert_end_refused;
 use crate::tests::{
-    MAX_BYTES, NO_WORDS, assert_count, finished, finished_with, ship_rectangle, with_rectangle,
+    MAX_BYTES, NO_WORDS, assert_count, finish, finish_with, ship_rectangle, with_rectangle,
 };
 use mf_gf::{FontWords, GfBytes, GfFault, GfFile};
 use mf_testing::{grow_again, refuse_growths};
@@ -13,7 +13,7 @@ use std::alloc::Global;
 use std::process::Abort;
 
 /// What finishing a file returns while allocations are refused.
-fn finished_while_refused(
+fn finish_while_refused(
     alloc: Global,
     file: GfFile,
     words: FontWords,
@@ -26,7 +26,7 @@ fn finished_while_refused(
 
 /// The finished file. Where it was refused because an allocation failed, the file must have the same number of characters as
 /// before, and is finished again.
-fn finished_again(
+fn finish_in_the_end(
     rt: &impl Abort,
     found: Result<GfBytes, (GfFile, GfFault)>,
     count: u32,
@@ -37,7 +37,7 @@ fn finished_again(
         Err((file, fault)) => {
             assert_same(rt, fault, GfFault::OutOfMemory, "the end");
             assert_count(rt, &file, count);
-            finished_with(rt, file, words)
+            finish_with(rt, file, words)
         }
     }
 }
@@ -46,8 +46,8 @@ fn finished_again(
 fn a_file_is_finished(rt: HostRuntime) {
     let alloc = rt.alloc();
     let file = corners_file(&rt, alloc);
-    let found = finished_while_refused(alloc, file, WORDS);
-    let bytes = finished_again(&rt, found, 3, WORDS);
+    let found = finish_while_refused(alloc, file, WORDS);
+    let bytes = finish_in_the_end(&rt, found, 3, WORDS);
     assert_bytes(&rt, alloc, &bytes, corners());
 }
 
@@ -56,12 +56,12 @@ fn a_file_is_finished(rt: HostRuntime) {
 fn a_file_goes_on_after_a_refused_end(rt: HostRuntime) {
     let alloc = rt.alloc();
     let file = with_rectangle(&rt, alloc, MAX_BYTES);
-    match finished_while_refused(alloc, file, NO_WORDS) {
+    match finish_while_refused(alloc, file, NO_WORDS) {
         Ok(bytes) => assert_bytes(&rt, alloc, &bytes, one()),
         Err((mut file, fault)) => {
             assert_same(&rt, fault, GfFault::OutOfMemory, "the end");
             ship_rectangle(&rt, alloc, &mut file);
-            assert_bytes(&rt, alloc, &finished(&rt, file), twice());
+            assert_bytes(&rt, alloc, &finish(&rt, file), twice());
         }
     }
 }
@@ -71,12 +71,12 @@ fn a_file_goes_on_after_a_refused_end(rt: HostRuntime) {
 fn an_end_that_is_too_long_is_refused_for_that(rt: HostRuntime) {
     let alloc = rt.alloc();
     let file = with_rectangle(&rt, alloc, 71);
-    match finished_while_refused(alloc, file, NO_WORDS) {
+    match finish_while_refused(alloc, file, NO_WORDS) {
         Ok(_) => panic!(rt; "the file is finished"),
         Err((file, fault)) => {
             assert_same(&rt, fault, GfFault::FileTooLong, "the end");
             assert_count(&rt, &file, 1);
-            unfinished(&rt, file, GfFault::FileTooLong);
+            assert_end_refused(&rt, file, GfFault::FileTooLong);
         }
     }
 }

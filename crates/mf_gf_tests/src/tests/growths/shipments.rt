@@ -3,9 +3,9 @@
 use crate::tests::again::twice;
 use crate::tests::assertions::assert_same;
 use crate::tests::files::{assert_bytes, one};
-use crate::tests::refusals::{long_rows, unfinished};
+use crate::tests::refusals::{assert_end_refused, long_rows};
 use crate::tests::{
-    MAX_BYTES, RECT, assert_count, finished, gf_file, picture, ship, ship_rectangle, with_rectangle,
+    MAX_BYTES, RECT, assert_count, finish, gf_file, picture, ship, ship_rectangle, with_rectangle,
 };
 use mf_gf::{GfFault, GfFile};
 use mf_rows::Picture;
@@ -27,7 +27,7 @@ const RECTANGLE: Character = Character {
 };
 
 /// What shipping a character returns while allocations are refused.
-fn shipped_while_refused(
+fn ship_while_refused(
     alloc: Global,
     file: &mut GfFile,
     character: Character,
@@ -50,7 +50,7 @@ fn is_shipped_while_refused(
     picture: &Picture,
 ) -> bool {
     let before = file.count();
-    let shipped = shipped_while_refused(alloc, file, character, picture);
+    let shipped = ship_while_refused(alloc, file, character, picture);
     if shipped.is_err() {
         assert_same(rt, shipped, Err(GfFault::OutOfMemory), "the character");
         assert_count(rt, file, before);
@@ -59,7 +59,7 @@ fn is_shipped_while_refused(
 }
 
 /// Ships a character while allocations are refused, and where that is refused, ships it again with ample memory.
-fn ship_while_refused(
+fn ship_in_the_end(
     rt: &impl Abort,
     alloc: Global,
     file: &mut GfFile,
@@ -76,9 +76,9 @@ fn a_first_character_is_shipped(rt: HostRuntime) {
     let alloc = rt.alloc();
     let rect = picture(&rt, alloc, RECT, 1);
     let mut file = gf_file(&rt, alloc);
-    ship_while_refused(&rt, alloc, &mut file, RECTANGLE, &rect);
+    ship_in_the_end(&rt, alloc, &mut file, RECTANGLE, &rect);
     assert_count(&rt, &file, 1);
-    assert_bytes(&rt, alloc, &finished(&rt, file), one());
+    assert_bytes(&rt, alloc, &finish(&rt, file), one());
 }
 
 /// Thirty pixels of row 9, from column -7 on. Their box is not in that of the rectangle.
@@ -102,9 +102,9 @@ fn a_first_character_is_left_out(rt: HostRuntime) {
     let far = picture(&rt, alloc, FAR, 1);
     let mut file = gf_file(&rt, alloc);
     if !is_shipped_while_refused(&rt, alloc, &mut file, SAME, &far) {
-        file = unfinished(&rt, file, GfFault::NoCharacters);
+        file = assert_end_refused(&rt, file, GfFault::NoCharacters);
         ship_rectangle(&rt, alloc, &mut file);
-        assert_bytes(&rt, alloc, &finished(&rt, file), one());
+        assert_bytes(&rt, alloc, &finish(&rt, file), one());
     } else {
         assert_count(&rt, &file, 1);
     }
@@ -155,9 +155,9 @@ fn assert_shipped_after_the_rectangle(
 ) {
     let far = picture(rt, alloc, FAR, 1);
     let mut file = with_rectangle(rt, alloc, MAX_BYTES);
-    ship_while_refused(rt, alloc, &mut file, character, &far);
+    ship_in_the_end(rt, alloc, &mut file, character, &far);
     assert_count(rt, &file, 2);
-    assert_bytes(rt, alloc, &finished(rt, file), bytes);
+    assert_bytes(rt, alloc, &finish(rt, file), bytes);
 }
 
 /// Ships the pixels `FAR` after the rectangle while allocations are refused. Asserts that the finished file has the bytes of the
@@ -172,7 +172,7 @@ fn assert_left_out_after_the_rectangle(
     let mut file = with_rectangle(rt, alloc, MAX_BYTES);
     let shipped = is_shipped_while_refused(rt, alloc, &mut file, character, &far);
     let expected = if shipped { bytes } else { one() };
-    assert_bytes(rt, alloc, &finished(rt, file), expected);
+    assert_bytes(rt, alloc, &finish(rt, file), expected);
 }
 
 #[test]
@@ -201,9 +201,9 @@ fn a_character_is_shipped_twice(rt: HostRuntime) {
     let alloc = rt.alloc();
     let rect = picture(&rt, alloc, RECT, 1);
     let mut file = with_rectangle(&rt, alloc, MAX_BYTES);
-    ship_while_refused(&rt, alloc, &mut file, RECTANGLE, &rect);
+    ship_in_the_end(&rt, alloc, &mut file, RECTANGLE, &rect);
     assert_count(&rt, &file, 2);
-    assert_bytes(&rt, alloc, &finished(&rt, file), twice());
+    assert_bytes(&rt, alloc, &finish(&rt, file), twice());
 }
 
 /// `OutOfMemory` never comes instead of `FileTooLong`: bytes for which an allocation fails are still counted.
@@ -212,8 +212,8 @@ fn a_character_that_is_too_long_is_refused_for_that(rt: HostRuntime) {
     let alloc = rt.alloc();
     let long = long_rows(&rt, alloc);
     let mut file = with_rectangle(&rt, alloc, 72);
-    let shipped = shipped_while_refused(alloc, &mut file, SAME, &long);
+    let shipped = ship_while_refused(alloc, &mut file, SAME, &long);
     assert_same(&rt, shipped, Err(GfFault::FileTooLong), "the character");
     assert_count(&rt, &file, 1);
-    assert_bytes(&rt, alloc, &finished(&rt, file), one());
+    assert_bytes(&rt, alloc, &finish(&rt, file), one());
 }
