@@ -6,7 +6,7 @@ use mf_geom::{Cycle, CycleFault, Point};
 use std::process::Abort;
 
 /// All that a cycle says of itself: its points, its turning number or the fault instead of it, and its area.
-fn known(cycle: &Cycle) -> (&[Point], Result<i32, CycleFault>, i64) {
+fn answers_of(cycle: &Cycle) -> (&[Point], Result<i32, CycleFault>, i64) {
     (cycle.points(), cycle.turning(), cycle.area())
 }
 
@@ -21,7 +21,12 @@ fn assert_cycle<R: Abort + AllocGlobal>(
 ) {
     let cycle = cycle_of(rt, corners, times);
     let points = walk(rt, corners, times);
-    assert_same(rt, known(&cycle), (&points, Ok(turning), area), corners);
+    assert_same(
+        rt,
+        answers_of(&cycle),
+        (&points, Ok(turning), area),
+        corners,
+    );
 }
 
 /// Asserts that each of these paths makes a cycle that keeps its points, has this area, and first turns straight back
@@ -31,7 +36,7 @@ fn assert_backtracks<R: Abort + AllocGlobal>(rt: &R, lists: &[(Corners, u32, i64
         let cycle = cycle_of(rt, corners, 1);
         let points = walk(rt, corners, 1);
         let turning = Err(CycleFault::Backtracks(*place));
-        assert_same(rt, known(&cycle), (&points, turning, *area), *corners);
+        assert_same(rt, answers_of(&cycle), (&points, turning, *area), *corners);
     }
 }
 
@@ -68,7 +73,7 @@ fn assert_copied<R: Abort + AllocGlobal>(rt: &R, corners: Corners, times: usize)
     let copy = cycle
         .copy(rt.alloc())
         .expect(rt, "there is room for the copy");
-    assert_same(rt, known(&copy), known(&cycle), corners);
+    assert_same(rt, answers_of(&copy), answers_of(&cycle), corners);
 }
 
 #[test]
