@@ -1,7 +1,7 @@
 //! Images whose allocations are refused, one after another. Each test asserts that the picture stays as it was, and that with
 //! ample memory it then has its image.
 
-use super::images::{Runs, SPOTS, SPOTS_PGM, SPOTS_SVG, built};
+use super::images::{Runs, SPOTS, SPOTS_PGM, SPOTS_SVG, picture_of};
 use crate::tests::assertions::assert_same;
 use mf_image::{ImageFault, pgm, svg};
 use mf_rows::{Picture, Run};
@@ -26,7 +26,7 @@ fn assert_picture(rt: &impl Abort, picture: &Picture, runs: Runs) {
 #[test]
 fn an_svg_image_is_written(rt: HostRuntime) {
     let alloc = rt.alloc();
-    let picture = built(&rt, alloc, SPOTS);
+    let picture = picture_of(&rt, alloc, SPOTS);
     refuse_growths(alloc);
     let image = svg(alloc, &picture);
     grow_again(alloc);
@@ -44,7 +44,7 @@ fn an_svg_image_is_written(rt: HostRuntime) {
 #[test]
 fn a_pgm_image_is_written(rt: HostRuntime) {
     let alloc = rt.alloc();
-    let picture = built(&rt, alloc, SPOTS);
+    let picture = picture_of(&rt, alloc, SPOTS);
     refuse_growths(alloc);
     let image = pgm(alloc, &picture);
     grow_again(alloc);
@@ -63,7 +63,7 @@ fn a_pgm_image_is_written(rt: HostRuntime) {
 #[test]
 fn an_image_that_is_too_large_comes_before_out_of_memory(rt: HostRuntime) {
     let (alloc, long): (Global, Runs) = (rt.alloc(), &[(0, -2, 4097, 1)]);
-    let picture = built(&rt, alloc, long);
+    let picture = picture_of(&rt, alloc, long);
     refuse_all_growths(alloc);
     let text = svg(alloc, &picture);
     let bytes = pgm(alloc, &picture);

@@ -102,7 +102,7 @@ pub(super) const SPOTS_PGM: &[u8] = b"P5\n# left -3 top 0\n5 3\n255\n\
 \xff\xff$\xff\xff";
 
 /// The picture of these runs.
-pub(super) fn built(rt: &impl Abort, alloc: Global, runs: &[(i32, i32, u32, i32)]) -> Picture {
+pub(super) fn picture_of(rt: &impl Abort, alloc: Global, runs: &[(i32, i32, u32, i32)]) -> Picture {
     let mut builder = RowBuilder::new(alloc);
     for (y, x, len, weight) in runs {
         let run = Run {
@@ -136,20 +136,20 @@ fn images_of_the_blank_picture(rt: HostRuntime) {
 #[test]
 fn images_of_a_letter(rt: HostRuntime) {
     let alloc = rt.alloc();
-    let letter = built(&rt, alloc, LETTER);
+    let letter = picture_of(&rt, alloc, LETTER);
     assert_images(&rt, alloc, &letter, LETTER_SVG, LETTER_PGM);
 }
 
 #[test]
 fn images_of_spots(rt: HostRuntime) {
     let alloc = rt.alloc();
-    let spots = built(&rt, alloc, SPOTS);
+    let spots = picture_of(&rt, alloc, SPOTS);
     assert_images(&rt, alloc, &spots, SPOTS_SVG, SPOTS_PGM);
 }
 
 /// Asserts that the picture of these runs is too large for images, or that it is not.
 fn assert_too_large(rt: &impl Abort, alloc: Global, runs: Runs, too_large: bool) {
-    let picture = built(rt, alloc, runs);
+    let picture = picture_of(rt, alloc, runs);
     let fault = if too_large {
         Some(ImageFault::ImageTooLarge)
     } else {
