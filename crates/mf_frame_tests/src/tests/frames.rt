@@ -29,7 +29,7 @@ pub(super) const PLAIN_TEE: &str =
     "████████\n▏  ██   \n▏▁▁██▁▁▁\nrevision 7  totalweight 28\ncolumns 0..7  rows 0..5  scale 1\n";
 
 /// The picture of these runs.
-pub(super) fn built(rt: &impl Abort, alloc: Global, runs: &[(i32, i32, u32, i32)]) -> Picture {
+pub(super) fn picture_of(rt: &impl Abort, alloc: Global, runs: &[(i32, i32, u32, i32)]) -> Picture {
     let mut builder = RowBuilder::new(alloc);
     for (y, x, len, weight) in runs {
         let run = Run {
@@ -59,7 +59,7 @@ fn assert_frame(
     style: Style,
     want: &str,
 ) {
-    let picture = built(rt, alloc, runs);
+    let picture = picture_of(rt, alloc, runs);
     let text = draw(alloc, &picture, 7, least_canvas(rt), style).expect(
         rt,
         "there is room for the frame",

@@ -2,18 +2,18 @@
 //! ample memory it then has its frame.
 
 use crate::tests::assertions::assert_same;
-use crate::tests::frames::{PLAIN_TEE, TEE, built, least_canvas};
+use crate::tests::frames::{PLAIN_TEE, TEE, least_canvas, picture_of};
 use mf_frame::{Style, draw};
 use mf_testing::{grow_again, refuse_growths};
 
 #[test]
 fn a_frame_is_drawn(rt: HostRuntime) {
     let alloc = rt.alloc();
-    let (picture, canvas) = (built(&rt, alloc, TEE), least_canvas(&rt));
+    let (picture, canvas) = (picture_of(&rt, alloc, TEE), least_canvas(&rt));
     refuse_growths(alloc);
     let text = draw(alloc, &picture, 7, canvas, Style::Plain);
     grow_again(alloc);
-    let same = picture.equal(&built(&rt, alloc, TEE));
+    let same = picture.equal(&picture_of(&rt, alloc, TEE));
     assert_same(&rt, same, true, "the picture");
     let text = text
         .or_else(|_| draw(alloc, &picture, 7, canvas, Style::Plain))
