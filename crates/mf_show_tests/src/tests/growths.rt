@@ -1,7 +1,7 @@
 //! Texts whose allocations are refused, one after another. Each test asserts that the picture stays as it was, and that with
 //! ample memory it then has its text.
 
-use super::texts::built;
+use super::texts::picture_of;
 use crate::tests::assertions::assert_same;
 use mf_rows::{Picture, Run};
 use mf_show::{GridFault, proof_grid, show_runs};
@@ -37,7 +37,7 @@ fn assert_picture(rt: &impl Abort, picture: &Picture, runs: Runs) {
 
 /// Asserts that the picture of these runs has this run text.
 fn assert_shown(rt: &impl Abort, alloc: Global, runs: Runs, want: &str) {
-    let picture = built(rt, alloc, runs);
+    let picture = picture_of(rt, alloc, runs);
     refuse_growths(alloc);
     let text = show_runs(alloc, &picture);
     grow_again(alloc);
@@ -61,7 +61,7 @@ fn no_runs_are_shown(rt: HostRuntime) {
 
 /// Asserts that the picture of these runs has this grid text.
 fn assert_drawn(rt: &impl Abort, alloc: Global, runs: Runs, want: &str) {
-    let picture = built(rt, alloc, runs);
+    let picture = picture_of(rt, alloc, runs);
     refuse_growths(alloc);
     let text = proof_grid(alloc, &picture);
     grow_again(alloc);
@@ -91,7 +91,7 @@ fn no_grid_is_drawn(rt: HostRuntime) {
 #[test]
 fn a_grid_that_is_too_large_comes_before_out_of_memory(rt: HostRuntime) {
     let (alloc, long): (Global, Runs) = (rt.alloc(), &[(0, 0, 129, 1)]);
-    let picture = built(&rt, alloc, long);
+    let picture = picture_of(&rt, alloc, long);
     refuse_all_growths(alloc);
     let text = proof_grid(alloc, &picture);
     grow_again(alloc);

@@ -33,14 +33,14 @@ fn contour(rt: &impl Abort, alloc: Global, corners: &[Point]) -> Op {
 }
 
 /// The picture after the contour through these corners is filled with weight 1.
-fn filled(rt: &impl Abort, alloc: Global, corners: &[Point]) -> Picture {
+fn fill(rt: &impl Abort, alloc: Global, corners: &[Point]) -> Picture {
     let contour = contour(rt, alloc, corners);
     after(alloc, &Picture::blank(alloc), &contour).expect(rt, "the contour is filled")
 }
 
 /// The pixel (0, 0) stretched to this number of columns and rows.
-fn stretched(rt: &impl Abort, alloc: Global, columns: i32, rows: i32) -> Picture {
-    let unit = filled(rt, alloc, UNIT);
+fn rectangle_of(rt: &impl Abort, alloc: Global, columns: i32, rows: i32) -> Picture {
+    let unit = fill(rt, alloc, UNIT);
     let scale = Scale::new(columns, rows).expect(rt, "the factors are lawful");
     after(alloc, &unit, &Op::Scale(scale)).expect(rt, "no pixel leaves the field")
 }
@@ -54,7 +54,7 @@ fn push(rt: &impl Abort, builder: &mut RowBuilder, run: Run) {
 }
 
 /// The picture of these runs, given as row, first column, length and weight.
-pub(super) fn built(rt: &impl Abort, alloc: Global, runs: &[(i32, i32, u32, i32)]) -> Picture {
+pub(super) fn picture_of(rt: &impl Abort, alloc: Global, runs: &[(i32, i32, u32, i32)]) -> Picture {
     let mut builder = RowBuilder::new(alloc);
     for (y, x, len, weight) in runs {
         let run = Run {
@@ -97,12 +97,12 @@ fn assert_run_texts(
     text: &str,
     grid: &str,
 ) {
-    assert_texts(rt, alloc, &built(rt, alloc, runs), text, grid);
+    assert_texts(rt, alloc, &picture_of(rt, alloc, runs), text, grid);
 }
 
 /// Asserts that the picture of these runs has this run text, and is too large for a grid.
 fn assert_no_grid(rt: &impl Abort, alloc: Global, runs: &[(i32, i32, u32, i32)], text: &str) {
-    let picture = built(rt, alloc, runs);
+    let picture = picture_of(rt, alloc, runs);
     assert_runs(rt, alloc, &picture, text);
     assert_too_large(rt, alloc, &picture);
 }
@@ -110,7 +110,7 @@ fn assert_no_grid(rt: &impl Abort, alloc: Global, runs: &[(i32, i32, u32, i32)],
 #[test]
 fn texts_of_a_rectangle(rt: HostRuntime) {
     let alloc = rt.alloc();
-    let rectangle = filled(&rt, alloc, RECTANGLE);
+    let rectangle = fill(&rt, alloc, RECTANGLE);
     assert_texts(&rt, alloc, &rectangle, "1 0 2 1\n0 0 2 1\n", "111\n111\n");
 }
 
@@ -149,7 +149,7 @@ const WEIGHTS: &[(i32, &str)] = &[
 /// Asserts that a pixel of each of these weights has its grid text.
 fn assert_pixels(rt: &impl Abort, alloc: Global, weights: &[(i32, &str)]) {
     for (weight, want) in weights {
-        let pixel = built(rt, alloc, &[(0, 0, 1, *weight)]);
+        let pixel = picture_of(rt, alloc, &[(0, 0, 1, *weight)]);
         assert_grid(rt, alloc, &pixel, want);
     }
 }
@@ -225,7 +225,7 @@ fn ones(alloc: Global, columns: i32, rows: i32) -> Result<Vec<u8>, AllocError> {
 /// Asserts that a rectangle with this number of columns and rows has its grid text.
 fn assert_full(rt: &impl Abort, alloc: Global, columns: i32, rows: i32) {
     let want = ones(alloc, columns, rows).expect(rt, "there is room for the grid");
-    let text = proof_grid(alloc, &stretched(rt, alloc, columns, rows)).expect(
+    let text = proof_grid(alloc, &rectangle_of(rt, alloc, columns, rows)).expect(
         rt,
         "the grid is not too large",
     );
@@ -239,7 +239,7 @@ fn assert_full(rt: &impl Abort, alloc: Global, columns: i32, rows: i32) {
 
 /// Asserts that a rectangle with this number of columns and rows is too large for a grid.
 fn assert_overfull(rt: &impl Abort, alloc: Global, columns: i32, rows: i32) {
-    assert_too_large(rt, alloc, &stretched(rt, alloc, columns, rows));
+    assert_too_large(rt, alloc, &rectangle_of(rt, alloc, columns, rows));
 }
 
 #[test]
