@@ -2,7 +2,7 @@
 //! `OutOfMemory`, and with ample memory it has its command or its own refusal.
 
 use super::contours::assert_is_contour;
-use super::lines::repeated;
+use super::lines::repeat;
 use super::{assert_bytes_refused, read};
 use crate::tests::assertions::assert_same;
 use mf_geom::{CycleFault, Point};
@@ -51,7 +51,7 @@ const CORNER: &[Point] = &[
 ];
 
 /// Reads a line while allocations are refused.
-fn read_refused(alloc: Global, line: &[u8]) -> Result<Command, TextFault> {
+fn read_while_refused(alloc: Global, line: &[u8]) -> Result<Command, TextFault> {
     refuse_growths(alloc);
     let answer = read_command(alloc, line);
     grow_again(alloc);
@@ -67,7 +67,7 @@ fn assert_read(
     expected: (Name, i32),
     points: &[Point],
 ) {
-    let command = match read_refused(alloc, line.as_bytes()) {
+    let command = match read_while_refused(alloc, line.as_bytes()) {
         Ok(command) => command,
         Err(fault) => {
             assert_same(rt, fault, TextFault::OutOfMemory, line);
@@ -95,7 +95,7 @@ fn a_contour_with_a_weight_is_read(rt: HostRuntime) {
 /// reading the points of its path allocates.
 fn assert_column(rt: &impl Abort, alloc: Global, line: &[u8], column: u32) {
     let fault = TextFault::Syntax(column);
-    let found = read_refused(alloc, line).err();
+    let found = read_while_refused(alloc, line).err();
     assert_same(rt, found, Some(fault), ("without memory", column));
     assert_bytes_refused(rt, alloc, line, fault, ("with memory", column));
 }
@@ -121,7 +121,7 @@ fn a_second_number_is_refused_for_its_form(rt: HostRuntime) {
 
 /// The line of a contour of 4,097 points, one more than a cycle may have, with this end.
 fn too_many_points(rt: &impl Abort, alloc: Global, end: &[u8]) -> Vec<u8> {
-    repeated(alloc, b"addto a contour ", b"(0,0)--", 4097, end).expect(
+    repeat(alloc, b"addto a contour ", b"(0,0)--", 4097, end).expect(
         rt,
         "there is room for the line",
     )
@@ -136,7 +136,7 @@ fn too_many_points_without_an_end_are_refused_for_their_form(rt: HostRuntime) {
 /// Asserts that a contour in the grammar is refused with this fault of its values, or with `OutOfMemory`; with ample memory it is
 /// refused with this fault.
 fn assert_fault(rt: &impl Abort, alloc: Global, line: &[u8], fault: TextFault) {
-    let found = read_refused(alloc, line).err();
+    let found = read_while_refused(alloc, line).err();
     if found != Some(TextFault::OutOfMemory) {
         assert_same(rt, found, Some(fault), ("without memory", fault));
     }

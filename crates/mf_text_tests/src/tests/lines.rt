@@ -21,7 +21,7 @@ fn lines_without_a_command(rt: HostRuntime) {
 }
 
 /// The bytes `begin`, then `count` times `piece`, and then `end`.
-pub(super) fn repeated(
+pub(super) fn repeat(
     alloc: Global,
     begin: &[u8],
     piece: &[u8],
@@ -38,7 +38,7 @@ pub(super) fn repeated(
 
 /// As many spaces as a line may have bytes, and then these bytes.
 fn spaces(rt: &impl Abort, alloc: Global, end: &[u8]) -> Vec<u8> {
-    repeated(alloc, b"", b" ", 65_536, end).expect(rt, "there is room for the line")
+    repeat(alloc, b"", b" ", 65_536, end).expect(rt, "there is room for the line")
 }
 
 /// Asserts that a line of the greatest length, all spaces, has no command.
@@ -102,7 +102,7 @@ fn assert_points_refused(
     end: &str,
     fault: TextFault,
 ) {
-    let line = repeated(
+    let line = repeat(
         alloc,
         b"addto a contour ",
         b"(0,0)--",

@@ -70,6 +70,6 @@ fn assert_all_refused(rt: &impl Abort, alloc: Global, lines: &[(&str, TextFault)
 }
 
 #[test]
-fn refused_values(rt: HostRuntime) {
+fn values_are_refused(rt: HostRuntime) {
     assert_all_refused(&rt, rt.alloc(), REFUSED);
 }
