@@ -58,7 +58,12 @@ fn contour<R: Abort + AllocGlobal>(rt: &R, corners: Corners, times: usize, numbe
 }
 
 /// The same contour with the turning check off.
-fn unchecked<R: Abort + AllocGlobal>(rt: &R, corners: Corners, times: usize, number: i32) -> Op {
+fn unchecked_contour<R: Abort + AllocGlobal>(
+    rt: &R,
+    corners: Corners,
+    times: usize,
+    number: i32,
+) -> Op {
     Op::Contour(cycle(rt, corners, times), weight(rt, number), Check::Off)
 }
 
@@ -95,7 +100,7 @@ fn copy_of<R: Abort + AllocGlobal>(rt: &R, picture: &Picture) -> Picture {
 }
 
 /// The picture after an operation, which must be accepted.
-fn accepted<R: Abort + AllocGlobal>(rt: &R, picture: &Picture, op: &Op) -> Picture {
+fn picture_after<R: Abort + AllocGlobal>(rt: &R, picture: &Picture, op: &Op) -> Picture {
     after(rt.alloc(), picture, op).expect(rt, "the operation is accepted")
 }
 
@@ -120,19 +125,19 @@ fn assert_blank<R: Abort + AllocGlobal>(rt: &R, picture: &Picture) {
 }
 
 /// The picture after these contours, each walked a number of times and with its weight, are filled in one after another.
-fn wound<R: Abort + AllocGlobal>(rt: &R, contours: &[(Corners, usize, i32)]) -> Picture {
+fn wind<R: Abort + AllocGlobal>(rt: &R, contours: &[(Corners, usize, i32)]) -> Picture {
     let mut picture = Picture::blank(rt.alloc());
     for (corners, times, number) in contours {
-        picture = accepted(rt, &picture, &contour(rt, corners, *times, *number));
+        picture = picture_after(rt, &picture, &contour(rt, corners, *times, *number));
     }
     picture
 }
 
 /// The picture after these contours, each with its weight, are filled in one after another.
-fn filled<R: Abort + AllocGlobal>(rt: &R, contours: &[(Corners, i32)]) -> Picture {
+fn fill<R: Abort + AllocGlobal>(rt: &R, contours: &[(Corners, i32)]) -> Picture {
     let mut picture = Picture::blank(rt.alloc());
     for (corners, number) in contours {
-        picture = accepted(rt, &picture, &contour(rt, corners, 1, *number));
+        picture = picture_after(rt, &picture, &contour(rt, corners, 1, *number));
     }
     picture
 }

@@ -1,9 +1,9 @@
 //! Contours.
 
 use super::{
-    CLOCKWISE, Corners, FIELD, PIXEL, RECTANGLE, accepted, assert_bounds, assert_refused,
-    assert_runs, assert_some_runs, assert_total, assert_weights, contour, filled, run, weight,
-    wound,
+    CLOCKWISE, Corners, FIELD, PIXEL, RECTANGLE, assert_bounds, assert_refused, assert_runs,
+    assert_some_runs, assert_total, assert_weights, contour, fill, picture_after, run, weight,
+    wind,
 };
 use crate::tests::assertions::{assert_holds, assert_same};
 use mf_ops::{OpFault, Weight};
@@ -12,7 +12,7 @@ use std::process::Abort;
 
 /// Asserts that these contours, each with its weight, fill exactly these runs.
 fn assert_filled<R: Abort + AllocGlobal>(rt: &R, contours: &[(Corners, i32)], runs: &[Run]) {
-    assert_runs(rt, &filled(rt, contours), runs);
+    assert_runs(rt, &fill(rt, contours), runs);
 }
 
 /// Asserts that these numbers are weights of contours, and keep their values.
@@ -36,7 +36,7 @@ fn weights_of_contours(rt: HostRuntime) {
 }
 
 /// The picture with these runs. Each run must fit after the ones before it.
-pub(super) fn built<R: Abort + AllocGlobal>(rt: &R, runs: &[Run]) -> Picture {
+pub(super) fn picture_of<R: Abort + AllocGlobal>(rt: &R, runs: &[Run]) -> Picture {
     let mut builder = RowBuilder::new(rt.alloc());
     for run in runs {
         assert_holds(rt, builder.fits(run), ("fits", *run));
@@ -60,10 +60,10 @@ fn assert_same_weights(rt: &impl Abort, filled: &Picture, built: &Picture) {
 
 /// Asserts that filling the path through these corners gives these runs, with six pixels of weight 1.
 fn assert_fills<R: Abort + AllocGlobal>(rt: &R, corners: Corners, runs: &[Run]) {
-    let filled = filled(rt, &[(corners, 1)]);
+    let filled = fill(rt, &[(corners, 1)]);
     assert_runs(rt, &filled, runs);
     assert_total(rt, &filled, 6);
-    assert_same_weights(rt, &filled, &built(rt, runs));
+    assert_same_weights(rt, &filled, &picture_of(rt, runs));
 }
 
 #[test]
@@ -81,7 +81,7 @@ fn assert_wound<R: Abort + AllocGlobal>(
     total: i64,
     pixels: &[(i32, i32, i32)],
 ) {
-    let picture = wound(rt, contours);
+    let picture = wind(rt, contours);
     assert_total(rt, &picture, total);
     assert_weights(rt, &picture, pixels);
 }
@@ -102,7 +102,7 @@ fn with_turns<R: Abort + AllocGlobal>(
     number: i32,
     weight: i32,
 ) -> Picture {
-    let sum = accepted(rt, picture, &contour(rt, PIXEL, times, number));
+    let sum = picture_after(rt, picture, &contour(rt, PIXEL, times, number));
     assert_weights(rt, &sum, &[(0, 0, weight)]);
     sum
 }
@@ -121,7 +121,7 @@ fn assert_limit<R: Abort + AllocGlobal>(
     one: i32,
     [tenfold, nearly, greatest]: [i32; 3],
 ) {
-    let picture = wound(rt, &[(PIXEL, 1024, three); 9]);
+    let picture = wind(rt, &[(PIXEL, 1024, three); 9]);
     let full = with_turns(rt, &picture, 1024, three, tenfold);
     // 33792 in absolute value
     assert_too_many(rt, &full, 1024, three);
@@ -153,7 +153,7 @@ const FIELD_PIXELS: [(i32, i32, i32); 8] = [
 
 #[test]
 fn fills_the_whole_field(rt: HostRuntime) {
-    let full = filled(&rt, &[(FIELD, 1)]);
+    let full = fill(&rt, &[(FIELD, 1)]);
     // 8190 rows of 8190 pixels
     assert_total(&rt, &full, 67_076_100);
     let runs = [
@@ -219,7 +219,7 @@ fn contours_overlap(rt: HostRuntime) {
 
 /// Asserts that these contours cancel.
 fn assert_cancel<R: Abort + AllocGlobal>(rt: &R, contours: &[(Corners, i32)]) {
-    let nothing = filled(rt, contours);
+    let nothing = fill(rt, contours);
     assert_runs(rt, &nothing, &[]);
     assert_total(rt, &nothing, 0);
     assert_bounds(rt, &nothing, None);

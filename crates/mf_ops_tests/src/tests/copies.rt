@@ -1,8 +1,8 @@
 //! Copies of operations, and operations performed on a picture in place.
 
 use super::{
-    CLOCKWISE, RECTANGLE, accepted, assert_equal, assert_total, contour, copy_of, dropping, filled,
-    keeping, scale, turn, unchecked,
+    CLOCKWISE, RECTANGLE, assert_equal, assert_total, contour, copy_of, dropping, fill, keeping,
+    picture_after, scale, turn, unchecked_contour,
 };
 use mf_ops::{Op, apply};
 use mf_rows::{Picture, Sign};
@@ -10,11 +10,11 @@ use std::process::Abort;
 
 /// The rectangle, with weight 2.
 fn rectangle<R: Abort + AllocGlobal>(rt: &R) -> Picture {
-    filled(rt, &[(RECTANGLE, 2)])
+    fill(rt, &[(RECTANGLE, 2)])
 }
 
 /// A copy of the picture, after an operation is performed on it in place.
-fn changed<R: Abort + AllocGlobal>(rt: &R, picture: &Picture, op: &Op) -> Picture {
+fn after_in_place<R: Abort + AllocGlobal>(rt: &R, picture: &Picture, op: &Op) -> Picture {
     let mut changed = copy_of(rt, picture);
     apply(rt.alloc(), &mut changed, op).expect(rt, "the operation is performed");
     changed
@@ -23,15 +23,20 @@ fn changed<R: Abort + AllocGlobal>(rt: &R, picture: &Picture, op: &Op) -> Pictur
 /// Asserts that the copy of an operation makes the same picture as the operation, and so does performing it in place.
 fn assert_again<R: Abort + AllocGlobal>(rt: &R, picture: &Picture, op: &Op, new: &Picture) {
     let copy = op.copy(rt.alloc()).expect(rt, "there is room for the copy");
-    assert_equal(rt, &accepted(rt, picture, &copy), new, "the copy");
-    assert_equal(rt, &changed(rt, picture, op), new, "the picture itself");
+    assert_equal(rt, &picture_after(rt, picture, &copy), new, "the copy");
+    assert_equal(
+        rt,
+        &after_in_place(rt, picture, op),
+        new,
+        "the picture itself",
+    );
 }
 
 /// Asserts that an operation on the rectangle makes a picture with this total, that its copy makes the same picture, and so does
 /// performing it in place.
 fn assert_effect<R: Abort + AllocGlobal>(rt: &R, op: Op, total: i64) {
     let rectangle = rectangle(rt);
-    let new = accepted(rt, &rectangle, &op);
+    let new = picture_after(rt, &rectangle, &op);
     assert_total(rt, &new, total);
     assert_again(rt, &rectangle, &op, &new);
 }
@@ -41,7 +46,7 @@ fn additions_have_their_effect(rt: HostRuntime) {
     assert_effect(&rt, contour(&rt, RECTANGLE, 1, -1), 6);
     // Clockwise: negated where it is checked, and not negated where it is not.
     assert_effect(&rt, contour(&rt, CLOCKWISE, 1, 1), 18);
-    assert_effect(&rt, unchecked(&rt, CLOCKWISE, 1, 1), 6);
+    assert_effect(&rt, unchecked_contour(&rt, CLOCKWISE, 1, 1), 6);
     assert_effect(&rt, Op::Also(rectangle(&rt), Sign::Plus), 24);
     assert_effect(&rt, Op::Also(rectangle(&rt), Sign::Minus), 0);
 }

@@ -1,8 +1,8 @@
 //! Culls.
 
 use super::{
-    CLOCKWISE, Corners, PIXEL, accepted, assert_blank, assert_runs, dropping, filled, keeping, run,
-    weight,
+    CLOCKWISE, Corners, PIXEL, assert_blank, assert_runs, dropping, fill, keeping, picture_after,
+    run, weight,
 };
 use crate::tests::assertions::assert_same;
 use mf_ops::{BadCull, Cull, Op};
@@ -17,7 +17,7 @@ fn assert_kept<R: Abort + AllocGlobal>(
     number: i32,
     runs: &[Run],
 ) {
-    let culled = accepted(rt, picture, &keeping(rt, low, high, number));
+    let culled = picture_after(rt, picture, &keeping(rt, low, high, number));
     assert_runs(rt, &culled, runs);
 }
 
@@ -29,7 +29,7 @@ fn assert_dropped<R: Abort + AllocGlobal>(
     number: i32,
     runs: &[Run],
 ) {
-    let culled = accepted(rt, picture, &dropping(rt, low, high, number));
+    let culled = picture_after(rt, picture, &dropping(rt, low, high, number));
     assert_runs(rt, &culled, runs);
 }
 
@@ -38,7 +38,7 @@ fn bars<R: Abort + AllocGlobal>(rt: &R) -> Picture {
     let long: Corners = &[(0, 0), (3, 0), (3, 1), (0, 1)];
     let middle: Corners = &[(1, 0), (3, 0), (3, 1), (1, 1)];
     let short: Corners = &[(2, 0), (3, 0), (3, 1), (2, 1)];
-    filled(rt, &[(long, 1), (middle, 1), (short, 1)])
+    fill(rt, &[(long, 1), (middle, 1), (short, 1)])
 }
 
 #[test]
@@ -63,7 +63,7 @@ fn drops_some_of_three_bars(rt: HostRuntime) {
 
 #[test]
 fn drops_weights_down_to_minus_one(rt: HostRuntime) {
-    let pixel = filled(&rt, &[(PIXEL, -2)]);
+    let pixel = fill(&rt, &[(PIXEL, -2)]);
     assert_dropped(&rt, &pixel, (-1, 1), 1, &[run(0, 0, 1, 1)]);
     assert_kept(&rt, &pixel, (-2, -2), -1, &[run(0, 0, 1, -1)]);
     assert_kept(&rt, &pixel, (i32::MIN, -1), 3, &[run(0, 0, 1, 3)]);
@@ -74,7 +74,7 @@ fn drops_weights_down_to_minus_one(rt: HostRuntime) {
 fn rows_of_one_contour_are_culled_alike(rt: HostRuntime) {
     let across: Corners = &[(-2, 4029), (2, 4029), (2, 4032), (-2, 4032)];
     let low: Corners = &[(0, 4030), (2, 4030), (2, 4031), (0, 4031)];
-    let picture = filled(&rt, &[(across, 2), (low, 1), (CLOCKWISE, -1)]);
+    let picture = fill(&rt, &[(across, 2), (low, 1), (CLOCKWISE, -1)]);
     let twos = [
         run(4031, -2, 4, 1),
         run(4030, -2, 2, 1),
@@ -128,5 +128,5 @@ fn refuses_the_other_ranges(rt: HostRuntime) {
 
 #[test]
 fn clears_a_picture(rt: HostRuntime) {
-    assert_blank(&rt, &accepted(&rt, &bars(&rt), &Op::Clear));
+    assert_blank(&rt, &picture_after(&rt, &bars(&rt), &Op::Clear));
 }

@@ -20,9 +20,9 @@ mod limits;
 mod moves;
 mod plan;
 
-use super::{accepted, assert_runs};
+use super::{assert_runs, picture_after};
 use crate::tests::assertions::assert_same;
-use crate::tests::contours::built;
+use crate::tests::contours::picture_of;
 use mf_ops::{Op, OpFault, after, apply};
 use mf_rows::{Picture, Run};
 use mf_testing::{grow_again, refuse_growths};
@@ -39,7 +39,7 @@ const APART: &[Run] = &[
 ];
 
 /// What `after` returns while allocations are refused.
-fn after_refused<R: Abort + AllocGlobal>(
+fn after_while_refused<R: Abort + AllocGlobal>(
     rt: &R,
     picture: &Picture,
     op: &Op,
@@ -51,7 +51,7 @@ fn after_refused<R: Abort + AllocGlobal>(
 }
 
 /// What `apply` returns while allocations are refused.
-fn apply_refused<R: Abort + AllocGlobal>(
+fn apply_while_refused<R: Abort + AllocGlobal>(
     rt: &R,
     picture: &mut Picture,
     op: &Op,
@@ -69,16 +69,16 @@ fn assert_out_of_memory(rt: &impl Abort, fault: OpFault, plan: Plan) {
 
 /// Asserts that an operation makes a picture with these runs out of the rows.
 fn assert_makes<R: Abort + AllocGlobal>(rt: &R, plan: Plan, runs: &[Run]) {
-    let picture = built(rt, APART);
+    let picture = picture_of(rt, APART);
     let op = plan.op(rt, &picture);
-    let answer = after_refused(rt, &picture, &op);
+    let answer = after_while_refused(rt, &picture, &op);
     assert_runs(rt, &picture, APART);
     plan.assert_is(rt, &op);
     let new = match answer {
         Ok(new) => new,
         Err(fault) => {
             assert_out_of_memory(rt, fault, plan);
-            accepted(rt, &picture, &op)
+            picture_after(rt, &picture, &op)
         }
     };
     assert_runs(rt, &new, runs);
@@ -88,9 +88,9 @@ fn assert_makes<R: Abort + AllocGlobal>(rt: &R, plan: Plan, runs: &[Run]) {
 
 /// Asserts that an operation performed on the rows in place turns them into these runs.
 fn assert_applies<R: Abort + AllocGlobal>(rt: &R, plan: Plan, runs: &[Run]) {
-    let mut picture = built(rt, APART);
+    let mut picture = picture_of(rt, APART);
     let op = plan.op(rt, &picture);
-    let answer = apply_refused(rt, &mut picture, &op);
+    let answer = apply_while_refused(rt, &mut picture, &op);
     plan.assert_is(rt, &op);
     if let Err(fault) = answer {
         assert_out_of_memory(rt, fault, plan);

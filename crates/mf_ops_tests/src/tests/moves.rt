@@ -1,8 +1,8 @@
 //! Shifts, scales and turns.
 
 use super::{
-    Corners, PIXEL, RECTANGLE, accepted, assert_bounds, assert_equal, assert_refused, assert_runs,
-    assert_total, assert_weights, filled, run, scale, turn, wound,
+    Corners, PIXEL, RECTANGLE, assert_bounds, assert_equal, assert_refused, assert_runs,
+    assert_total, assert_weights, fill, picture_after, run, scale, turn, wind,
 };
 use crate::tests::assertions::{assert_holds, assert_same};
 use mf_ops::{BadScale, BadTurn, Op, OpFault, Quarter, Scale};
@@ -11,22 +11,22 @@ use std::process::Abort;
 
 /// The picture of the pixel (x, y) with weight 1.
 fn pixel<R: Abort + AllocGlobal>(rt: &R, (x, y): (i32, i32)) -> Picture {
-    shifted(rt, &filled(rt, &[(PIXEL, 1)]), x, y)
+    shift_of(rt, &fill(rt, &[(PIXEL, 1)]), x, y)
 }
 
 /// A picture after a turn by this angle.
-fn turned<R: Abort + AllocGlobal>(rt: &R, picture: &Picture, angle: i32) -> Picture {
-    accepted(rt, picture, &turn(rt, angle))
+fn turn_of<R: Abort + AllocGlobal>(rt: &R, picture: &Picture, angle: i32) -> Picture {
+    picture_after(rt, picture, &turn(rt, angle))
 }
 
 /// A picture after a shift.
-fn shifted<R: Abort + AllocGlobal>(rt: &R, picture: &Picture, right: i32, up: i32) -> Picture {
-    accepted(rt, picture, &Op::Shift(right, up))
+fn shift_of<R: Abort + AllocGlobal>(rt: &R, picture: &Picture, right: i32, up: i32) -> Picture {
+    picture_after(rt, picture, &Op::Shift(right, up))
 }
 
 /// Asserts that an operation on this pixel makes a picture with these runs.
 fn assert_moves<R: Abort + AllocGlobal>(rt: &R, place: (i32, i32), op: Op, runs: &[Run]) {
-    assert_runs(rt, &accepted(rt, &pixel(rt, place), &op), runs);
+    assert_runs(rt, &picture_after(rt, &pixel(rt, place), &op), runs);
 }
 
 /// Asserts that an operation is refused because it takes this pixel out of the field.
@@ -60,7 +60,7 @@ fn turns_the_first_pixel(rt: HostRuntime) {
 
 #[test]
 fn scales_a_pixel_to_a_row(rt: HostRuntime) {
-    let wide = accepted(&rt, &pixel(&rt, (0, 0)), &scale(&rt, -4095, 1));
+    let wide = picture_after(&rt, &pixel(&rt, (0, 0)), &scale(&rt, -4095, 1));
     let bounds = Box4 {
         min_x: -4095,
         max_x: -1,
@@ -98,7 +98,7 @@ fn a_corner_goes_to_others(rt: HostRuntime) {
 /// Asserts that an operation leaves the blank picture blank.
 fn assert_blank_stays<R: Abort + AllocGlobal>(rt: &R, op: Op) {
     let blank = Picture::blank(rt.alloc());
-    let still = accepted(rt, &blank, &op);
+    let still = picture_after(rt, &blank, &op);
     assert_equal(rt, &still, &blank, "the blank picture");
 }
 
@@ -170,18 +170,18 @@ fn refuses_other_factors_and_angles(rt: HostRuntime) {
 }
 
 /// An L: a column of three pixels, and one more pixel to the right of its foot.
-fn standing<R: Abort + AllocGlobal>(rt: &R) -> Picture {
+fn letter_l<R: Abort + AllocGlobal>(rt: &R) -> Picture {
     let shape: Corners = &[(0, 0), (2, 0), (2, 1), (1, 1), (1, 3), (0, 3)];
-    filled(rt, &[(shape, 2)])
+    fill(rt, &[(shape, 2)])
 }
 
 /// Asserts that the L, turned by an angle, has these runs, and is the L again when it is turned back.
 fn assert_turned<R: Abort + AllocGlobal>(rt: &R, angle: i32, runs: &[Run]) {
-    let standing = standing(rt);
-    let there = turned(rt, &standing, angle);
+    let standing = letter_l(rt);
+    let there = turn_of(rt, &standing, angle);
     assert_runs(rt, &there, runs);
     assert_total(rt, &there, 8);
-    let back = turned(rt, &there, 360i32.wrapping_sub(angle));
+    let back = turn_of(rt, &there, 360i32.wrapping_sub(angle));
     assert_equal(rt, &back, &standing, "turned back");
 }
 
@@ -194,7 +194,7 @@ fn an_l_is_turned_all_the_way(rt: HostRuntime) {
 }
 
 /// The first column, or row, of those that a factor makes of this one.
-fn stretched(place: i32, factor: i32) -> i32 {
+fn first_place(place: i32, factor: i32) -> i32 {
     let (start, end) = (
         place.wrapping_mul(factor),
         place.wrapping_add(1).wrapping_mul(factor),
@@ -207,7 +207,7 @@ fn assert_stretched(rt: &impl Abort, picture: &Picture, scaled: &Picture, (x, y)
     for row in -2..5 {
         for column in -2..5 {
             let weight = picture.weight(column, row);
-            let place = (stretched(column, x), stretched(row, y), weight);
+            let place = (first_place(column, x), first_place(row, y), weight);
             assert_weights(rt, scaled, &[place]);
         }
     }
@@ -215,7 +215,7 @@ fn assert_stretched(rt: &impl Abort, picture: &Picture, scaled: &Picture, (x, y)
 
 /// Asserts that scaling a picture by these factors multiplies its total by the absolute value of their product.
 fn assert_scaled<R: Abort + AllocGlobal>(rt: &R, picture: &Picture, factors: (i32, i32)) {
-    let scaled = accepted(rt, picture, &scale(rt, factors.0, factors.1));
+    let scaled = picture_after(rt, picture, &scale(rt, factors.0, factors.1));
     let size = i64::from(factors.0.wrapping_mul(factors.1).wrapping_abs());
     assert_total(rt, &scaled, picture.total().wrapping_mul(size));
     assert_stretched(rt, picture, &scaled, factors);
@@ -224,7 +224,7 @@ fn assert_scaled<R: Abort + AllocGlobal>(rt: &R, picture: &Picture, factors: (i3
 #[test]
 fn scales_multiply_the_total(rt: HostRuntime) {
     let middle: Corners = &[(1, 1), (2, 1), (2, 3), (1, 3)];
-    let picture = filled(&rt, &[(RECTANGLE, 1), (middle, -3)]);
+    let picture = fill(&rt, &[(RECTANGLE, 1), (middle, -3)]);
     assert_scaled(&rt, &picture, (2, 3));
     assert_scaled(&rt, &picture, (-2, 3));
     assert_scaled(&rt, &picture, (2, -3));
@@ -234,15 +234,15 @@ fn scales_multiply_the_total(rt: HostRuntime) {
 
 /// Asserts that a shift moves the weight of the pixel (0, 0) as far as it says, and that shifting back restores the picture.
 fn assert_shifted<R: Abort + AllocGlobal>(rt: &R, picture: &Picture, right: i32, up: i32) {
-    let there = shifted(rt, picture, right, up);
+    let there = shift_of(rt, picture, right, up);
     assert_weights(rt, &there, &[(right, up, picture.weight(0, 0))]);
-    let back = shifted(rt, &there, right.wrapping_neg(), up.wrapping_neg());
+    let back = shift_of(rt, &there, right.wrapping_neg(), up.wrapping_neg());
     assert_equal(rt, &back, picture, "shifted back");
 }
 
 #[test]
 fn moved_pictures_move_back(rt: HostRuntime) {
-    let picture = wound(&rt, &[(RECTANGLE, 1, 2), (PIXEL, 3, -1)]);
+    let picture = wind(&rt, &[(RECTANGLE, 1, 2), (PIXEL, 3, -1)]);
     assert_shifted(&rt, &picture, 1, 1);
     assert_shifted(&rt, &picture, -64, 128);
     assert_shifted(&rt, &picture, 4000, -4095);

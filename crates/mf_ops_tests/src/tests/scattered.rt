@@ -1,6 +1,6 @@
 //! Pictures of scattered pixels, which are moved there and back.
 
-use super::{PIXEL, accepted, assert_total, assert_weights, filled, scale, turn};
+use super::{PIXEL, assert_total, assert_weights, fill, picture_after, scale, turn};
 use crate::tests::assertions::assert_holds;
 use mf_ops::Op;
 use mf_rows::{Picture, Sign};
@@ -11,12 +11,12 @@ const PICTURES: i32 = 10;
 
 /// The operation that adds or subtracts the pixel (x, y).
 fn signed_pixel<R: Abort + AllocGlobal>(rt: &R, x: i32, y: i32, sign: Sign) -> Op {
-    let unit = filled(rt, &[(PIXEL, 1)]);
-    Op::Also(accepted(rt, &unit, &Op::Shift(x, y)), sign)
+    let unit = fill(rt, &[(PIXEL, 1)]);
+    Op::Also(picture_after(rt, &unit, &Op::Shift(x, y)), sign)
 }
 
 /// Pixels with weights of either sign, scattered by a seed over the square of side 7 around (0, 0).
-fn scattered<R: Abort + AllocGlobal>(rt: &R, seed: i32) -> Picture {
+fn scatter<R: Abort + AllocGlobal>(rt: &R, seed: i32) -> Picture {
     let mut picture = Picture::blank(rt.alloc());
     let mut state = seed;
     for _ in 0..12 {
@@ -29,7 +29,7 @@ fn scattered<R: Abort + AllocGlobal>(rt: &R, seed: i32) -> Picture {
         } else {
             Sign::Minus
         };
-        picture = accepted(rt, &picture, &signed_pixel(rt, x, y, sign));
+        picture = picture_after(rt, &picture, &signed_pixel(rt, x, y, sign));
     }
     picture
 }
@@ -43,11 +43,11 @@ fn assert_one_moves_back<R: Abort + AllocGlobal>(
     back: &Op,
     (x, y): (i32, i32),
 ) {
-    let picture = scattered(rt, seed);
-    let away = accepted(rt, &picture, there);
+    let picture = scatter(rt, seed);
+    let away = picture_after(rt, &picture, there);
     assert_total(rt, &away, picture.total());
     assert_weights(rt, &away, &[(x, y, picture.weight(2, 1))]);
-    let again = accepted(rt, &away, back);
+    let again = picture_after(rt, &away, back);
     assert_holds(rt, again.equal(&picture), ("back", seed));
 }
 

@@ -1,8 +1,8 @@
 //! Pictures that are added to pictures, and subtracted from them.
 
 use super::{
-    Corners, PIXEL, RECTANGLE, accepted, assert_blank, assert_equal, assert_refused, assert_runs,
-    assert_total, copy_of, filled, run,
+    Corners, PIXEL, RECTANGLE, assert_blank, assert_equal, assert_refused, assert_runs,
+    assert_total, copy_of, fill, picture_after, run,
 };
 use mf_ops::{Op, OpFault};
 use mf_rows::{Picture, Run, Sign};
@@ -10,7 +10,7 @@ use std::process::Abort;
 
 /// The picture after a copy of another is added to it or subtracted from it.
 fn add<R: Abort + AllocGlobal>(rt: &R, picture: &Picture, other: &Picture, sign: Sign) -> Picture {
-    accepted(rt, picture, &Op::Also(copy_of(rt, other), sign))
+    picture_after(rt, picture, &Op::Also(copy_of(rt, other), sign))
 }
 
 /// Asserts that another picture cannot be added to a picture, or subtracted from it, because a weight would be too large.
@@ -25,8 +25,8 @@ fn assert_too_large<R: Abort + AllocGlobal>(
 }
 
 /// The contour's picture, added to itself `times` times.
-fn doubled<R: Abort + AllocGlobal>(rt: &R, contour: (Corners, i32), times: u32) -> Picture {
-    let mut picture = filled(rt, &[contour]);
+fn double<R: Abort + AllocGlobal>(rt: &R, contour: (Corners, i32), times: u32) -> Picture {
+    let mut picture = fill(rt, &[contour]);
     for _ in 0..times {
         picture = add(rt, &picture, &picture, Sign::Plus);
     }
@@ -35,7 +35,7 @@ fn doubled<R: Abort + AllocGlobal>(rt: &R, contour: (Corners, i32), times: u32) 
 
 /// Asserts that a pixel of this weight, added to itself 13 times, has this total, and cannot be added to itself again.
 fn assert_doubled<R: Abort + AllocGlobal>(rt: &R, weight: i32, total: i64) {
-    let picture = doubled(rt, (PIXEL, weight), 13);
+    let picture = double(rt, (PIXEL, weight), 13);
     // 3 times 2 to the 13th
     assert_total(rt, &picture, total);
     assert_too_large(rt, &picture, &picture, Sign::Plus);
@@ -46,14 +46,14 @@ fn assert_doubled<R: Abort + AllocGlobal>(rt: &R, weight: i32, total: i64) {
 
 #[test]
 fn adds_a_picture_to_itself(rt: HostRuntime) {
-    let twice = doubled(&rt, (RECTANGLE, 1), 1);
+    let twice = double(&rt, (RECTANGLE, 1), 1);
     assert_runs(&rt, &twice, &[run(1, 0, 3, 2), run(0, 0, 3, 2)]);
     assert_total(&rt, &twice, 12);
 }
 
 #[test]
 fn subtracts_a_picture_from_itself(rt: HostRuntime) {
-    let twice = doubled(&rt, (RECTANGLE, 1), 1);
+    let twice = double(&rt, (RECTANGLE, 1), 1);
     assert_blank(&rt, &add(&rt, &twice, &twice, Sign::Minus));
 }
 
@@ -66,14 +66,14 @@ fn weights_are_doubled_up_to_the_limit(rt: HostRuntime) {
 /// The rectangle, and a pixel in the highest row.
 fn rectangle_and_high<R: Abort + AllocGlobal>(rt: &R) -> Picture {
     let high: Corners = &[(0, 4094), (1, 4094), (1, 4095), (0, 4095)];
-    filled(rt, &[(RECTANGLE, 1), (high, 3)])
+    fill(rt, &[(RECTANGLE, 1), (high, 3)])
 }
 
 /// A square that overlaps the rectangle, and a pixel in the lowest row.
 fn square_and_deep<R: Abort + AllocGlobal>(rt: &R) -> Picture {
     let deep: Corners = &[(0, -4095), (1, -4095), (1, -4094), (0, -4094)];
     let square: Corners = &[(2, 1), (4, 1), (4, 3), (2, 3)];
-    filled(rt, &[(square, 2), (deep, 1)])
+    fill(rt, &[(square, 2), (deep, 1)])
 }
 
 /// Asserts that the sum, or the difference, of these two pictures has these runs.

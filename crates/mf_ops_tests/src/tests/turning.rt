@@ -1,8 +1,8 @@
 //! Contours with the turning check on, and off.
 
 use super::{
-    CLOCKWISE, Corners, PIXEL, RECTANGLE, accepted, assert_refused, assert_runs, assert_total,
-    contour, filled, run, unchecked, wound,
+    CLOCKWISE, Corners, PIXEL, RECTANGLE, assert_refused, assert_runs, assert_total, contour, fill,
+    picture_after, run, unchecked_contour, wind,
 };
 use mf_geom::CycleFault;
 use mf_ops::OpFault;
@@ -19,7 +19,7 @@ pub(super) const SPIKE: Corners = &[(0, 0), (3, 0), (1, 0), (1, 1), (0, 1)];
 const THERE_AND_BACK: Corners = &[(0, 0), (1, 0)];
 
 /// The refusal of an operation for this fault of its cycle.
-fn refused(fault: CycleFault) -> OpFault {
+fn refusal(fault: CycleFault) -> OpFault {
     OpFault::Cycle(fault)
 }
 
@@ -32,7 +32,7 @@ fn assert_unchecked<R: Abort + AllocGlobal>(
     total: i64,
 ) {
     let blank = Picture::blank(rt.alloc());
-    let filled = accepted(rt, &blank, &unchecked(rt, corners, 1, number));
+    let filled = picture_after(rt, &blank, &unchecked_contour(rt, corners, 1, number));
     assert_runs(rt, &filled, runs);
     assert_total(rt, &filled, total);
 }
@@ -62,16 +62,16 @@ fn assert_checked<R: Abort + AllocGlobal>(
     fault: CycleFault,
 ) {
     let op = contour(rt, corners, times, 3);
-    assert_refused(rt, &filled(rt, &[(RECTANGLE, 2)]), &op, refused(fault));
-    assert_refused(rt, &full(rt), &op, refused(fault));
+    assert_refused(rt, &fill(rt, &[(RECTANGLE, 2)]), &op, refusal(fault));
+    assert_refused(rt, &full(rt), &op, refusal(fault));
 }
 
 /// A picture whose pixel (0, 0) has the greatest weight.
 fn full<R: Abort + AllocGlobal>(rt: &R) -> Picture {
-    let nearly = wound(rt, &[(PIXEL, 1024, 3); 10]);
-    accepted(
+    let nearly = wind(rt, &[(PIXEL, 1024, 3); 10]);
+    picture_after(
         rt,
-        &accepted(rt, &nearly, &contour(rt, PIXEL, 682, 3)),
+        &picture_after(rt, &nearly, &contour(rt, PIXEL, 682, 3)),
         &contour(rt, PIXEL, 1, 1),
     )
 }
@@ -103,10 +103,10 @@ fn unchecked_contours_have_the_limit_of_weights(rt: HostRuntime) {
         assert_refused(
             &rt,
             &full,
-            &unchecked(&rt, corners, 1, 1),
+            &unchecked_contour(&rt, corners, 1, 1),
             OpFault::WeightTooLarge,
         );
     }
-    let same = accepted(&rt, &full, &unchecked(&rt, THERE_AND_BACK, 1, 3));
+    let same = picture_after(&rt, &full, &unchecked_contour(&rt, THERE_AND_BACK, 1, 3));
     assert_total(&rt, &same, 32767);
 }

@@ -1,9 +1,9 @@
 //! Operations that are refused for another reason than memory, and the only operation that is never refused.
 
 use super::plan::Plan;
-use super::{APART, after_refused, apply_refused};
+use super::{APART, after_while_refused, apply_while_refused};
 use crate::tests::assertions::assert_same;
-use crate::tests::contours::built;
+use crate::tests::contours::picture_of;
 use crate::tests::turning::{EIGHT, SPIKE};
 use crate::tests::{RECTANGLE, assert_refused, assert_runs};
 use mf_geom::{Check, CycleFault};
@@ -31,9 +31,9 @@ fn assert_too_large(rt: &impl Abort, fault: Option<OpFault>, plan: Plan) {
 
 /// Asserts that an operation that would make a weight of the heavy rows too large is refused.
 fn assert_stops<R: Abort + AllocGlobal>(rt: &R, plan: Plan) {
-    let picture = built(rt, HEAVY);
+    let picture = picture_of(rt, HEAVY);
     let op = plan.op(rt, &picture);
-    let answer = after_refused(rt, &picture, &op);
+    let answer = after_while_refused(rt, &picture, &op);
     assert_too_large(rt, answer.err(), plan);
     assert_runs(rt, &picture, HEAVY);
     plan.assert_is(rt, &op);
@@ -43,9 +43,9 @@ fn assert_stops<R: Abort + AllocGlobal>(rt: &R, plan: Plan) {
 
 /// The same, where the operation is performed on the heavy rows in place.
 fn assert_stops_itself<R: Abort + AllocGlobal>(rt: &R, plan: Plan) {
-    let mut picture = built(rt, HEAVY);
+    let mut picture = picture_of(rt, HEAVY);
     let op = plan.op(rt, &picture);
-    let answer = apply_refused(rt, &mut picture, &op);
+    let answer = apply_while_refused(rt, &mut picture, &op);
     assert_too_large(rt, answer.err(), plan);
     assert_runs(rt, &picture, HEAVY);
     plan.assert_is(rt, &op);
@@ -94,7 +94,7 @@ fn after_without_memory<R: Abort + AllocGlobal>(
 
 /// Asserts that an operation on the rows is refused with this fault, also where every allocation is refused.
 fn assert_refused_first<R: Abort + AllocGlobal>(rt: &R, plan: Plan, fault: OpFault) {
-    let picture = built(rt, APART);
+    let picture = picture_of(rt, APART);
     let op = plan.op(rt, &picture);
     let answer = after_without_memory(rt, &picture, &op);
     assert_same(rt, answer.err(), Some(fault), plan);
@@ -127,7 +127,7 @@ fn a_scale_out_of_the_field_comes_before_out_of_memory(rt: HostRuntime) {
 
 #[test]
 fn a_clear_allocates_nothing(rt: HostRuntime) {
-    let picture = built(&rt, APART);
+    let picture = picture_of(&rt, APART);
     let cleared = after_without_memory(&rt, &picture, &Op::Clear);
     assert_runs(&rt, &cleared.expect(&rt, "a clear is never refused"), &[]);
     assert_runs(&rt, &picture, APART);

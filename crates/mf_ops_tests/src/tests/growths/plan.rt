@@ -1,7 +1,7 @@
 //! Operations as constants.
 
 use crate::tests::assertions::assert_same;
-use crate::tests::contours::built;
+use crate::tests::contours::picture_of;
 use crate::tests::{
     Corners, assert_runs, copy_of, cycle, dropping, keeping, scale, turn, walk, weight,
 };
@@ -33,7 +33,7 @@ impl Plan {
             Plan::Contour(corners, number, check) => {
                 Op::Contour(cycle(rt, corners, 1), weight(rt, number), check)
             }
-            Plan::Also(runs, sign) => Op::Also(built(rt, runs), sign),
+            Plan::Also(runs, sign) => Op::Also(picture_of(rt, runs), sign),
             Plan::AlsoItself(_, sign) => Op::Also(copy_of(rt, picture), sign),
             Plan::Keeping(low, high, number) => keeping(rt, low, high, number),
             Plan::Dropping(low, high, number) => dropping(rt, low, high, number),
