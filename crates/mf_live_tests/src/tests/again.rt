@@ -17,7 +17,7 @@ use std::sync::Wait;
 const TRIES: u32 = 2;
 
 /// The writer of a picture of at most 10 operations, and a desk of at most 2 viewers.
-fn open<R: Abort + Wait>(rt: &R, alloc: Global) -> (Writer, Desk) {
+fn open_in_tries<R: Abort + Wait>(rt: &R, alloc: Global) -> (Writer, Desk) {
     for _ in 0..TRIES {
         if let Ok(opened) = open_picture(rt, alloc, 2, 10) {
             return opened;
@@ -27,7 +27,7 @@ fn open<R: Abort + Wait>(rt: &R, alloc: Global) -> (Writer, Desk) {
 }
 
 /// The contour of the rectangle, of weight 1.
-fn rectangle(rt: &impl Abort, alloc: Global) -> Op {
+fn rectangle_in_tries(rt: &impl Abort, alloc: Global) -> Op {
     for _ in 0..TRIES {
         if let Ok(points) = points(alloc, RECT) {
             return contour_through(rt, points, 1, Check::On);
@@ -37,7 +37,7 @@ fn rectangle(rt: &impl Abort, alloc: Global) -> Op {
 }
 
 /// A copy of a picture.
-fn copy(rt: &impl Abort, alloc: Global, picture: &Picture) -> Picture {
+fn copy_in_tries(rt: &impl Abort, alloc: Global, picture: &Picture) -> Picture {
     for _ in 0..TRIES {
         if let Ok(copy) = picture.copy(alloc) {
             return copy;
@@ -47,7 +47,7 @@ fn copy(rt: &impl Abort, alloc: Global, picture: &Picture) -> Picture {
 }
 
 /// Applies an operation. A refused one leaves the picture as it was.
-fn apply(rt: &impl Abort, alloc: Global, writer: &mut Writer, op: Op) {
+fn apply_in_tries(rt: &impl Abort, alloc: Global, writer: &mut Writer, op: Op) {
     let mut op = op;
     for _ in 0..TRIES {
         let (pending, total) = (writer.pending(), writer.working().total());
@@ -65,7 +65,7 @@ fn apply(rt: &impl Abort, alloc: Global, writer: &mut Writer, op: Op) {
 }
 
 /// Publishes. After a refusal the same is published as before.
-fn publish<R: Abort + Wait>(rt: &R, writer: &mut Writer) {
+fn publish_in_tries<R: Abort + Wait>(rt: &R, writer: &mut Writer) {
     for _ in 0..TRIES {
         let revision = writer.tell().revision();
         if writer.publish(rt).is_ok() {
@@ -77,7 +77,13 @@ fn publish<R: Abort + Wait>(rt: &R, writer: &mut Writer) {
 }
 
 /// Asserts that a sheet has this many operations, and a picture of this total weight.
-fn assert_sheet(rt: &impl Abort, alloc: Global, viewer: &mut Viewer, revision: u32, total: i64) {
+fn assert_sheet_in_tries(
+    rt: &impl Abort,
+    alloc: Global,
+    viewer: &mut Viewer,
+    revision: u32,
+    total: i64,
+) {
     for _ in 0..TRIES {
         match viewer.sheet(alloc) {
             Ok(sheet) => {
@@ -92,13 +98,13 @@ fn assert_sheet(rt: &impl Abort, alloc: Global, viewer: &mut Viewer, revision: u
 }
 
 /// Closes the picture.
-fn close<R: Abort + Wait>(rt: &R, writer: Writer) -> Ended {
+fn close_in_tries<R: Abort + Wait>(rt: &R, writer: Writer) -> Ended {
     let mut writer = writer;
     for _ in 0..TRIES {
         match writer.close(rt) {
             Ok(ended) => return ended,
             Err(CloseFault::Kept(back)) => writer = back,
-            Err(CloseFault::Halfway(closing)) => return end(rt, closing),
+            Err(CloseFault::Halfway(closing)) => return publish_end_in_tries(rt, closing),
         }
     }
     writer.discard(rt);
@@ -106,7 +112,7 @@ fn close<R: Abort + Wait>(rt: &R, writer: Writer) -> Ended {
 }
 
 /// Publishes the end.
-fn end<R: Abort + Wait>(rt: &R, closing: Closing) -> Ended {
+fn publish_end_in_tries<R: Abort + Wait>(rt: &R, closing: Closing) -> Ended {
     let mut closing = closing;
     for _ in 0..TRIES {
         match closing.publish(rt) {
@@ -121,22 +127,22 @@ fn end<R: Abort + Wait>(rt: &R, closing: Closing) -> Ended {
 #[test]
 fn calls_are_made_again(rt: HostRuntime) {
     let alloc = rt.alloc();
-    let (mut writer, mut desk) = open(&rt, alloc);
+    let (mut writer, mut desk) = open_in_tries(&rt, alloc);
     let viewer = take_viewer(&rt, &mut desk);
-    let rectangle = rectangle(&rt, alloc);
-    apply(&rt, alloc, &mut writer, rectangle);
-    publish(&rt, &mut writer);
+    let rectangle = rectangle_in_tries(&rt, alloc);
+    apply_in_tries(&rt, alloc, &mut writer, rectangle);
+    publish_in_tries(&rt, &mut writer);
     let mut viewer = assert_shows(&rt, viewer, 1, 6);
-    assert_sheet(&rt, alloc, &mut viewer, 1, 6);
+    assert_sheet_in_tries(&rt, alloc, &mut viewer, 1, 6);
 
-    let copy = copy(&rt, alloc, writer.working());
-    apply(&rt, alloc, &mut writer, Op::Also(copy, Sign::Plus));
-    apply(&rt, alloc, &mut writer, Op::Shift(1, -1));
-    publish(&rt, &mut writer);
+    let copy = copy_in_tries(&rt, alloc, writer.working());
+    apply_in_tries(&rt, alloc, &mut writer, Op::Also(copy, Sign::Plus));
+    apply_in_tries(&rt, alloc, &mut writer, Op::Shift(1, -1));
+    publish_in_tries(&rt, &mut writer);
     let viewer = assert_shows(&rt, viewer, 3, 12);
 
-    apply(&rt, alloc, &mut writer, Op::Clear);
-    let mut ended = close(&rt, writer);
+    apply_in_tries(&rt, alloc, &mut writer, Op::Clear);
+    let mut ended = close_in_tries(&rt, writer);
     assert_tells(&rt, &ended.notice(), 4);
     assert_shows(&rt, viewer, 4, 0);
     ended.discard(&rt);

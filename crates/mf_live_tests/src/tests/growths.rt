@@ -23,7 +23,7 @@ use std::sync::Wait;
 const MOVED: &[Pixels] = &[(14, 1, 3, 1), (13, 1, 3, 1)];
 
 /// A picture whose rectangle is published and seen, and whose move by one column and 13 rows is accepted but pending.
-fn open_moved<R: Abort + Wait>(rt: &R, alloc: Global) -> (Writer, Viewer) {
+fn open_and_move<R: Abort + Wait>(rt: &R, alloc: Global) -> (Writer, Viewer) {
     let (mut writer, mut desk) = open(rt, alloc, 1, 10);
     let viewer = take_viewer(rt, &mut desk);
     publish_rectangle(rt, alloc, &mut writer);

@@ -1,6 +1,6 @@
 //! Operations that are applied.
 
-use super::{MOVED, assert_waiting, open_moved};
+use super::{MOVED, assert_waiting, open_and_move};
 use crate::tests::assertions::{assert_holds, assert_same};
 use crate::tests::{Pixels, RECT_RUNS, apply, assert_sees, contour, picture, publish};
 use mf_live::{Fault, Writer};
@@ -50,7 +50,7 @@ fn assert_handed_back(rt: &impl Abort, writer: &Writer, back: &Op, same: &Op, fa
 /// back as `same`, and viewers see nothing of it. Finally the picture has exactly these runs, and viewers see them once they are
 /// published.
 fn assert_accepted<R: Abort + Wait>(rt: &R, alloc: Global, op: Op, same: &Op, runs: &[Pixels]) {
-    let (mut writer, viewer) = open_moved(rt, alloc);
+    let (mut writer, viewer) = open_and_move(rt, alloc);
     let applied = apply_while_refused(alloc, &mut writer, op);
     let viewer = assert_sees(rt, viewer, 1, RECT_RUNS);
     if let Err((back, fault)) = applied {
@@ -188,7 +188,7 @@ fn a_sum_that_weighs_too_much_is_refused(rt: HostRuntime) {
     let too_large = Fault::Refused(OpFault::WeightTooLarge);
     let same = also(&rt, alloc, HEAVY, Sign::Plus);
     let op = also(&rt, alloc, HEAVY, Sign::Plus);
-    let (mut writer, viewer) = open_moved(&rt, alloc);
+    let (mut writer, viewer) = open_and_move(&rt, alloc);
     let applied = apply_while_refused(alloc, &mut writer, op);
     let (back, fault) = refused_operation(&rt, &writer, applied, &same);
     if fault != Fault::Refused(OpFault::OutOfMemory) {

@@ -1,6 +1,6 @@
 //! What is published.
 
-use super::{MOVED, assert_published, assert_waiting, open_moved};
+use super::{MOVED, assert_published, assert_waiting, open_and_move};
 use crate::tests::assertions::assert_same;
 use crate::tests::{Pixels, RECT_RUNS, apply, assert_sees, fill, open, publish, take_viewer};
 use mf_base::OutOfMemory;
@@ -39,7 +39,7 @@ fn assert_move_is_published<R: Abort + Wait>(
 #[test]
 fn an_operation_is_published(rt: HostRuntime) {
     let alloc = rt.alloc();
-    let (mut writer, viewer) = open_moved(&rt, alloc);
+    let (mut writer, viewer) = open_and_move(&rt, alloc);
     assert_move_is_published(&rt, alloc, &mut writer, viewer, RECT_RUNS);
     writer.discard(&rt);
 }

@@ -1,6 +1,6 @@
 //! Sheets that are taken.
 
-use super::{MOVED, open_moved};
+use super::{MOVED, open_and_move};
 use crate::tests::assertions::assert_same;
 use crate::tests::sheets::take;
 use crate::tests::{
@@ -12,7 +12,7 @@ use std::alloc::Global;
 use std::process::Abort;
 
 /// Asserts that a sheet has this revision and exactly these runs.
-fn assert_sheet(rt: &impl Abort, sheet: &Sheet, revision: u32, runs: &[Pixels]) {
+fn assert_sheet_runs(rt: &impl Abort, sheet: &Sheet, revision: u32, runs: &[Pixels]) {
     assert_same(rt, sheet.revision(), revision, "the revision of a sheet");
     assert_runs(rt, sheet.picture(), runs, "the runs of a sheet");
 }
@@ -31,11 +31,11 @@ fn assert_taken(
     let found = viewer.sheet(alloc);
     grow_again(alloc);
     match found {
-        Ok(sheet) => assert_sheet(rt, &sheet, revision, runs),
+        Ok(sheet) => assert_sheet_runs(rt, &sheet, revision, runs),
         Err(fault) => {
             assert_same(rt, fault, SheetFault::OutOfMemory, "the sheet");
             viewer = assert_sees(rt, viewer, revision, runs);
-            assert_sheet(rt, &take(rt, alloc, &mut viewer), revision, runs);
+            assert_sheet_runs(rt, &take(rt, alloc, &mut viewer), revision, runs);
         }
     }
     assert_sees(rt, viewer, revision, runs)
@@ -54,10 +54,10 @@ fn a_first_sheet_is_taken(rt: HostRuntime) {
 #[test]
 fn a_later_sheet_is_taken(rt: HostRuntime) {
     let alloc = rt.alloc();
-    let (mut writer, mut viewer) = open_moved(&rt, alloc);
+    let (mut writer, mut viewer) = open_and_move(&rt, alloc);
     let first = take(&rt, alloc, &mut viewer);
     publish(&rt, &mut writer);
     assert_taken(&rt, alloc, viewer, 2, MOVED);
-    assert_sheet(&rt, &first, 1, RECT_RUNS);
+    assert_sheet_runs(&rt, &first, 1, RECT_RUNS);
     writer.discard(&rt);
 }
