@@ -1,6 +1,6 @@
 -- Edges after one of them is changed, removed or inserted.
 use Rattle.std.proofs.Common.{◌≡◌, ◌≢◌, ℕ, zero, suc, ◌<◌, ◌≤◌, ℤ, pos, ◌+ℤ◌, ◌-ℤ◌, ◌≤ℤ◌, ◌<ℤ◌}
-use Rattle.std.proofs.Common.{int_le, List, [], ◌∷◌, length, get_or, add-one, All, Ok, Err, Bool, true, false, refl, sym, ap, ◌∙◌, arith, if◌then◌else◌}
+use Rattle.std.proofs.Common.{int_le, List, [], ◌∷◌, length, get_or, add-one, All, Ok, Err, Bool, refl, sym, ap, ◌∙◌, arith, if◌then◌else◌}
 use Rattle.std.specs.List.{HoldsAt, insert, remove}
 use Rattle.std.specs.List.Sorted.{IsBinarySearchResult, IsSortedBy}
 use Rattle.std.specs.Ordering.{int_cmp, is_lt}
@@ -9,7 +9,7 @@ use Rattle.std.proofs.lemmas.Cmp.{by_ranked, int_ranked, int_cmp_total}
 use Rattle.std.proofs.lemmas.Int.{ints}
 use Rattle.std.proofs.lemmas.List.{get_or_default}
 use Rattle.std.proofs.lemmas.List.Sorted.{searchable_from_sorted}
-use Rattle.mf_geom.specs.Coordinates.{least_coordinate, greatest_coordinate}
+use Rattle.mf_geom.specs.Coordinates.{least_coordinate, IsCoordinate}
 use Rattle.mf_edges.specs.declared.edge.Edge.{Edge}
 use Rattle.mf_edges.specs.Edges.{weight_in, IsEdge, AreEdgesFrom, AreOpenEdges}
 use Rattle.mf_edges.specs.Merging.{IsChange}
@@ -87,12 +87,7 @@ edge_is_small es at d edges lt read =
 
 -- two weights at one column add up, and cancel where their sum is 0
 parts_add : (b : Bool) (v w s : ℤ) → v +ℤ w ≡ s → (if b then s else pos 0) ≡ (if b then v else pos 0) +ℤ (if b then w else pos 0)
-parts_add true v w s is = sym is
-parts_add false v w s is = refl
-
-nothing : (b : Bool) → (if b then pos 0 else pos 0) ≡ pos 0
-nothing true = refl
-nothing false = refl
+parts_add b v w s is = grind (arith, ints)
 
 module _ (es : List Edge) (at : ℕ) (edge : Edge) (w s : ℤ) (lt : at < length es) (read : edge ≡ get_or es at edge) (sum_is : edge.weight +ℤ w ≡ s) where
   same_edge : (d : Edge) → get_or es at d ≡ edge
@@ -103,7 +98,8 @@ module _ (es : List Edge) (at : ℕ) (edge : Edge) (w s : ℤ) (lt : at < length
   removed_weights zero_is d = rw (same_edge d) record {
     weights = λ x.
         let rest = rw (same_edge edge) at (weight_in-remove es at edge x lt) in
-        omega (arith, ints, rest, parts_add (int_le edge.x x) edge.weight w (pos 0) (sum_is ∙ zero_is), nothing (int_le edge.x x));
+        let none : (if int_le edge.x x then pos 0 else pos 0) ≡ pos 0 = grind (arith, ints) in
+        omega (arith, ints, rest, parts_add (int_le edge.x x) edge.weight w (pos 0) (sum_is ∙ zero_is), none);
   }
 
   pub changed_weights : HoldsAt (λ e. HaveWeights (with_edge_in es e.x w) (set es at record { x = edge.x; weight = s })) es at
@@ -117,7 +113,7 @@ module _ (es : List Edge) (at : ℕ) (edge : Edge) (w s : ℤ) (lt : at < length
   pub changed_sorted : AreOpenEdges es → s ≢ pos 0 → AreEdgesFrom least_coordinate (set es at record { x = edge.x; weight = s })
   changed_sorted edges nonzero =
       let here = rw (same_edge edge) at (edges_from-at _ es at edge edges.sorted lt).0 in
-      edges_from-set _ es at _ edge edges.sorted lt record { left = here.left; right = here.right; nonzero = nonzero } (ap (λ e. e.x) read)
+      edges_from-set _ es at _ edge edges.sorted lt record { column = here.column; nonzero = nonzero } (ap (λ e. e.x) read)
 
 pub removed_sorted : (es : List Edge) (at : ℕ) → AreOpenEdges es → AreEdgesFrom least_coordinate (remove es at)
 removed_sorted es at edges = edges_from-remove _ es at edges.sorted
@@ -133,25 +129,19 @@ edges_rise low [] k d from lt = absurd (omega (arith, lt))
 edges_rise low (e ∷ es) zero d from lt = omega (arith, ints, (edges_from-at (e.x +ℤ pos 1) es zero d from.2 (omega arith)).1)
 edges_rise low (e ∷ es) (suc k) d from lt = edges_rise (e.x +ℤ pos 1) es k d from.2 (omega arith)
 
-not_lower : (a b : ℤ) → b ≤ℤ a → is_lt (int_cmp a b) ≡ false
-not_lower a b le = grind (arith, ints, by_ranked, int_ranked)
-
 columns_sorted : (es : List Edge) → AreOpenEdges es → IsSortedBy (λ e f. is_lt (int_cmp e.x f.x)) es
-columns_sorted es edges k d le lt =
-    let rise = edges_rise _ es k d edges.sorted (omega arith) in
-    rw add-one (not_lower (get_or es (suc k) d).x (get_or es k d).x (omega (arith, ints, rise)))
+columns_sorted es edges k d le lt = rw add-one (grind (arith, ints, by_ranked, int_ranked, edges_rise))
 
 pub found_column : (es : List Edge) (x : ℤ) (at : ℕ) (d : Edge) → IsBinarySearchResult (λ e. int_cmp e.x x) es (Ok at) → (get_or es at d).x ≡ x
 found_column es x at d found = int_ranked _ x _ (sym (found d))
 
 -- where there is no edge at a column, the edges are on both sides of it
-pub inserted_sorted : (es : List Edge) (x w : ℤ) (at : ℕ) → AreOpenEdges es → at ≤ length es → least_coordinate ≤ℤ x
-    → x ≤ℤ greatest_coordinate → w ≢ pos 0 → IsBinarySearchResult (λ e. int_cmp e.x x) es (Err at)
+pub inserted_sorted : (es : List Edge) (x w : ℤ) (at : ℕ) → AreOpenEdges es → at ≤ length es → IsCoordinate x → w ≢ pos 0 → IsBinarySearchResult (λ e. int_cmp e.x x) es (Err at)
     → AreEdgesFrom least_coordinate (insert es at record { x = x; weight = w })
-inserted_sorted es x w at edges le left right nonzero parted =
+inserted_sorted es x w at edges le column nonzero parted =
     let sides = parted (searchable_from_sorted int_cmp_total (λ (e : Edge). e.x) es x (columns_sorted es edges)) in
     let e : Edge = record { x = x; weight = w } in
-    edges_from-insert _ es at e edges.sorted le record { left = left; right = right; nonzero = nonzero } left
+    edges_from-insert _ es at e edges.sorted le record { column = column; nonzero = nonzero } column.least
     (λ k lt. int_ranked _ x _ (sym (sides.0 k e (omega arith) lt)))
     (λ k ge lt. int_ranked _ x _ (sym (sides.1 k e ge lt)))
 
@@ -166,4 +156,4 @@ none_there es x at edges parted k d lt same =
 -- a weight of 0 changes nothing
 pub nothing_added : (es : List Edge) (x : ℤ) → HaveWeights (with_edge_in es x (pos 0)) es
 unfolding with_edge_in
-nothing_added es x = record { weights = λ c. omega (arith, ints, nothing (int_le x c)) }
+nothing_added es x = grind (arith, ints)

@@ -42,4 +42,4 @@ unfolding weight_in edges_total
 sum_of_columns low [] from = sum_below-zero field_size
 sum_of_columns low (e ∷ es) from =
     sum_below-add field_size (λ i. cond (int_le e.x (least_coordinate +ℤ pos i)) e.weight (pos 0)) (λ i. weight_in es (least_coordinate +ℤ pos i))
-    ∙ (λ t. columns_from e.x e.weight field_size from.0.left from.0.right t +ℤ sum_of_columns (e.x +ℤ pos 1) es from.2 t)
+    ∙ (λ t. columns_from e.x e.weight field_size from.0.column.least from.0.column.greatest t +ℤ sum_of_columns (e.x +ℤ pos 1) es from.2 t)

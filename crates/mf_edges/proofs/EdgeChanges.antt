@@ -36,59 +36,56 @@ weight_changes low (d ∷ before) e after edges =
 -- ---- columns that are reflected
 
 -- an edge at the opposite point: what it added to the weights to its right, it takes from those to its left
-abbrev pub flipped : Edge → Edge
-flipped e = record { x = neg_ℤ e.x; weight = neg_ℤ e.weight }
+abbrev pub opposite_edge : Edge → Edge
+opposite_edge e = record { x = neg_ℤ e.x; weight = neg_ℤ e.weight }
 
-abbrev pub all_flipped : List Edge → List Edge
-all_flipped [] = []
-all_flipped (e ∷ es) = all_flipped es ++ flipped e ∷ []
+abbrev pub opposite_edges : List Edge → List Edge
+opposite_edges [] = []
+opposite_edges (e ∷ es) = opposite_edges es ++ opposite_edge e ∷ []
 
-flipped-before : (low column : ℤ) (es : List Edge) → AreEdgesFrom low es → neg_ℤ low <ℤ column → All (λ e. e.x <ℤ column) (all_flipped es)
-flipped-before low column [] edges before = All-nil (λ e. e.x <ℤ column)
-flipped-before low column (e ∷ es) edges before =
+opposite_edges-before : (low column : ℤ) (es : List Edge) → AreEdgesFrom low es → neg_ℤ low <ℤ column → All (λ e. e.x <ℤ column) (opposite_edges es)
+opposite_edges-before low column [] edges before = All-nil (λ e. e.x <ℤ column)
+opposite_edges-before low column (e ∷ es) edges before =
     let start : low ≤ℤ e.x = edges.1 in
-    All-push (λ e. e.x <ℤ column) (all_flipped es) (flipped e) (flipped-before (e.x +ℤ pos 1) column es edges.2 (omega (arith, ints))) (omega (arith, ints))
+    All-push (λ e. e.x <ℤ column) (opposite_edges es) (opposite_edge e) (opposite_edges-before (e.x +ℤ pos 1) column es edges.2 (omega (arith, ints))) (omega (arith, ints))
 
-flipped-edge : (e : Edge) → IsEdge e → IsEdge (flipped e)
-flipped-edge e edge = grind (arith, ints)
-
-flipped-sorted : (low : ℤ) (es : List Edge) → AreEdgesFrom low es → AreEdgesFrom least_coordinate (all_flipped es)
-flipped-sorted low [] edges = tt
-flipped-sorted low (e ∷ es) edges =
-    let edge = flipped-edge e edges.0 in
-    edges_from-append least_coordinate (neg_ℤ e.x) (all_flipped es) (flipped e ∷ []) edge.left
-    (flipped-sorted (e.x +ℤ pos 1) es edges.2)
-    (flipped-before (e.x +ℤ pos 1) (neg_ℤ e.x) es edges.2 (omega (arith, ints)))
+opposite_edges-sorted : (low : ℤ) (es : List Edge) → AreEdgesFrom low es → AreEdgesFrom least_coordinate (opposite_edges es)
+opposite_edges-sorted low [] edges = tt
+opposite_edges-sorted low (e ∷ es) edges =
+    let edge : IsEdge (opposite_edge e) = grind (arith, ints) in
+    edges_from-append least_coordinate (neg_ℤ e.x) (opposite_edges es) (opposite_edge e ∷ []) edge.column.least
+    (opposite_edges-sorted (e.x +ℤ pos 1) es edges.2)
+    (opposite_edges-before (e.x +ℤ pos 1) (neg_ℤ e.x) es edges.2 (omega (arith, ints)))
     (edge, omega (arith, ints), tt)
 
 -- what the image of an edge adds at a column, together with the edge's weight, is what the edge adds at the opposite
 -- column
-flipped-weight : (e : Edge) (x : ℤ) → weight_in (flipped e ∷ []) x +ℤ e.weight ≡ weight_in (e ∷ []) (opposite x)
+weight_in-opposite_edge : (e : Edge) (x : ℤ) → weight_in (opposite_edge e ∷ []) x +ℤ e.weight ≡ weight_in (e ∷ []) (opposite x)
 unfolding weight_in
-flipped-weight e x = grind (arith, ints, by_lt_z, weight_in-right, weight_in-left)
+weight_in-opposite_edge e x = grind (arith, ints, by_lt_z, weight_in-right, weight_in-left)
 
-flipped-weights : (low : ℤ) (es : List Edge) (x : ℤ) → AreEdgesFrom low es
-    → weight_in (all_flipped es) x +ℤ weight_in es greatest_coordinate ≡ weight_in es (opposite x)
+weight_in-opposite_edges : (low : ℤ) (es : List Edge) (x : ℤ) → AreEdgesFrom low es
+    → weight_in (opposite_edges es) x +ℤ weight_in es greatest_coordinate ≡ weight_in es (opposite x)
 unfolding weight_in
-flipped-weights low [] x edges = refl
-flipped-weights low (e ∷ es) x edges =
-    let others = flipped-weights (e.x +ℤ pos 1) es x edges.2 in
-    let parts = weight_in-append (all_flipped es) (flipped e ∷ []) x in
-    let own = flipped-weight e x in
-    let all = weight_in-left e es greatest_coordinate edges.0.right in
+weight_in-opposite_edges low [] x edges = refl
+weight_in-opposite_edges low (e ∷ es) x edges =
+    let others = weight_in-opposite_edges (e.x +ℤ pos 1) es x edges.2 in
+    let parts = weight_in-append (opposite_edges es) (opposite_edge e ∷ []) x in
+    let own = weight_in-opposite_edge e x in
+    let all = weight_in-left e es greatest_coordinate edges.0.column.greatest in
     let whole = weight_in-append (e ∷ []) es (opposite x) in
     omega (arith, ints)
 
 -- the edges that were passed, from the last one on, and their images
-pub record AreFlippedSoFar (es left new : List Edge) : Type 0 where
+pub record AreOppositeSoFar (es left new : List Edge) : Type 0 where
   pub passed : List Edge
   pub all : es ≡ left ++ passed
-  pub images : new ≡ all_flipped passed
+  pub images : new ≡ opposite_edges passed
 
-pub flipped_none : (es : List Edge) → AreFlippedSoFar es es []
-flipped_none es = record { passed = []; all = sym (append-nil es); images = refl }
+pub opposite_none : (es : List Edge) → AreOppositeSoFar es es []
+opposite_none es = record { passed = []; all = sym (append-nil es); images = refl }
 
-module _ (es before left : List Edge) (e : Edge) (new : List Edge) (last : left ≡ before ++ e ∷ []) (so_far : AreFlippedSoFar es left new) where
+module _ (es before left : List Edge) (e : Edge) (new : List Edge) (last : left ≡ before ++ e ∷ []) (so_far : AreOppositeSoFar es left new) where
   here : es ≡ before ++ e ∷ so_far.passed
   here = so_far.all ∙ (ap (λ t. t ++ so_far.passed) last ∙ append_assoc before (e ∷ []) so_far.passed)
 
@@ -99,23 +96,23 @@ module _ (es before left : List Edge) (e : Edge) (new : List Edge) (last : left 
   pub last_weight : AreEdges es → IsChange e.weight
   last_weight edges = grind (arith, ints, weight_changes, here)
 
-  pub flipped_more : AreFlippedSoFar es before (new ++ flipped e ∷ [])
-  flipped_more = record { passed = e ∷ so_far.passed; all = here; images = ap (λ t. t ++ flipped e ∷ []) so_far.images }
+  pub opposite_more : AreOppositeSoFar es before (new ++ opposite_edge e ∷ [])
+  opposite_more = record { passed = e ∷ so_far.passed; all = here; images = ap (λ t. t ++ opposite_edge e ∷ []) so_far.images }
 
 -- the edges of a row have a sum of 0, so a column of the images has the weight of the opposite column of the row
-mirrored_of : (es : List Edge) → AreEdges es → AreChanged Mirror es (all_flipped es)
+mirrored_of : (es : List Edge) → AreEdges es → AreChanged Mirror es (opposite_edges es)
 unfolding image_in
 mirrored_of es row =
-    let weights : (x : ℤ) → weight_in (all_flipped es) x ≡ weight_in es (opposite x) =
-    λ x. let sum = flipped-weights least_coordinate es x row.sorted in omega (arith, ints, row.closed) in
+    let weights : (x : ℤ) → weight_in (opposite_edges es) x ≡ weight_in es (opposite x) =
+    λ x. let sum = weight_in-opposite_edges least_coordinate es x row.sorted in omega (arith, ints, row.closed) in
     record {
-      edges = grind (arith, ints, flipped-sorted, weight_in-before);
+      edges = grind (arith, ints, opposite_edges-sorted, weight_in-before);
       weights = record { weights = weights };
     }
 
-pub flipped_all : (es left new : List Edge) → AreEdges es → length left ≡ 0 → AreFlippedSoFar es left new → AreChanged Mirror es new
-flipped_all es [] new row none so_far = rw (so_far.images, ← so_far.all) (mirrored_of es row)
-flipped_all es (e ∷ left) new row none so_far = absurd (omega arith)
+pub opposite_all : (es left new : List Edge) → AreEdges es → length left ≡ 0 → AreOppositeSoFar es left new → AreChanged Mirror es new
+opposite_all es [] new row none so_far = rw (so_far.images, ← so_far.all) (mirrored_of es row)
+opposite_all es (e ∷ left) new row none so_far = absurd (omega arith)
 
 -- ---- columns that are stretched
 
@@ -135,7 +132,7 @@ stretched-sorted : (s : Stretch) (low new : ℤ) (es : List Edge) → IsStretch 
 stretched-sorted s low new [] stretch right edges inside = tt
 stretched-sorted s low new (e ∷ es) stretch right edges inside =
     let in_range = All-head (λ e. IsCoordinate (target_of s e.x)) e es inside in (
-      record { left = in_range.least; right = in_range.greatest; nonzero = edges.0.nonzero },
+      record { column = in_range; nonzero = edges.0.nonzero },
       right e.x edges.1 in_range,
       stretched-sorted s (e.x +ℤ pos 1) (target_of s e.x +ℤ pos 1) es stretch
           (λ x after reached. let target = target_of-lt s e.x x stretch (omega (arith, ints)) in omega (arith, ints))
@@ -151,7 +148,7 @@ stretched-closed s low (e ∷ es) edges inside =
     let in_range = All-head (λ e. IsCoordinate (target_of s e.x)) e es inside in
     weight_in-left (stretched_edge s e) (map (stretched_edge s) es) greatest_coordinate in_range.greatest
     ∙ (ap (λ w. e.weight +ℤ w) (stretched-closed s (e.x +ℤ pos 1) es edges.2 (All-tail (λ e. IsCoordinate (target_of s e.x)) e es inside))
-    ∙ sym (weight_in-left e es greatest_coordinate edges.0.right))
+    ∙ sym (weight_in-left e es greatest_coordinate edges.0.column.greatest))
 
 pub stretched_of : (s : Stretch) (es : List Edge) → AreEdges es → IsStretch s
     → All (λ e. IsCoordinate (target_of s e.x)) es → AreChanged (Columns s) es (map (stretched_edge s) es)
@@ -169,8 +166,7 @@ greatest_product = unsigned_abs greatest_coordinate * unsigned_abs greatest_coor
 
 offset_is-small : (p o : ℤ) → unsigned_abs p ≤ greatest_product → IsCoordinate (p +ℤ o) → to_z w32 (of_z w32 o) ≡ o
 offset_is-small p o small in_range =
-    let bounds : (neg_ℤ (pos greatest_product) ≤ℤ p) × (p ≤ℤ pos greatest_product) = (omega (arith, ints), omega (arith, ints)) in
-    omega (arith, ints)
+    grind (arith, ints)
 
 coordinate_fits : (x : ℤ) → IsCoordinate x → FitsSigned w32 x
 coordinate_fits x in_range = omega (arith, ints)
@@ -179,10 +175,10 @@ module _ (s : Stretch) (e : Edge) (stretch : IsStretch s) (edge : IsEdge e) wher
   product_size : unsigned_abs (e.x *ℤ s.factor) ≤ greatest_product
   product_size =
       rw unsigned_abs-mul
-      (mul-le-mul (size-at_most e.x edge.left edge.right) (size-at_most s.factor (omega (arith, ints, stretch.least)) stretch.greatest))
+      (mul-le-mul (size-at_most e.x edge.column.least edge.column.greatest) (size-at_most s.factor (omega (arith, ints, stretch.least)) stretch.greatest))
 
   x_is : to_z w32 (of_z w32 e.x) ≡ e.x
-  x_is = omega (arith, ints, edge.left, edge.right)
+  x_is = omega (arith, ints, edge.column)
 
   factor_is : to_z w32 (of_z w32 s.factor) ≡ s.factor
   factor_is = omega (arith, ints, stretch.least, stretch.greatest)

@@ -56,7 +56,7 @@ mapped_where_none m es mapped rest weight image so_far x none = grind (arith, in
 module _ (m : WeightMap) (es mapped : List Edge) (e : Edge) (rest : List Edge) (weight image : ℤ)
     (so_far : IsMappedSoFar m es (mapped, image) (e ∷ rest, weight)) where
   reach : IsColumnFrom so_far.low e.x
-  reach = record { from = so_far.rest.1; left = so_far.rest.0.left; right = so_far.rest.0.right }
+  reach = record { from = so_far.rest.1; column = so_far.rest.0.column }
 
   weight_here : weight_in es e.x ≡ weight +ℤ e.weight
   weight_here =

@@ -8,7 +8,7 @@ use Rattle.std.proofs.lemmas.Bool.Decides.{Decides-int_eq, not_from_Decides}
 use Rattle.std.proofs.lemmas.Int.{ints, by_lt_z}
 use Rattle.std.proofs.lemmas.List.{append-nil, append_assoc}
 use Rattle.std.proofs.lemmas.List.Elements.{All-append, All-drop, All-head, All-tail, All-nil, All-weaker, All-push}
-use Rattle.mf_geom.specs.Coordinates.{least_coordinate, greatest_coordinate}
+use Rattle.mf_geom.specs.Coordinates.{least_coordinate, IsCoordinate}
 use Rattle.mf_edges.specs.declared.edge.Edge.{Edge}
 use Rattle.mf_edges.specs.LawfulWeights.{IsLawfulWeight}
 use Rattle.mf_edges.specs.Edges.{weight_in, AreEdgesFrom, AreEdges}
@@ -23,19 +23,14 @@ use Rattle.mf_edges.proofs.EdgesLemmas.{edges_from-append, edges_from-drop, edge
 -- to the left of its column an edge changes nothing, elsewhere it adds its weight
 pub with_edge_in-before : (es : List Edge) (x w c : ℤ) → c <ℤ x → with_edge_in es x w c ≡ weight_in es c
 unfolding with_edge_in
-with_edge_in-before es x w c left =
-    let test : int_le x c ≡ false = grind (arith, ints) in
-    rw (cond-false (int_le x c) w (pos 0) test) (omega (arith, ints))
+with_edge_in-before es x w c left = grind (arith, ints, cond-false)
 
 pub with_edge_in-after : (es : List Edge) (x w c : ℤ) → x ≤ℤ c → with_edge_in es x w c ≡ weight_in es c +ℤ w
 unfolding with_edge_in
-with_edge_in-after es x w c right =
-    let test : int_le x c ≡ true = grind (arith, ints) in
-    ap (λ w. weight_in es c +ℤ w) (cond-true (int_le x c) w (pos 0) test)
+with_edge_in-after es x w c right = grind (arith, ints, cond-true)
 
 with_edge_in-none : (es : List Edge) (x c : ℤ) → with_edge_in es x (pos 0) c ≡ weight_in es c
-with_edge_in-none es x c =
-    by_lt_z c x (with_edge_in-before es x (pos 0) c) (λ right. with_edge_in-after es x (pos 0) c right ∙ omega (arith, ints))
+with_edge_in-none es x c = grind (arith, ints, by_lt_z, with_edge_in-before, with_edge_in-after)
 
 -- ---- the edges at a column
 
@@ -66,8 +61,7 @@ split_after es x left apart = grind (arith, ints, sym, with_edge_in-none, begins
 -- a column at which an edge may be, at or to the right of column low
 pub record IsColumnFrom (low x : ℤ) : Type 0 where
   pub from : low ≤ℤ x
-  pub left : least_coordinate ≤ℤ x
-  pub right : x ≤ℤ greatest_coordinate
+  pub column : IsCoordinate x
 
 -- ---- rows of edges as changes
 
@@ -111,9 +105,9 @@ pub sorted_push : (sum : List Edge) (low x w : ℤ) → AreEdgesFrom least_coord
     → IsColumnFrom low x → AreEdgesFrom least_coordinate (sum ++ unless_zero (record { x = x; weight = w }))
 sorted_push sum low x w sorted before reach =
     by_push (AreEdgesFrom least_coordinate) sum x w (λ _. sorted) (λ nonzero.
-    edges_from-append least_coordinate x sum (record { x = x; weight = w } ∷ []) reach.left sorted
+    edges_from-append least_coordinate x sum (record { x = x; weight = w } ∷ []) reach.column.least sorted
     (All-weaker (λ e. e.x <ℤ low) (λ e. e.x <ℤ x) (λ e lt. omega (arith, ints)) sum before)
-    (record { left = reach.left; right = reach.right; nonzero = nonzero }, omega (arith, ints), tt))
+    (record { column = reach.column; nonzero = nonzero }, omega (arith, ints), tt))
 
 pub before_push : (sum : List Edge) (low x w : ℤ) → All (λ e. e.x <ℤ low) sum → low ≤ℤ x
     → All (λ e. e.x <ℤ (x +ℤ pos 1)) (sum ++ unless_zero (record { x = x; weight = w }))
@@ -199,10 +193,10 @@ module _ {f : ℤ → ℤ} {new es changes fs : List Edge} {e : Edge} {n : ℕ} 
   unfolding weight_in weight_in_both with_edge_in
   sum_more v others split =
       let edge = right_left.sorted.0 in
-      let column : IsColumnFrom e.x e.x = record { from = omega (arith, ints); left = edge.left; right = edge.right } in
+      let column : IsColumnFrom e.x e.x = record { from = omega (arith, ints); column = edge.column } in
       record {
         low = e.x +ℤ pos 1;
-        reach = omega (arith, ints, edge.left);
+        reach = omega (arith, ints, edge.column.least);
         sorted = sorted_push kept e.x e.x (v +ℤ e.weight) kept_sorted kept_below column;
         below = before_push kept e.x e.x (v +ℤ e.weight) kept_below column.from;
         left = split.left;

@@ -1,5 +1,5 @@
 -- The weights of edges.
-use Rattle.std.proofs.Common.{◌≡◌, ℕ, zero, suc, ℤ, pos, ◌+ℤ◌, ◌≤ℤ◌, ◌<ℤ◌, int_le, true, false, List, [], ◌∷◌, ◌++◌, take, drop, refl, sym, ap, ◌∙◌, arith}
+use Rattle.std.proofs.Common.{◌≡◌, ℕ, zero, suc, ℤ, pos, ◌+ℤ◌, ◌≤ℤ◌, ◌<ℤ◌, List, [], ◌∷◌, ◌++◌, take, drop, refl, sym, ap, ◌∙◌, arith}
 use Rattle.std.specs.List.{All}
 use Rattle.std.proofs.lemmas.Bool.{cond-true, cond-false}
 use Rattle.std.proofs.lemmas.Int.{ints, by_lt_z}
@@ -15,20 +15,14 @@ unfolding weight_in
 weight_in-append [] fs x = omega (arith, ints)
 weight_in-append (e ∷ es) fs x = omega (arith, ints, weight_in-append es fs x)
 
-le_test : (a b : ℤ) → a ≤ℤ b → int_le a b ≡ true
-le_test a b le = grind (arith, ints)
-
-gt_test : (a b : ℤ) → b <ℤ a → int_le a b ≡ false
-gt_test a b gt = grind (arith, ints)
-
 -- an edge to the right of the column adds nothing, any other adds its weight
 pub weight_in-left : (e : Edge) (es : List Edge) (x : ℤ) → e.x ≤ℤ x → weight_in (e ∷ es) x ≡ e.weight +ℤ weight_in es x
 unfolding weight_in
-weight_in-left e es x left = ap (λ w. w +ℤ weight_in es x) (cond-true (int_le e.x x) e.weight (pos 0) (le_test e.x x left))
+weight_in-left e es x left = grind (arith, ints, cond-true)
 
 pub weight_in-right : (e : Edge) (es : List Edge) (x : ℤ) → x <ℤ e.x → weight_in (e ∷ es) x ≡ weight_in es x
 unfolding weight_in
-weight_in-right e es x right = omega (arith, ints, cond-false (int_le e.x x) e.weight (pos 0) (gt_test e.x x right))
+weight_in-right e es x right = grind (arith, ints, cond-false)
 
 -- to the left of the first edge the weight is 0
 pub weight_in-before : (low : ℤ) (es : List Edge) (x : ℤ) → AreEdgesFrom low es → x <ℤ low → weight_in es x ≡ pos 0

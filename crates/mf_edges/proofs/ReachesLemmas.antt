@@ -9,7 +9,7 @@ use Rattle.mf_geom.specs.Coordinates.{least_coordinate, greatest_coordinate}
 use Rattle.mf_edges.specs.declared.edge.Edge.{Edge}
 use Rattle.mf_edges.specs.LawfulWeights.{IsLawfulWeight, greatest_weight}
 use Rattle.mf_edges.specs.Edges.{weight_in, AreEdges}
-use Rattle.mf_edges.specs.Merging.{AreChanges, IsChange, greatest_change}
+use Rattle.mf_edges.specs.Merging.{AreChanges, IsChange}
 use Rattle.mf_edges.specs.Reaches.{IsLeastReach, StaysInReach}
 use Rattle.mf_edges.specs.Sums.{IsEdgeSum, IsUnlawfulColumn, weight_in_both}
 use Rattle.mf_edges.proofs.EdgesAt.{edges_from-at, step_at_edge, weight_in-take_after, weight_in-take_more, weight_in-take_same}
@@ -60,7 +60,7 @@ module _ (es : List Edge) (count : ℕ) (d : Edge) (w reach : ℤ) (changes : Ar
 
   before : (x : ℤ) → e.x ≤ℤ x → weight_in (take count es) x ≡ w
   before x after =
-      let right = (edges_from-at least_coordinate es count d changes.sorted inside).0.right in
+      let right = (edges_from-at least_coordinate es count d changes.sorted inside).0.column.greatest in
       weight_in-take_after least_coordinate es count d x changes.sorted inside after
       ∙ sym (weight_in-take_after least_coordinate es count d greatest_coordinate changes.sorted inside right) ∙ sym so_far.weight
 
@@ -74,10 +74,10 @@ module _ (es : List Edge) (count : ℕ) (d : Edge) (w reach : ℤ) (changes : Ar
   pub changes_at : AreChangesAt w e.weight reach
   changes_at = grind (arith, ints, weight_in-take_after, before, sym, at_edge)
 
-  grown : (next : ℤ) → reach ≤ℤ next → pos (nat_abs (w +ℤ e.weight)) ≤ℤ next → (x : ℤ) → pos (nat_abs (weight_in es x)) ≡ next
+  reach_grows : (next : ℤ) → reach ≤ℤ next → pos (nat_abs (w +ℤ e.weight)) ≤ℤ next → (x : ℤ) → pos (nat_abs (weight_in es x)) ≡ next
       → IsReachSoFar es (count + 1) (w +ℤ e.weight) next
-  grown next wider enough x here =
-      let right = (edges_from-at least_coordinate es count d changes.sorted inside).0.right in
+  reach_grows next wider enough x here =
+      let right = (edges_from-at least_coordinate es count d changes.sorted inside).0.column.greatest in
       record {
         weight = sym (weight_in-take_more es count d greatest_coordinate inside right ∙ ap (λ v. v +ℤ e.weight) (sym so_far.weight));
         least = λ x. by_lt_z x e.x
@@ -94,8 +94,8 @@ module _ (es : List Edge) (count : ℕ) (d : Edge) (w reach : ℤ) (changes : Ar
   pub reach_more : IsReachSoFar es (count + 1) (w +ℤ e.weight) (ord_max int_cmp reach (pos (nat_abs (w +ℤ e.weight))))
   reach_more =
       by_greater (IsReachSoFar es (count + 1) (w +ℤ e.weight)) reach (pos (nat_abs (w +ℤ e.weight)))
-      (λ enough. grown reach (omega (arith, ints)) enough so_far.x so_far.here)
-      (λ wider. grown (pos (nat_abs (w +ℤ e.weight))) wider (omega (arith, ints)) e.x (ap (λ v. pos (nat_abs v)) at_edge))
+      (λ enough. reach_grows reach (omega (arith, ints)) enough so_far.x so_far.here)
+      (λ wider. reach_grows (pos (nat_abs (w +ℤ e.weight))) wider (omega (arith, ints)) e.x (ap (λ v. pos (nat_abs v)) at_edge))
 
 pub reach_all : (es : List Edge) (w reach : ℤ) (count : ℕ) → IsReachSoFar es count w reach → length es ≤ count → IsLeastReach reach es
 reach_all es w reach count so_far end =
@@ -105,19 +105,13 @@ reach_all es w reach count so_far end =
 -- ---- reaches that fit
 
 pub reach_bounds : (reach : ℤ) (es : List Edge) → StaysInReach reach es → (pos 0 ≤ℤ reach) × (reach ≤ℤ greatest_weight)
-reach_bounds reach es stays =
-    let least = stays.least (pos 0) in
-    let greatest = stays.greatest (pos 0) in
-    (omega (arith, ints), stays.most)
+reach_bounds reach es stays = let least = stays.least (pos 0) in let greatest = stays.greatest (pos 0) in (omega (arith, ints), stays.most)
 
 pub reach_is : (reach : ℤ) (es : List Edge) → StaysInReach reach es → to_z w32 (of_z w32 reach) ≡ reach
 reach_is reach es stays = let bounds = reach_bounds reach es stays in omega (arith, ints)
 
-pub least_reach_bounds : (reach : ℤ) (es : List Edge) → AreChanges es → IsLeastReach reach es → (pos 0 ≤ℤ reach) × (reach ≤ℤ greatest_change)
-least_reach_bounds reach es changes least = grind (arith, ints)
-
 pub least_reach_is : (reach : ℤ) (es : List Edge) → AreChanges es → IsLeastReach reach es → to_z w32 (of_z w32 reach) ≡ reach
-least_reach_is reach es changes least = let bounds = least_reach_bounds reach es changes least in omega (arith, ints)
+least_reach_is reach es changes least = grind (arith, ints)
 
 -- the least reach is one where it is at most 32767
 pub least_is_reach : (reach : ℤ) (es : List Edge) → IsLeastReach reach es → reach ≤ℤ greatest_weight → StaysInReach reach es
@@ -128,10 +122,6 @@ pub reach_of_row : (reach : ℤ) (es : List Edge) → AreEdges es → IsLeastRea
 reach_of_row reach es edges least = grind (arith, ints, least_is_reach)
 
 -- ---- the sum of two rows
-
--- no weight is neither lawful nor unlawful
-lawful_unless : (w : ℤ) → ((IsLawfulWeight w → ⊥) → ⊥) → IsLawfulWeight w
-lawful_unless w lawful = grind (arith, ints, by_lt_z)
 
 module _ (es fs sum : List Edge) (is_sum : IsEdgeSum es fs sum) where
   -- it is changes
@@ -150,8 +140,7 @@ module _ (es fs sum : List Edge) (is_sum : IsEdgeSum es fs sum) where
 
   -- and where no column is unlawful
   pub row_unless_unlawful : AreEdges es → AreChanges fs → (IsUnlawfulColumn (weight_in_both es fs) → ⊥) → AreEdges sum
-  row_unless_unlawful left right none =
-      sum_is_row left right (λ x. lawful_unless (weight_in_both es fs x) (λ unlawful. none (record { x = x; unlawful = unlawful })))
+  row_unless_unlawful left right none = grind (arith, ints, by_lt_z, sum_is_row)
 
   -- the sum of two reaches is a reach of the sum
   pub reach_of_sum : (a b : ℤ) → StaysInReach a es → StaysInReach b fs → (a +ℤ b) ≤ℤ greatest_weight → StaysInReach (a +ℤ b) sum

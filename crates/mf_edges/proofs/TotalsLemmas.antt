@@ -1,7 +1,6 @@
 -- The total weight of a row, edge by edge.
-use Rattle.std.proofs.Common.{◌≡◌, ℕ, ◌<◌, ◌≤◌, ◌+◌, ◌*◌, ℤ, pos, ◌+ℤ◌, ◌-ℤ◌, ◌*ℤ◌, ◌≤ℤ◌, List, [], ◌∷◌, ◌++◌, length, get_or, take, ap, ◌∙◌, arith}
+use Rattle.std.proofs.Common.{◌≡◌, ℕ, ◌<◌, ◌≤◌, ◌+◌, ◌*◌, ℤ, pos, ◌+ℤ◌, ◌-ℤ◌, ◌*ℤ◌, ◌≤ℤ◌, List, [], ◌∷◌, ◌++◌, length, get_or, take, ap, ◌∙◌, mul-le-mul, arith}
 use Rattle.std.specs.Int.RustNames.{unsigned_abs}
-use Rattle.std.proofs.Math.Nat.{mul-le-mul_left, mul-le-mul_right}
 use Rattle.std.proofs.lemmas.Int.{ints, unsigned_abs-mul}
 use Rattle.std.proofs.lemmas.List.{take_more}
 use Rattle.mf_geom.specs.Coordinates.{least_coordinate, greatest_coordinate, field_size}
@@ -31,9 +30,6 @@ pub record IsPart (e : Edge) (n : ℕ) : Type 0 where
   pub product : unsigned_abs (e.weight *ℤ (greatest_coordinate -ℤ e.x)) ≤ greatest_part
   pub few : n ≤ field_size + 1
 
-product-le : (a b m n : ℕ) → a ≤ m → b ≤ n → a * b ≤ m * n
-product-le a b m n first second = omega (arith, mul-le-mul_left a second, mul-le-mul_right n first)
-
 pub part_at : (es : List Edge) (at : ℕ) (d : Edge) → AreEdges es → at < length es → IsPart (get_or es at d) at
 part_at es at d edges lt =
     let e = get_or es at d in
@@ -43,11 +39,11 @@ part_at es at d edges lt =
     let lower = edges.lawful (e.x -ℤ pos 1) in
     let weight : unsigned_abs e.weight ≤ unsigned_abs greatest_change =
     omega (arith, ints, step, upper.least, upper.greatest, lower.least, lower.greatest) in
-    let columns : unsigned_abs (greatest_coordinate -ℤ e.x) ≤ field_size = omega (arith, ints, here.0.right, here.0.left) in
+    let columns : unsigned_abs (greatest_coordinate -ℤ e.x) ≤ field_size = omega (arith, ints, here.0.column) in
     record {
       weight = weight;
       columns = columns;
-      product = omega (arith, unsigned_abs-mul e.weight (greatest_coordinate -ℤ e.x), product-le (unsigned_abs e.weight) _ _ _ weight columns);
+      product = omega (arith, unsigned_abs-mul e.weight (greatest_coordinate -ℤ e.x), mul-le-mul weight columns);
       few = omega (arith, ints, length-edges least_coordinate es edges.sorted (omega (arith, ints)));
     }
 

@@ -1,7 +1,7 @@
 -- The edges of a row (mf.web, "edge structures"): an edge changes the weights of its row from its column on, so the
 -- weight of a pixel is the sum of the weights of the edges at or to the left of it.
 use Rattle.std.specs.Prelude.{◌≡◌, ◌≢◌, ℤ, pos, ◌+ℤ◌, ◌≤ℤ◌, int_le, List, [], ◌∷◌, if◌then◌else◌}
-use Rattle.mf_geom.specs.Coordinates.{least_coordinate, greatest_coordinate}
+use Rattle.mf_geom.specs.Coordinates.{least_coordinate, greatest_coordinate, IsCoordinate}
 use Rattle.mf_edges.specs.declared.edge.Edge.{Edge}
 use Rattle.mf_edges.specs.LawfulWeights.{IsLawfulWeight}
 
@@ -12,8 +12,7 @@ weight_in (e ∷ es) x = (if int_le e.x x then e.weight else pos 0) +ℤ weight_
 
 -- an edge is at a column of the field or at the one after its last, and its weight is not 0
 pub record IsEdge (e : Edge) : Type 0 where
-  pub left : least_coordinate ≤ℤ e.x
-  pub right : e.x ≤ℤ greatest_coordinate
+  pub column : IsCoordinate e.x
   pub nonzero : e.weight ≢ pos 0
 
 -- lawful edges sorted by column, at most one a column, the first of them at or to the right of column low

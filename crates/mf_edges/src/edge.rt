@@ -1,8 +1,8 @@
 //! The edges of a row, and the weights between them.
-ghost use Rattle.std.specs.Prelude.{◌≡◌, ◌≢◌, ◌<◌, ◌≤◌, ◌+◌, ◌/◌, ◌++◌, All, IsOk, OnOk, OnErr, pos, ◌≤ℤ◌};
+ghost use Rattle.std.specs.Prelude.{◌≡◌, ◌≢◌, ◌<◌, ◌≤◌, ◌+◌, ◌/◌, ◌++◌, All, IsOk, OnOk, OnErr, pos};
 ghost use Rattle.std.specs.List.{HoldsAt};
 ghost use Rattle.std.specs.Vec.{vec_len, vec_capacity};
-ghost use Rattle.mf_geom.specs.Coordinates.{least_coordinate, greatest_coordinate};
+ghost use Rattle.mf_geom.specs.Coordinates.{least_coordinate, IsCoordinate};
 ghost use Rattle.mf_edges.specs.LawfulWeights.{IsLawfulWeight};
 ghost use Rattle.mf_edges.specs.Edges.{AreEdges, AreEdgesFrom, AreOpenEdges, weight_in};
 ghost use Rattle.mf_edges.specs.Merging.{unless_zero, AreChanges};
@@ -78,8 +78,7 @@ pub fn reach_of(edges: &[Edge]) -> i32
 /// list gets at most one edge more, and its capacity never shrinks.
 pub fn add_edge(edges: &mut Vec<Edge>, x: i32, weight: i32) -> Result<(), OutOfMemory>
     requires edges { AreOpenEdges edges.old.items }
-    requires left { least_coordinate ≤ℤ x }
-    requires right { x ≤ℤ greatest_coordinate }
+    requires column { IsCoordinate x }
     requires weight { IsLawfulWeight weight }
     ensures sorted { AreEdgesFrom least_coordinate edges.new.items }
     ensures weights { OnOk result (HaveWeights (with_edge_in edges.old.items x weight) edges.new.items) }

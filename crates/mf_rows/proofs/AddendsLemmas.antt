@@ -22,16 +22,16 @@ use Rattle.mf_rows.specs.Bands.{rows_in, rows_of_bands, slice_rows, AreBelow}
 use Rattle.mf_rows.specs.BandSums.{lowest_of, AreAfter, AreSplitAtBand}
 use Rattle.mf_rows.specs.EdgeRows.{EdgeRow, AreRows, AreRowsFrom}
 use Rattle.mf_rows.specs.FieldBands.{IsOfBand}
-use Rattle.mf_rows.specs.Signs.{signed}
+use Rattle.mf_rows.specs.Signs.{with_sign}
 use Rattle.mf_rows.proofs.BandNumbersLemmas.{at_least, rise-ends, rise-wider, rest_from, split_at_own}
 use Rattle.mf_rows.proofs.BandsLemmas.{All-front}
 use Rattle.mf_rows.proofs.BandSumsLemmas.{rows_of_first, rows_of_rest}
 use Rattle.mf_rows.proofs.EdgeRowsLemmas.{rows_from-below}
 use Rattle.mf_rows.proofs.FieldBandsLemmas.{All-rows_of_bands, between_ends, own_band, rows_of_band, rows_split_at}
-use Rattle.mf_rows.proofs.SignsLemmas.{signed_all, signed_rows, signed_split}
+use Rattle.mf_rows.proofs.SignsLemmas.{with_sign_all, with_sign_rows, with_sign_split}
 
 pub added_are_rows : (added : Addend) → IsAddedFrom (pos 0) added → AreRows (addend_rows added)
-added_are_rows (Bands bands sign) from = signed_rows sign (rows_of_bands bands.now) from.0
+added_are_rows (Bands bands sign) from = with_sign_rows sign (rows_of_bands bands.now) from.0
 added_are_rows (Rows rows) from = from.0
 
 -- all rows of the field belong to bands from band 0 on
@@ -63,10 +63,10 @@ first_band s bs rest b rows from is same =
       };
       reached = λ m reached. (subst (RiseFrom m) is reached.1).0;
       greatest = greatest;
-      none_before = signed_all (λ y. y <ℤ lowest_of (n -ℤ pos 1)) s (rows_of_bands bs.now)
+      none_before = with_sign_all (λ y. y <ℤ lowest_of (n -ℤ pos 1)) s (rows_of_bands bs.now)
           (All-rows_of_bands (λ m. n ≤ℤ m) (λ y. y <ℤ lowest_of (n -ℤ pos 1)) (λ m y le of_band. omega (arith, ints, le, of_band.top)) bs.now
           (at_least n BAND_COUNT bs.now here));
-      rows = subst (λ rs. AreSplitAtBand n (signed s (rows_of_bands bs.now)) (signed s rs) (signed s (rows_of_bands rest.now))) own (signed_split s parts);
+      rows = subst (λ rs. AreSplitAtBand n (with_sign s (rows_of_bands bs.now)) (with_sign s rs) (with_sign s (rows_of_bands rest.now))) own (with_sign_split s parts);
       after = (rows_of_rest parts from.0, rest_from split n here greatest);
       fewer = omega (arith, ap length is);
     }
@@ -76,7 +76,7 @@ fewer_after_first : (n : ℤ) (ss own rest : List EdgeRow) (r : EdgeRow) (below 
     → AreSplitAtBand n ss own rest → length rest < length ss
 fewer_after_first n ss [] rest r below first reached split =
     let same : rest ≡ r ∷ below = sym split.all ∙ first in
-    let after : r.y <ℤ lowest_of n = All-head (λ r. r.y <ℤ lowest_of n) r below (subst (AreBelow (lowest_of n)) same split.after) in
+    let after : r.y <ℤ lowest_of n = All-head (λ r. r.y <ℤ lowest_of n) r below (subst (AreBelow (lowest_of n)) same split.below) in
     absurd (omega (arith, ints, after, reached))
 fewer_after_first n ss (o ∷ own) rest r below first reached split = omega (arith, ap length split.all, length-append (o ∷ own) rest)
 
@@ -97,7 +97,7 @@ first_rows number rows own rest r below lawful first of_number split =
     record {
       lawful = record {
         rows = rows_of_first split lawful;
-        of_band = between_ends n (slice_rows own) split.up_to
+        of_band = between_ends n (slice_rows own) split.above
             (All-front (λ r. r.y <ℤ end) (slice_rows own) (slice_rows rest) (subst (AreBelow end) split.all below_end));
         number = tt;
         band = tt;
@@ -108,6 +108,6 @@ first_rows number rows own rest r below lawful first of_number split =
       greatest = band.greatest;
       none_before = All-weaker (λ r. r.y <ℤ end) (λ r. r.y <ℤ lowest_of (n -ℤ pos 1)) (λ r lt. omega (arith, ints, lt)) (slice_rows rows) below_end;
       rows = split;
-      after = (rows_of_rest split lawful, subst (λ m. AreAfter m (slice_rows rest)) last split.after);
+      after = (rows_of_rest split lawful, subst (λ m. AreAfter m (slice_rows rest)) last split.below);
       fewer = fewer_after_first n (slice_rows rows) (slice_rows own) (slice_rows rest) r below first (omega (arith, ints, of_band.bottom)) split;
     }

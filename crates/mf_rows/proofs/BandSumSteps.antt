@@ -11,7 +11,7 @@ use Rattle.mf_rows.specs.Bands.{rows_of_bands, AreBelow}
 use Rattle.mf_rows.specs.BandSums.{lowest_of, AreSplitAtBand, HasSum}
 use Rattle.mf_rows.specs.BandNumbers.{numbers_of, RiseWithin, HaveRisingNumbers, RiseBefore, RiseFrom, IsOnlyBand, IsSplitAtBand}
 use Rattle.mf_rows.specs.EdgeRows.{EdgeRow, AreRows}
-use Rattle.mf_rows.specs.Sums.{weight_in_all, IsUnlawfulSomewhere}
+use Rattle.mf_rows.specs.Sums.{sum_in_rows, IsUnlawfulSomewhere}
 use Rattle.mf_rows.specs.Addends.{IsAddedFrom, IsSplitAtFirst, addend_rows, part_rows}
 use Rattle.mf_rows.specs.declared.addend.Addend.{Addend}
 use Rattle.mf_rows.specs.declared.addend.Part.{Part}
@@ -36,7 +36,7 @@ pub record IsBandSumSoFar (f : ℤ → ℤ → ℤ) (sum bs : List (Arc Band Glo
   pub right : IsAddedFrom next added
 
 pub nothing_added : (bs : List (Arc Band Global)) (added : Addend) → AreRows (rows_of_bands bs) → HaveRisingNumbers bs → IsAddedFrom (pos 0) added
-    → IsBandSumSoFar (weight_in_all (rows_of_bands bs) (addend_rows added)) [] bs added
+    → IsBandSumSoFar (sum_in_rows (rows_of_bands bs) (addend_rows added)) [] bs added
 nothing_added bs added left rising from = record {
   rows = sum_none (rows_of_bands bs) (addend_rows added) left (added_are_rows added from);
   next = pos 0;
@@ -73,7 +73,7 @@ module _ {f : ℤ → ℤ → ℤ} {sum bs : List (Arc Band Global)} {added : Ad
     number_before = omega (arith, ints, reached, least, first.greatest)
 
     none_before : AreSplitAtBand (part.number -ℤ pos 1) (addend_rows added) [] (addend_rows added)
-    none_before = record { all = refl; up_to = All-nil (λ r. (lowest_of (part.number -ℤ pos 1) -ℤ pos 1) <ℤ r.y); after = first.none_before }
+    none_before = record { all = refl; above = All-nil (λ r. (lowest_of (part.number -ℤ pos 1) -ℤ pos 1) <ℤ r.y); below = first.none_before }
 
     module _ {before others : List (Arc Band Global)}
         (bands_split : IsSplitAtBand (to_z w32 (of_z w32 (to_z w32 (of_z w32 part.number) -ℤ pos 1))) bs before others) where
@@ -111,7 +111,7 @@ module _ {f : ℤ → ℤ → ℤ} {sum bs : List (Arc Band Global)} {added : Ad
               sum_more_step so_far.rows (part.number -ℤ pos 1) _ _ [] (addend_rows added) (rows_split_at split) none_before _
               (has_sum-left _ _ [] _ (rows_of_first (rows_split_at split) (rows_left so_far.rows)) refl with_before)
 
-          pub unlawful_in_band : IsUnlawfulSomewhere (weight_in_all (rows_of_bands own) (part_rows part))
+          pub unlawful_in_band : IsUnlawfulSomewhere (sum_in_rows (rows_of_bands own) (part_rows part))
               → IsUnlawfulSomewhere f
           unlawful_in_band = unlawful_in_step so_far_before part.number _ _ _ _ (rows_split_at own_split) first.rows
 

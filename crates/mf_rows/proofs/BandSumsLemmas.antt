@@ -4,10 +4,10 @@ use Rattle.std.specs.Int.{int_min}
 use Rattle.std.proofs.lemmas.Int.{ints, clamps, by_lt_z}
 use Rattle.std.proofs.lemmas.List.Elements.{All-head, All-append, All-weaker}
 use Rattle.mf_geom.specs.Coordinates.{last_in_field}
-use Rattle.mf_rows.specs.Bands.{AreBelow}
+use Rattle.mf_rows.specs.Bands.{AreBelow, AreSplit}
 use Rattle.mf_rows.specs.BandSums.{lowest_of, AreUpTo, AreAfter, AreSplitAtBand, HasSum}
 use Rattle.mf_rows.specs.EdgeRows.{EdgeRow, AreRowsFrom, AreRows, weight_in_rows}
-use Rattle.mf_rows.specs.Sums.{weight_in_all, IsUnlawfulSomewhere}
+use Rattle.mf_rows.specs.Sums.{sum_in_rows, IsUnlawfulSomewhere}
 use Rattle.mf_rows.proofs.EdgeRowsLemmas.{weight_in_rows-append, weight_in_rows-above, weight_in_rows-below}
 use Rattle.mf_rows.proofs.EdgeRowsLemmas.{rows_from-below, rows_from-front, rows_from-back, rows_from-append}
 use Rattle.mf_rows.proofs.RowSums.{IsRowSumSoFar}
@@ -15,19 +15,19 @@ use Rattle.mf_rows.proofs.RowSums.{IsRowSumSoFar}
 -- ---- rows that only one of two lists has
 
 pub has_sum-right : (before rs ss after : List EdgeRow) → AreRows ss → rs ≡ [] → after ≡ before ++ ss → HasSum before rs ss after
-unfolding weight_in_all weight_in_rows
+unfolding sum_in_rows weight_in_rows
 has_sum-right before rs ss after rows none all = grind (arith, ints)
 
 pub has_sum-left : (before rs ss after : List EdgeRow) → AreRows rs → ss ≡ [] → after ≡ before ++ rs → HasSum before rs ss after
-unfolding weight_in_all weight_in_rows
+unfolding sum_in_rows weight_in_rows
 has_sum-left before rs ss after rows none all = grind (arith, ints)
 
 -- ---- rows that are split
 
-pub rows_of_first : {n : ℤ} {rs first rest : List EdgeRow} → AreSplitAtBand n rs first rest → AreRows rs → AreRows first
+pub rows_of_first : {high low : ℤ} {rs first rest : List EdgeRow} → AreSplit high low rs first rest → AreRows rs → AreRows first
 rows_of_first split rows = record { rows = rows_from-front last_in_field _ _ (subst (AreRowsFrom last_in_field) split.all rows.rows) }
 
-pub rows_of_rest : {n : ℤ} {rs first rest : List EdgeRow} → AreSplitAtBand n rs first rest → AreRows rs → AreRows rest
+pub rows_of_rest : {high low : ℤ} {rs first rest : List EdgeRow} → AreSplit high low rs first rest → AreRows rs → AreRows rest
 rows_of_rest split rows = record { rows = rows_from-back last_in_field _ _ (subst (AreRowsFrom last_in_field) split.all rows.rows) }
 
 -- ---- one step
@@ -53,19 +53,19 @@ module _ {f : ℤ → ℤ → ℤ} {sum rs ss : List EdgeRow} (so_far : IsRowSum
   below_right : (y : ℤ) → so_far.top <ℤ y → AreBelow y first_right
   below_right y lt = grind (arith, ints, rows_from-below, rows_from-front, from_top_right)
 
-  weight_in_all-parts : (x y : ℤ) → weight_in_all rs ss x y
-      ≡ weight_in_all first_left first_right x y +ℤ weight_in_all rest_left rest_right x y
-  unfolding weight_in_all
-  weight_in_all-parts x y =
+  sum_in_rows-parts : (x y : ℤ) → sum_in_rows rs ss x y
+      ≡ sum_in_rows first_left first_right x y +ℤ sum_in_rows rest_left rest_right x y
+  unfolding sum_in_rows
+  sum_in_rows-parts x y =
       let left = weight_in_rows-append first_left rest_left x y in
       let right = weight_in_rows-append first_right rest_right x y in
       rw (split_left.all, split_right.all) (omega (arith, ints))
 
   -- where the first rows have a weight, neither the sum so far nor the other rows have a row
-  weight_in_all-step : (x y : ℤ) → weight_in_all first_left first_right x y ≢ pos 0
-      → f x y ≡ weight_in_all first_left first_right x y
-  unfolding weight_in_all
-  weight_in_all-step x y some =
+  sum_in_rows-step : (x y : ℤ) → sum_in_rows first_left first_right x y ≢ pos 0
+      → f x y ≡ sum_in_rows first_left first_right x y
+  unfolding sum_in_rows
+  sum_in_rows-step x y some =
       by_lt_z so_far.top y
       (λ over.
       let none_left = weight_in_rows-below first_left x y (below_left y over) in
@@ -75,22 +75,22 @@ module _ {f : ℤ → ℤ → ℤ} {sum rs ss : List EdgeRow} (so_far : IsRowSum
       (λ under.
       let higher =
       λ (rs : List EdgeRow) (up_to : AreUpTo n rs). All-weaker (λ r. (lowest_of n -ℤ pos 1) <ℤ r.y) (λ r. y <ℤ r.y) (λ r lt. omega (arith, ints)) rs up_to in
-      let none_left = weight_in_rows-above first_left x y (higher first_left split_left.up_to) in
-      let none_right = weight_in_rows-above first_right x y (higher first_right split_right.up_to) in
+      let none_left = weight_in_rows-above first_left x y (higher first_left split_left.above) in
+      let none_right = weight_in_rows-above first_right x y (higher first_right split_right.above) in
       absurd (some (omega (arith, ints))))
       (λ reached.
       let lower =
       λ (rs : List EdgeRow) (after : AreAfter n rs). All-weaker (λ r. r.y <ℤ lowest_of n) (λ r. r.y <ℤ y) (λ r lt. omega (arith, ints)) rs after in
       let none_before = weight_in_rows-above sum x y (All-weaker (λ r. so_far.top <ℤ r.y) (λ r. y <ℤ r.y) (λ r lt. omega (arith, ints)) sum so_far.above) in
-      let none_left = weight_in_rows-below rest_left x y (lower rest_left split_left.after) in
-      let none_right = weight_in_rows-below rest_right x y (lower rest_right split_right.after) in
+      let none_left = weight_in_rows-below rest_left x y (lower rest_left split_left.below) in
+      let none_right = weight_in_rows-below rest_right x y (lower rest_right split_right.below) in
       let all = so_far.weights x y in
-      let parts = weight_in_all-parts x y in
+      let parts = sum_in_rows-parts x y in
       omega (arith, ints)))
 
-  pub unlawful_in_step : IsUnlawfulSomewhere (weight_in_all first_left first_right)
+  pub unlawful_in_step : IsUnlawfulSomewhere (sum_in_rows first_left first_right)
       → IsUnlawfulSomewhere f
-  unlawful_in_step unlawful = grind (arith, ints, weight_in_all-step)
+  unlawful_in_step unlawful = grind (arith, ints, sum_in_rows-step)
 
   pub sum_more_step : (after : List EdgeRow) → HasSum sum first_left first_right after
       → IsRowSumSoFar f after rest_left rest_right
@@ -105,14 +105,14 @@ module _ {f : ℤ → ℤ → ℤ} {sum rs ss : List EdgeRow} (so_far : IsRowSum
         above = All-append (λ r. top <ℤ r.y) sum step.more
             (All-weaker (λ r. so_far.top <ℤ r.y) (λ r. top <ℤ r.y) (λ r lt. omega (arith, ints, lower)) sum so_far.above)
             (All-weaker (λ r. (lowest_of n -ℤ pos 1) <ℤ r.y) (λ r. top <ℤ r.y) (λ r lt. omega (arith, ints, lower_than_band)) step.more
-            (step.within.above (lowest_of n -ℤ pos 1) split_left.up_to split_right.up_to));
+            (step.within.above (lowest_of n -ℤ pos 1) split_left.above split_right.above));
         left = rows_from-both so_far.top (lowest_of n) rest_left
-            (rows_from-back so_far.top first_left rest_left from_top_left) split_left.after;
+            (rows_from-back so_far.top first_left rest_left from_top_left) split_left.below;
         right = rows_from-both so_far.top (lowest_of n) rest_right
-            (rows_from-back so_far.top first_right rest_right from_top_right) split_right.after;
+            (rows_from-back so_far.top first_right rest_right from_top_right) split_right.below;
         weights = λ x y.
             let old = so_far.weights x y in
-            let parts = weight_in_all-parts x y in
+            let parts = sum_in_rows-parts x y in
             let sum_is = weight_in_rows-append sum step.more x y in
             let more_is = step.weights.weights x y in
             omega (arith, ints);

@@ -50,11 +50,6 @@ row_here y above r below lawful higher here =
           omega (arith, ints);
     }
 
-no_row_here : (y : ℤ) (above : List EdgeRow) (r : EdgeRow) (below : List EdgeRow) → AreRows (above ++ r ∷ below)
-    → AreAbove y above → r.y <ℤ y → HasNoRow (above ++ r ∷ below) y
-no_row_here y above r below lawful higher after =
-    grind (arith, ints, rows_from-back, rows_from-below, weight_in_rows-append, weight_in_rows-above, weight_in_rows-below)
-
 -- rows that are split at row y: those above it, and the others
 module _ (y : ℤ) (rs above others : List EdgeRow) (all : rs ≡ above ++ others) (higher : AreAbove y above) where
   pub absent_row_all : others ≡ [] → HasNoRow rs y
@@ -70,7 +65,9 @@ module _ (y : ℤ) (rs above others : List EdgeRow) (all : rs ≡ above ++ other
     pub absent_row : All (λ s. s.y ≤ℤ y) others → r.y ≢ y → HasNoRow rs y
     absent_row up_to elsewhere =
         let not_above = All-head (λ s. s.y ≤ℤ y) r below (subst (All (λ s. s.y ≤ℤ y)) first up_to) in
-        subst (λ ss. HasNoRow ss y) (sym with_first) (no_row_here y above r below (subst AreRows with_first lawful) higher (omega (arith, ints)))
+        let rows : AreRows (above ++ r ∷ below) = subst AreRows with_first lawful in
+        subst (λ ss. HasNoRow ss y) (sym with_first)
+        (grind (arith, ints, rows_from-back, rows_from-below, weight_in_rows-append, weight_in_rows-above, weight_in_rows-below))
 
 -- ---- the rows of heads
 

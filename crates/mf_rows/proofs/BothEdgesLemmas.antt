@@ -17,8 +17,8 @@ use Rattle.mf_rows.specs.BothEdges.{with_edge, edges_of_both}
 -- ---- one edge more
 
 -- the edges at one column together
-abbrev pub joined : Edge → Edge → List Edge
-joined e f = unless_zero (record { x = e.x; weight = e.weight +ℤ f.weight })
+abbrev pub edge_of_both : Edge → Edge → List Edge
+edge_of_both e f = unless_zero (record { x = e.x; weight = e.weight +ℤ f.weight })
 
 module _ (e f : Edge) (fs : List Edge) where
   with_edge-before : e.x <ℤ f.x → with_edge e (f ∷ fs) ≡ e ∷ f ∷ fs
@@ -29,19 +29,19 @@ module _ (e f : Edge) (fs : List Edge) where
   unfolding with_edge
   with_edge-after gt = grind (arith, ints)
 
-  with_edge-here : e.x ≡ f.x → with_edge e (f ∷ fs) ≡ joined e f ++ fs
+  with_edge-here : e.x ≡ f.x → with_edge e (f ∷ fs) ≡ edge_of_both e f ++ fs
   unfolding with_edge
   with_edge-here same = grind (arith, ints)
 
   -- an edge is before the first one, after it or at its column
-  pub by_place : (P : List Edge → Type 0) → (e.x <ℤ f.x → P (e ∷ f ∷ fs)) → (f.x <ℤ e.x → P (f ∷ with_edge e fs)) → (e.x ≡ f.x → P (joined e f ++ fs))
+  pub by_place : (P : List Edge → Type 0) → (e.x <ℤ f.x → P (e ∷ f ∷ fs)) → (f.x <ℤ e.x → P (f ∷ with_edge e fs)) → (e.x ≡ f.x → P (edge_of_both e f ++ fs))
       → P (with_edge e (f ∷ fs))
   by_place P before after here = grind (arith, ints, by_lt_z, sym, with_edge-before, with_edge-after, with_edge-here)
 
 -- edges at one column add up, also where they cancel
-weight_in-joined : (e f : Edge) (c : ℤ) → e.x ≡ f.x → weight_in (joined e f) c ≡ weight_in (e ∷ []) c +ℤ weight_in (f ∷ []) c
+weight_in-edge_of_both : (e f : Edge) (c : ℤ) → e.x ≡ f.x → weight_in (edge_of_both e f) c ≡ weight_in (e ∷ []) c +ℤ weight_in (f ∷ []) c
 unfolding weight_in
-weight_in-joined e f c same =
+weight_in-edge_of_both e f c same =
     rw (← same)
     (cond_both (int_eq (e.weight +ℤ f.weight) (pos 0)) [] (record { x = e.x; weight = e.weight +ℤ f.weight } ∷ [])
     (λ es. weight_in es c ≡ (cond (int_le e.x c) e.weight (pos 0) +ℤ pos 0) +ℤ (cond (int_le e.x c) f.weight (pos 0) +ℤ pos 0))
@@ -55,7 +55,7 @@ weight_in-with e (f ∷ fs) x =
     by_place e f fs (λ es. weight_in es x ≡ weight_in (e ∷ []) x +ℤ weight_in (f ∷ fs) x)
     (λ _. weight_in-append (e ∷ []) (f ∷ fs) x)
     (λ _. omega (arith, ints, weight_in-append (f ∷ []) (with_edge e fs) x, weight_in-append (f ∷ []) fs x, weight_in-with e fs x))
-    (λ same. omega (arith, ints, weight_in-append (joined e f) fs x, weight_in-append (f ∷ []) fs x, weight_in-joined e f x same))
+    (λ same. omega (arith, ints, weight_in-append (edge_of_both e f) fs x, weight_in-append (f ∷ []) fs x, weight_in-edge_of_both e f x same))
 
 edges_from-with : (low : ℤ) (e : Edge) (fs : List Edge) → IsEdge e → low ≤ℤ e.x → AreEdgesFrom low fs → AreEdgesFrom low (with_edge e fs)
 unfolding with_edge
@@ -70,14 +70,14 @@ edges_from-with low e (f ∷ fs) edge from edges =
     (λ test.
     let sum = e.weight +ℤ f.weight in
     let nonzero = not_from_Decides (int_eq sum (pos 0)) (Decides-int_eq sum (pos 0)) test in
-    (record { left = edge.left; right = edge.right; nonzero = nonzero }, from, rw same edges.2)))
+    (record { column = edge.column; nonzero = nonzero }, from, rw same edges.2)))
 
 -- an edge among edges is not among those after it
 with_edge-append : (e : Edge) (fs gs : List Edge) → BeginFrom (e.x +ℤ pos 1) gs → with_edge e (fs ++ gs) ≡ with_edge e fs ++ gs
 unfolding with_edge
 with_edge-append e [] [] from = refl
 with_edge-append e [] (g ∷ gs) from = with_edge-before e g gs (omega (arith, ints))
-with_edge-append e (f ∷ fs) gs from = grind (arith, ints, with_edge-append e fs gs from, append_assoc (joined e f) fs gs)
+with_edge-append e (f ∷ fs) gs from = grind (arith, ints, with_edge-append e fs gs from, append_assoc (edge_of_both e f) fs gs)
 
 -- ---- two rows
 
@@ -128,7 +128,7 @@ both-left e es fs left right =
     with_edge-append e [] (edges_of_both es fs) (begin_from (e.x +ℤ pos 1) (edges_of_both es fs) (edges_from-both (e.x +ℤ pos 1) es fs left right))
 
 pub both-here : (e f : Edge) (es fs : List Edge) → e.x ≡ f.x → AreEdgesFrom (e.x +ℤ pos 1) es
-    → edges_of_both (e ∷ es) (f ∷ fs) ≡ joined e f ++ edges_of_both es fs
+    → edges_of_both (e ∷ es) (f ∷ fs) ≡ edge_of_both e f ++ edges_of_both es fs
 unfolding edges_of_both
 both-here e f es fs same left = ap (with_edge e) (both-right f es fs (rw (← same) left)) ∙ with_edge-here e f (edges_of_both es fs) same
 
@@ -146,8 +146,8 @@ module _ (e : Edge) (es fs : List Edge) (edge : IsEdge e) (left : All (λ f. f.x
   unfolding edges_of_both with_edge
   both-right_last = ap (λ es. edges_of_both es (fs ++ e ∷ [])) (sym (append-nil es)) ∙ both-append e.x es fs [] (e ∷ []) left right tt last
 
-  pub both-here_last : (f : Edge) → e.x ≡ f.x → IsEdge f → edges_of_both (es ++ e ∷ []) (fs ++ f ∷ []) ≡ edges_of_both es fs ++ joined e f
+  pub both-here_last : (f : Edge) → e.x ≡ f.x → IsEdge f → edges_of_both (es ++ e ∷ []) (fs ++ f ∷ []) ≡ edges_of_both es fs ++ edge_of_both e f
   unfolding edges_of_both
   both-here_last f same other =
       both-append e.x es fs (e ∷ []) (f ∷ []) left right last (other, omega (arith, ints), tt)
-      ∙ ap (λ gs. edges_of_both es fs ++ gs) (with_edge-here e f [] same ∙ append-nil (joined e f))
+      ∙ ap (λ gs. edges_of_both es fs ++ gs) (with_edge-here e f [] same ∙ append-nil (edge_of_both e f))

@@ -21,7 +21,7 @@ use Rattle.mf_rows.specs.BothRows.{row_of_both, with_row, rows_of_both}
 use Rattle.mf_rows.specs.EdgeRows.{EdgeRow, IsEdgeRow, AreRowsFrom, AreRows, weight_in_rows}
 use Rattle.mf_rows.specs.Merging.{row_found}
 use Rattle.mf_rows.specs.Rest.{remaining_rows}
-use Rattle.mf_rows.specs.Sums.{weight_in_all}
+use Rattle.mf_rows.specs.Sums.{sum_in_rows}
 use Rattle.mf_rows.proofs.BlankRowsLemmas.{weight_in_rows-unless_blank, rows_from-unless_blank, All-unless_blank}
 use Rattle.mf_rows.proofs.BothEdgesLemmas.{weight_in-both, edges_from-both}
 use Rattle.mf_rows.proofs.EdgeRowsLemmas.{weight_in_rows-append, weight_in_rows-here, weight_in_rows-elsewhere, weight_in_rows-below}
@@ -40,14 +40,6 @@ with_row-above : (r : EdgeRow) (ss : List EdgeRow) → AreBelow r.y ss → with_
 unfolding with_row
 with_row-above r [] below = refl
 with_row-above r (s ∷ ss) below = grind (arith, ints, All-head)
-
-with_row-below : (r s : EdgeRow) (ss : List EdgeRow) → r.y <ℤ s.y → with_row r (s ∷ ss) ≡ s ∷ with_row r ss
-unfolding with_row
-with_row-below r s ss lt = grind (arith, ints)
-
-with_row-same : (r s : EdgeRow) (ss : List EdgeRow) → s.y ≡ r.y → with_row r (s ∷ ss) ≡ unless_blank (row_of_both r s) ++ ss
-unfolding with_row
-with_row-same r s ss here = grind (arith, ints)
 
 sum_where : (here : Bool) (a b c : ℤ) → ((if here then a +ℤ b else pos 0) +ℤ pos 0) +ℤ c
     ≡ (if here then a else pos 0) +ℤ ((if here then b else pos 0) +ℤ c)
@@ -122,9 +114,9 @@ All-both P [] ss own others = others
 All-both P (r ∷ rs) ss own others =
     All-with_row P r (rows_of_both rs ss) (All-head (λ s. P s.y) r rs own) (All-both P rs ss (All-tail (λ s. P s.y) r rs own) others)
 
-rows_from-both : (top : ℤ) (rs ss : List EdgeRow) → AreRowsFrom top rs → AreRowsFrom top ss → ((x y : ℤ) → IsLawfulWeight (weight_in_all rs ss x y))
+rows_from-both : (top : ℤ) (rs ss : List EdgeRow) → AreRowsFrom top rs → AreRowsFrom top ss → ((x y : ℤ) → IsLawfulWeight (sum_in_rows rs ss x y))
     → AreRowsFrom top (rows_of_both rs ss)
-unfolding rows_of_both weight_in_all
+unfolding rows_of_both sum_in_rows
 rows_from-both top [] ss left right lawful = right
 rows_from-both top (r ∷ rs) ss left right lawful =
     let below = rows_from-below (r.y -ℤ pos 1) r.y rs left.2 (omega (arith, ints)) in
@@ -142,7 +134,7 @@ rows_from-both top (r ∷ rs) ss left right lawful =
     let others = weight_in_rows-both rs ss x r.y in
     record { least = omega (arith, ints, sum.least, own, none, others); greatest = omega (arith, ints, sum.greatest, own, none, others) })
 
-pub rows-both : (rs ss : List EdgeRow) → AreRows rs → AreRows ss → ((x y : ℤ) → IsLawfulWeight (weight_in_all rs ss x y))
+pub rows-both : (rs ss : List EdgeRow) → AreRows rs → AreRows ss → ((x y : ℤ) → IsLawfulWeight (sum_in_rows rs ss x y))
     → AreRows (rows_of_both rs ss)
 rows-both rs ss left right lawful = record { rows = rows_from-both last_in_field rs ss left.rows right.rows lawful }
 
@@ -155,18 +147,18 @@ rows_both-above r rs ss own others = with_row-above r (rows_of_both rs ss) (All-
 
 -- the first row of the second list, where it is above those of the first
 pub rows_both-below : (s : EdgeRow) (rs ss : List EdgeRow) → AreBelow s.y rs → rows_of_both rs (s ∷ ss) ≡ s ∷ rows_of_both rs ss
-unfolding rows_of_both
+unfolding rows_of_both with_row
 rows_both-below s [] ss own = refl
 rows_both-below s (r ∷ rs) ss own =
     rw (rows_both-below s rs ss (All-tail (λ r. r.y <ℤ s.y) r rs own))
-    (with_row-below r s (rows_of_both rs ss) (All-head (λ r. r.y <ℤ s.y) r rs own))
+    (grind (arith, ints, All-head))
 
 -- both first rows, where they have one height
 pub rows_both-same : (r s : EdgeRow) (rs ss : List EdgeRow) → s.y ≡ r.y → AreBelow r.y rs
     → rows_of_both (r ∷ rs) (s ∷ ss) ≡ unless_blank (row_of_both r s) ++ rows_of_both rs ss
-unfolding rows_of_both
+unfolding rows_of_both with_row
 rows_both-same r s rs ss same own =
-    rw (rows_both-below s rs ss (subst (λ y. AreBelow y rs) (sym same) own)) (with_row-same r s (rows_of_both rs ss) same)
+    rw (rows_both-below s rs ss (subst (λ y. AreBelow y rs) (sym same) own)) (grind (arith, ints))
 
 none_from : (top : ℤ) (rs : List EdgeRow) → AreRowsFrom top rs → rows_of_both rs [] ≡ rs
 unfolding rows_of_both

@@ -44,10 +44,6 @@ above_all : (rs : List EdgeRow) (row : EdgeRow) (y : ℤ) → AreAbove row.y rs 
 above_all rs row y above below =
     All-push (λ r. y <ℤ r.y) rs row (All-weaker (λ r. row.y <ℤ r.y) (λ r. y <ℤ r.y) (λ r above. omega (arith, ints)) rs above) below
 
--- a row below all others may follow them
-rows-push : (rs : List EdgeRow) (row : EdgeRow) → AreRows rs → AreAbove row.y rs → IsEdgeRow row → AreRows (rs ++ row ∷ [])
-rows-push rs row rows above lawful = grind (arith, ints, rows_from-append, All-weaker, All-cons, All-nil)
-
 -- the last row adds its weights to its own row alone
 weight-in_last : (rs : List EdgeRow) (row : EdgeRow) (x y : ℤ) → row.y ≡ y
     → weight_in_rows (rs ++ row ∷ []) x y ≡ weight_in_rows rs x y +ℤ weight_in row.edges x
@@ -163,7 +159,7 @@ pushed all rs old new r lawful fits rows above row has weights =
     let outside : (x y : ℤ) → (IsOnRun r x y → ⊥) → weight_in_rows (rs ++ new ∷ []) x y ≡ weight_in_rows (rs ++ old ∷ []) x y =
     grind (arith, ints, by_same, weight-in_last, sym, weight-in_others) in
     record {
-      rows = rows-push rs new rows below own;
+      rows = grind (arith, ints, rows_from-append, All-weaker, All-cons, All-nil);
       picture = sym (picture_of_rows-from_weights (ds ++ dots_of r) (rs ++ new ∷ []) (picture-push ds r (lawful_picture_of_rows all lawful) fits) (record {
         weights = λ x y inside. grind (arith, ints, by_on_run, weight_at-on_run, sym, weight-in_own, weight_at-off_run, weight_at-picture_of_rows);
       }));

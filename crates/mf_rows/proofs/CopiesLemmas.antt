@@ -26,7 +26,7 @@ take_next hs n h inside item = take_more hs n h inside ∙ ap (λ (g : Head). ta
 
 -- ---- places within places
 
-within_wider : (i j k l : ℕ) → k ≤ i → j ≤ l → (p : Place) → LiesBetween i j p → LiesBetween k l p
+pub within_wider : (i j k l : ℕ) → k ≤ i → j ≤ l → (p : Place) → LiesBetween i j p → LiesBetween k l p
 within_wider i j k l first last (place.Among m n) within = (omega (arith, within.0), omega (arith, within.1))
 within_wider i j k l first last (place.Own own) within = tt
 
@@ -36,10 +36,6 @@ within_more i j k l first last hs n h inside item so_far here =
     subst (All (λ g. LiesBetween k l g.place)) (sym (take_next hs n h inside item))
     (All-push (λ g. LiesBetween k l g.place) (take n hs) h
     (All-weaker (λ g. LiesBetween i j g.place) (λ g. LiesBetween k l g.place) (λ g. within_wider i j k l first last g.place) (take n hs) so_far) here)
-
-pub within_all : (i j l : ℕ) → j ≤ l → (hs : List Head) (n : ℕ) → length hs ≤ n
-    → All (λ g. LiesBetween i j g.place) (take n hs) → All (λ g. LiesBetween i l g.place) hs
-within_all i j l last hs n all so_far = grind (arith, All-weaker, within_wider, take_all)
 
 -- ---- a part of a part
 

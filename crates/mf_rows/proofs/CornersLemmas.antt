@@ -76,7 +76,7 @@ falling_by_index top (k ∷ l ∷ ks) first falls =
 
 first_below_field_top : (ks : List Corner) → All IsCorner ks → first_height_of ks ≤ℤ greatest_coordinate
 first_below_field_top [] corners = omega (arith, ints)
-first_below_field_top (k ∷ ks) corners = (All-head IsCorner k ks corners).top
+first_below_field_top (k ∷ ks) corners = (All-head IsCorner k ks corners).height.greatest
 
 pub falling_from_sorted : (ks : List Corner) → All IsCorner ks → IsSortedBy (λ k l. is_lt (int_cmp l.y k.y)) ks → AreFalling greatest_coordinate ks
 falling_from_sorted ks corners sorted = falling_by_index greatest_coordinate ks (first_below_field_top ks corners) (λ i d lt.
@@ -85,12 +85,12 @@ falling_from_sorted ks corners sorted = falling_by_index greatest_coordinate ks 
 
 -- the first of the corners after a corner is no higher
 next_height_falls : (k : Corner) (ks : List Corner) → IsCorner k → AreFalling k.y ks → first_height_of ks ≤ℤ k.y
-next_height_falls k [] corner falling = corner.bottom
+next_height_falls k [] corner falling = corner.height.least
 next_height_falls k (l ∷ ks) corner falling = falling.0
 
 next_height_in_field : (ks : List Corner) → All IsCorner ks → least_coordinate ≤ℤ first_height_of ks
 next_height_in_field [] corners = omega (arith, ints)
-next_height_in_field (k ∷ ks) corners = (All-head IsCorner k ks corners).bottom
+next_height_in_field (k ∷ ks) corners = (All-head IsCorner k ks corners).height.least
 
 falling_higher : (top high : ℤ) (ks : List Corner) → top ≤ℤ high → AreFalling top ks → AreFalling high ks
 falling_higher top high [] le falling = tt
@@ -98,21 +98,17 @@ falling_higher top high (k ∷ ks) le falling = (omega (arith, ints, falling.0),
 
 -- ---- what a corner adds above and below its height
 
-added_above : (k : Corner) (x y : ℤ) → k.y ≤ℤ y → added_by k x y ≡ pos 0
-unfolding added_by
-added_above k x y above = grind (arith, ints)
-
 added_below : (k : Corner) (x y : ℤ) → y <ℤ k.y → added_by k x y ≡ (if int_le k.x x then k.weight else pos 0)
 unfolding added_by
 added_below k x y below = grind (arith, ints)
 
 -- corners add nothing at or above the first of them
 added_falling : (top : ℤ) (ks : List Corner) (x y : ℤ) → AreFalling top ks → top ≤ℤ y → added_by_all ks x y ≡ pos 0
-unfolding added_by_all
+unfolding added_by_all added_by
 added_falling top [] x y falling above = refl
 added_falling top (k ∷ ks) x y falling above =
     let under : k.y ≤ℤ y = omega (arith, ints, falling.0) in
-    omega (arith, ints, added_above k x y under, added_falling k.y ks x y falling.1 under)
+    grind (arith, ints, added_falling k.y ks x y falling.1 under)
 
 added_above_first : (top : ℤ) (ks : List Corner) (x y : ℤ) → AreFalling top ks → first_height_of ks ≤ℤ y → added_by_all ks x y ≡ pos 0
 unfolding added_by_all
@@ -221,7 +217,7 @@ module _ (all : List Corner) (place : ℕ) (any : Corner) (es : List Edge) (rs :
     swept_more ss strip = record {
       given = swept.given;
       corners = corners_left;
-      falling = falling_higher here.y greatest_coordinate left corner_here.top swept.falling.1;
+      falling = falling_higher here.y greatest_coordinate left corner_here.height.greatest swept.falling.1;
       rows = strip.rows;
       above = λ x y inside above. by_lt_z y here.y
           (λ below. omega (arith, ints, strip.strip x y above below, below_corner x y below, nothing_above x y above))
@@ -248,7 +244,7 @@ module _ (all : List Corner) (place : ℕ) (any : Corner) (es : List Edge) (rs :
         rw (next, y_is) (record {
           bottom = bottom;
           order = next_height_falls here left corner_here swept.falling.1;
-          top = corner_here.top;
+          top = corner_here.height.greatest;
           edges = edges_here;
           rows = swept.rows;
           more = swept_more;

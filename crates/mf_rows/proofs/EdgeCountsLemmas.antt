@@ -17,7 +17,7 @@ use Rattle.mf_rows.specs.EdgeRows.{EdgeRow, AreRows, AreRowsFrom, picture_of_row
 use Rattle.mf_rows.specs.Runs.{runs_of}
 use Rattle.mf_rows.specs.declared.run.Run.{Run}
 use Rattle.mf_rows.specs.Walk.{runs_of_edges, runs_of_rows}
-use Rattle.mf_rows.proofs.BothEdgesLemmas.{by_place, joined}
+use Rattle.mf_rows.proofs.BothEdgesLemmas.{by_place, edge_of_both}
 use Rattle.mf_rows.proofs.BothRowsLemmas.{with_row-cases}
 use Rattle.mf_rows.proofs.RowRuns.{runs_of-picture_of_rows}
 
@@ -26,7 +26,7 @@ use Rattle.mf_rows.proofs.RowRuns.{runs_of-picture_of_rows}
 -- the columns of edges rise, so there are at most as many as columns are left
 edges-fit : (low : ℤ) (n : ℕ) (es : List Edge) → AreEdgesFrom low es → greatest_coordinate <ℤ (low +ℤ pos n) → length es ≤ n
 edges-fit low n [] edges room = omega arith
-edges-fit low zero (e ∷ es) edges room = absurd (omega (arith, ints, edges.1, edges.0.right))
+edges-fit low zero (e ∷ es) edges room = absurd (omega (arith, ints, edges.1, edges.0.column.greatest))
 edges-fit low (suc n) (e ∷ es) edges room = grind (arith, ints, edges-fit (e.x +ℤ pos 1) n es edges.2 (omega (arith, ints, edges.1)))
 
 -- the heights of rows fall, so there are at most as many as heights are left
@@ -51,18 +51,9 @@ pub record IsCountSoFar (all rest : List EdgeRow) (count : ℕ) : Type 0 where
 pub count-start : (rs : List EdgeRow) → IsCountSoFar rs rs 0
 count-start rs = record { value = omega arith }
 
-pub count-next : (all before rest : List EdgeRow) (r : EdgeRow) (count : ℕ) → before ≡ (r ∷ rest) → IsCountSoFar all before count
-    → IsCountSoFar all rest (count + length r.edges)
-unfolding edges_in_rows
-count-next all before rest r count step so_far = grind (arith, ints)
-
 -- so the number never exceeds that of all of them, and fits
 pub count-fits : (all rest : List EdgeRow) (count : ℕ) → AreRows all → IsCountSoFar all rest count → Fits w64 count
 count-fits all rest count rows so_far = omega (arith, so_far.value, few-edges all rows)
-
-pub count-all : (all rest : List EdgeRow) (count : ℕ) → rest ≡ [] → IsCountSoFar all rest count → count ≡ edges_in_rows all
-unfolding edges_in_rows
-count-all all rest count none so_far = grind (arith, ints)
 
 -- ---- two lists of rows together have no more edges than both
 
@@ -72,7 +63,7 @@ length-unless_zero e = cond_both (int_eq e.weight (pos 0)) [] (e ∷ []) (λ es.
 length-with : (e : Edge) (fs : List Edge) → length (with_edge e fs) ≤ 1 + length fs
 unfolding with_edge
 length-with e [] = omega arith
-length-with e (f ∷ fs) = grind (arith, ints, by_place, length-append, joined, length-unless_zero, length-with e fs)
+length-with e (f ∷ fs) = grind (arith, ints, by_place, length-append, edge_of_both, length-unless_zero, length-with e fs)
 
 length-both : (es fs : List Edge) → length (edges_of_both es fs) ≤ length es + length fs
 unfolding edges_of_both

@@ -45,7 +45,7 @@ rest_next low w e es rest = record {
       let none = weight_in-before (e.x +ℤ pos 1) es x rest.sorted.2 (omega (arith, ints)) in
       subst IsLawfulWeight (omega (arith, ints)) (rest_lawful low w e es rest))
       (λ right. let own = weight_in-left e es x right in subst IsLawfulWeight (omega (arith, ints)) (rest.lawful x));
-  closed = let own = weight_in-left e es greatest_coordinate rest.sorted.0.right in omega (arith, ints, rest.closed);
+  closed = let own = weight_in-left e es greatest_coordinate rest.sorted.0.column.greatest in omega (arith, ints, rest.closed);
 }
 
 -- what is left from the column of its first edge on
@@ -83,8 +83,8 @@ edge_taken w e es fs first whole =
       fits = omega (arith, ints, before.least, before.greatest, after.least, after.greatest);
       sum = omega (arith, ints, before.least, before.greatest, after.least, after.greatest);
       changed = λ same. edge.nonzero (omega (arith, ints, same));
-      column = omega (arith, ints, edge.left, edge.right);
-      left = edge.left;
+      column = omega (arith, ints, edge.column);
+      left = edge.column.least;
       right = next.sorted;
       rest = grind (arith, ints, edges_from-lower);
     }
@@ -143,7 +143,7 @@ module _ (y : ℤ) (below : List Run) (bottom : least_coordinate ≤ℤ y) (top 
       → AreRowRuns (with_weights (λ x. w +ℤ weight_in (e ∷ es) x)) e.x (runs_of_edges y w (e ∷ es) ++ below)
   unfolding runs_of_edges weight_in
   runs_from_edge w e [] rest =
-      after_gap e.x greatest_coordinate _ _ below rest.sorted.0.right (no_runs (λ x. w +ℤ weight_in (e ∷ []) x))
+      after_gap e.x greatest_coordinate _ _ below rest.sorted.0.column.greatest (no_runs (λ x. w +ℤ weight_in (e ∷ []) x))
       (λ x left right. let own = weight_in-left e [] x left in omega (arith, ints, rest_none (e.x +ℤ pos 1) (w +ℤ e.weight) (rest_next e.x w e [] rest)))
       (λ x after. refl)
   runs_from_edge w e (f ∷ es) rest =
@@ -170,8 +170,8 @@ module _ (y : ℤ) (below : List Run) (bottom : least_coordinate ≤ℤ y) (top 
       (λ x left right. here x left right ∙ (Decides-int_eq z (pos 0)).0 blank) further)
       (λ weighty. after_run e.x f.x z _ weight (others ++ below) (omega (arith, ints)) (record {
         some = omega (arith, ints);
-        left = rest.sorted.0.left;
-        right = omega (arith, ints, after.sorted.0.right);
+        left = rest.sorted.0.column.least;
+        right = omega (arith, ints, after.sorted.0.column.greatest);
         bottom = bottom;
         top = top;
         lawful = rest_lawful e.x w e (f ∷ es) rest;
@@ -185,5 +185,5 @@ module _ (y : ℤ) (below : List Run) (bottom : least_coordinate ≤ℤ y) (top 
       after_gap least_coordinate greatest_coordinate _ _ below (omega (arith, ints)) (no_runs (weight_in [])) (λ x left right. refl) (λ x after. refl)
   runs_of_row (e ∷ es) edges =
       let rest = rest_from least_coordinate (pos 0) e es (rest_of_edges (e ∷ es) edges) in
-      after_gap least_coordinate e.x _ _ (runs_of_edges y (pos 0) (e ∷ es) ++ below) rest.sorted.0.left (runs_from_edge (pos 0) e es rest)
+      after_gap least_coordinate e.x _ _ (runs_of_edges y (pos 0) (e ∷ es) ++ below) rest.sorted.0.column.least (runs_from_edge (pos 0) e es rest)
       (λ x left before. weight_in-before e.x (e ∷ es) x rest.sorted before) (λ x after. omega (arith, ints))

@@ -65,13 +65,9 @@ sum_is_of_band n rs ss sum left right within =
 abbrev pub is_up_to : ℤ → Arc Band Global → Bool
 is_up_to n band = le_z (number_of band) n
 
--- each lesser number passes, too
-lesser_up_to : (n m l : ℤ) → (pos 0 -ℤ m) ≤ℤ (pos 0 -ℤ l) → le_z m n ≡ true → le_z l n ≡ true
-lesser_up_to n m l le up_to = grind (arith, ints)
-
 pub IsPartitionedBy-is_up_to : (n : ℤ) (bs : List (Arc Band Global)) → HaveRisingNumbers bs → IsPartitionedBy (is_up_to n) bs
 IsPartitionedBy-is_up_to n bs rising =
-    IsPartitionedBy-falls (λ b. pos 0 -ℤ number_of b) (is_up_to n) (λ a b le. lesser_up_to n (number_of a) (number_of b) le) bs
+    IsPartitionedBy-falls (λ b. pos 0 -ℤ number_of b) (is_up_to n) (λ a b le up_to. grind (arith, ints)) bs
     (numbers_fall (pos 0) BAND_COUNT bs rising)
 
 -- what the place says of the bands before it, and of those from it on
@@ -92,9 +88,9 @@ pub rows_split_at : {n : ℤ} {bs first rest : List (Arc Band Global)} → IsSpl
     → AreSplitAtBand n (rows_of_bands bs) (rows_of_bands first) (rows_of_bands rest)
 rows_split_at {n} {bs} {first} {rest} split = record {
   all = ap rows_of_bands split.all ∙ flat_map-append (λ (band : Arc Band Global). rows_in (arc_value band)) first rest;
-  up_to = All-rows_of_bands (λ m. m ≤ℤ n) (λ y. (lowest_of n -ℤ pos 1) <ℤ y)
+  above = All-rows_of_bands (λ m. m ≤ℤ n) (λ y. (lowest_of n -ℤ pos 1) <ℤ y)
       (λ m y up_to of_band. omega (arith, ints, up_to, of_band.bottom)) first split.up_to;
-  after = All-rows_of_bands (λ m. n <ℤ m) (λ y. y <ℤ lowest_of n) (λ m y after of_band. omega (arith, ints, after, of_band.top)) rest split.after;
+  below = All-rows_of_bands (λ m. n <ℤ m) (λ y. y <ℤ lowest_of n) (λ m y after of_band. omega (arith, ints, after, of_band.top)) rest split.after;
 }
 
 -- the rows of band n, where there is no other
@@ -125,8 +121,8 @@ same_row_in_band {n} {y} {bs} {before} {others} {own} {rest} lawful of_band spli
     let first = rows_split_at split in
     let second = rows_split_at own_split in
     let all : rows_of_bands bs ≡ above ++ (rs ++ below) = first.all ∙ ap (λ rs. above ++ rs) second.all in
-    let higher = All-weaker (λ r. (lowest_of (n -ℤ pos 1) -ℤ pos 1) <ℤ r.y) (λ r. y <ℤ r.y) (λ r lt. omega (arith, ints, lt, of_band.top)) above first.up_to in
-    let lower = All-weaker (λ r. r.y <ℤ lowest_of n) (λ r. r.y <ℤ y) (λ r lt. omega (arith, ints, lt, of_band.bottom)) below second.after in
+    let higher = All-weaker (λ r. (lowest_of (n -ℤ pos 1) -ℤ pos 1) <ℤ r.y) (λ r. y <ℤ r.y) (λ r lt. omega (arith, ints, lt, of_band.top)) above first.above in
+    let lower = All-weaker (λ r. r.y <ℤ lowest_of n) (λ r. r.y <ℤ y) (λ r lt. omega (arith, ints, lt, of_band.bottom)) below second.below in
     let from_here = rows_from-back last_in_field above (rs ++ below) (subst (AreRowsFrom last_in_field) all lawful.rows) in
     record {
       lawful = record { rows = rows_from-front last_in_field rs below from_here };

@@ -12,8 +12,8 @@ use Rattle.mf_rows.specs.declared.group.Group.{Group}
 use Rattle.mf_rows.specs.declared.group.TheConstants.{GROUP_HEIGHT}
 use Rattle.mf_rows.specs.Bands.{AreAbove}
 use Rattle.mf_rows.specs.EdgeRows.{EdgeRow, AreRowsFrom, AreRows, weight_in_rows}
-use Rattle.mf_rows.specs.Groups.{rows_at_place, rows_of_groups, AreGroupRows, AreGroupsFrom, AreGroups, top_of_place, IsSplitAtPlace}
-use Rattle.mf_rows.specs.Sums.{weight_in_all, HaveRowWeights, IsUnlawfulSomewhere}
+use Rattle.mf_rows.specs.Groups.{rows_at_place, rows_of_groups, AreGroupRows, AreGroupsFrom, AreGroups, top_of_place, AreSplitAtPlace}
+use Rattle.mf_rows.specs.Sums.{sum_in_rows, HaveRowWeights, IsUnlawfulSomewhere}
 use Rattle.mf_rows.proofs.EdgeRowsLemmas.{weight_in_rows-append, weight_in_rows-below, rows_from-below}
 use Rattle.mf_rows.proofs.GroupsLemmas.{Groups, rows_in_place, top_of, group_rows_at, rows_of_groups_from, sum_of_group, weight_above_group, weight_below_group}
 use Rattle.mf_rows.proofs.GroupsMade.{own_of_group, others_from, groups_from-more, rows_of_groups-more}
@@ -36,7 +36,7 @@ rows_split [] (suc i) = refl
 rows_split (g ∷ gs) (suc i) = rows_split gs i
 
 pub split_at_group : (gs : Groups) (i : ℕ) → AreGroups gs
-    → IsSplitAtPlace i (rows_of_groups (drop i gs)) (rows_in_place gs i) (rows_of_groups (drop (i + 1) gs))
+    → AreSplitAtPlace i (rows_of_groups (drop i gs)) (rows_in_place gs i) (rows_of_groups (drop (i + 1) gs))
 split_at_group gs i groups =
     let next : suc i ≡ i + 1 = omega arith in
     let rows_in_group = group_rows_at last_in_field gs i groups.groups in
@@ -61,14 +61,10 @@ pub record IsAddedUpTo (p : ℕ) (whole : Groups × List EdgeRow) (sum : Groups)
   pub groups : AreGroupsFrom last_in_field sum
   pub left : AreRowsFrom (top_of_place p) rest
   pub weights : (x y : ℤ)
-      → weight_in_rows (rows_of_groups sum) x y +ℤ weight_in_all (rows_of_groups (drop p whole.0)) rest x y ≡ weight_in_all (rows_of_groups whole.0) whole.1 x y
-
-pub added_none : (gs : Groups) (rs : List EdgeRow) → AreRows rs → IsAddedUpTo 0 (gs, rs) [] rs
-unfolding weight_in_rows
-added_none gs rs rows = grind (arith, ints)
+      → weight_in_rows (rows_of_groups sum) x y +ℤ sum_in_rows (rows_of_groups (drop p whole.0)) rest x y ≡ sum_in_rows (rows_of_groups whole.0) whole.1 x y
 
 module _ (p : ℕ) (gs : Groups) (rs : List EdgeRow) (sum : Groups) (rest own others : List EdgeRow)
-    (groups : AreGroups gs) (so_far : IsAddedUpTo p (gs, rs) sum rest) (split : IsSplitAtPlace p rest own others) where
+    (groups : AreGroups gs) (so_far : IsAddedUpTo p (gs, rs) sum rest) (split : AreSplitAtPlace p rest own others) where
   own_rows : AreGroupRows (top_of_place p) own
   own_rows = own_of_group p rest own others so_far.left split
 
@@ -80,9 +76,9 @@ module _ (p : ℕ) (gs : Groups) (rs : List EdgeRow) (sum : Groups) (rest own ot
 
   -- what is at place p, and what is after it
   weights_parted : (x y : ℤ) → weight_in_rows (rows_of_groups sum) x y
-      +ℤ (weight_in_all (rows_in_place gs p) own x y +ℤ weight_in_all (rows_of_groups (drop (p + 1) gs)) others x y)
-      ≡ weight_in_all (rows_of_groups gs) rs x y
-  unfolding weight_in_all
+      +ℤ (sum_in_rows (rows_in_place gs p) own x y +ℤ sum_in_rows (rows_of_groups (drop (p + 1) gs)) others x y)
+      ≡ sum_in_rows (rows_of_groups gs) rs x y
+  unfolding sum_in_rows
   weights_parted x y =
       let all = so_far.weights x y in
       let group = ap (λ rs. weight_in_rows rs x y) (split_at_group gs p groups).all
@@ -91,7 +87,7 @@ module _ (p : ℕ) (gs : Groups) (rs : List EdgeRow) (sum : Groups) (rest own ot
       omega (arith, ints)
 
   pub added_more : (g : Option (Arc Group Global)) → AreRows (rows_at_place g)
-      → HaveRowWeights (weight_in_all (rows_in_place gs p) own) (rows_at_place g) → IsAddedUpTo (p + 1) (gs, rs) (sum ++ g ∷ []) others
+      → HaveRowWeights (sum_in_rows (rows_in_place gs p) own) (rows_at_place g) → IsAddedUpTo (p + 1) (gs, rs) (sum ++ g ∷ []) others
   added_more g rows weights = record {
     place = omega (arith, so_far.place, length-append sum (g ∷ []));
     groups = grind (arith, ints, groups_from-more, sym, sum_of_group, rows_in_place, group_rows, own_rows);
@@ -104,8 +100,8 @@ module _ (p : ℕ) (gs : Groups) (rs : List EdgeRow) (sum : Groups) (rest own ot
   }
 
   -- a weight that is too large there is so in all groups and rows
-  pub unlawful_in_place : IsUnlawfulSomewhere (weight_in_all (rows_in_place gs p) own) → IsUnlawfulSomewhere (weight_in_all (rows_of_groups gs) rs)
-  unfolding weight_in_all
+  pub unlawful_in_place : IsUnlawfulSomewhere (sum_in_rows (rows_in_place gs p) own) → IsUnlawfulSomewhere (sum_in_rows (rows_of_groups gs) rs)
+  unfolding sum_in_rows
   unlawful_in_place found =
       let x = found.x in
       let y = found.y in
@@ -122,13 +118,13 @@ module _ (p : ℕ) (gs : Groups) (rs : List EdgeRow) (sum : Groups) (rest own ot
       let groups_after = weight_in_rows-below _ x y (rows_from-below _ y _ (rows_after gs (p + 1) groups) next) in
       let rows_after = weight_in_rows-below _ x y (rows_from-below _ y _ left_after next) in
       let all = weights_parted x y in
-      let same : weight_in_all (rows_of_groups gs) rs x y ≡ weight_in_all (rows_in_place gs p) own x y = omega (arith, ints) in
+      let same : sum_in_rows (rows_of_groups gs) rs x y ≡ sum_in_rows (rows_in_place gs p) own x y = omega (arith, ints) in
       record { x = x; y = y; in_field = found.in_field; unlawful = λ is. found.unlawful (subst IsLawfulWeight same is) })
       (λ below. absurd (lawful (weight_below_group top x y _ group_rows below) (weight_below_group top x y _ own_rows below))))
 
 -- ---- where no group and no row is left, all are added
 
 pub added_before : (p : ℕ) (gs : Groups) (rs : List EdgeRow) (sum : Groups) (rest : List EdgeRow) → IsAddedUpTo p (gs, rs) sum rest
-    → length gs ≤ p → rest ≡ [] → HaveRowWeights (weight_in_all (rows_of_groups gs) rs) (rows_of_groups sum)
-unfolding weight_in_all weight_in_rows
+    → length gs ≤ p → rest ≡ [] → HaveRowWeights (sum_in_rows (rows_of_groups gs) rs) (rows_of_groups sum)
+unfolding sum_in_rows weight_in_rows
 added_before p gs rs sum rest so_far short none = grind (arith, ints, drop_of_length-le)

@@ -6,13 +6,12 @@ use Rattle.std.specs.declared.alloc.Global.{Global}
 use Rattle.std.specs.declared.sync.Arc.{Arc}
 use Rattle.mf_geom.specs.Coordinates.{last_in_field}
 use Rattle.mf_geom.specs.Field.{IsInField}
-use Rattle.mf_edges.specs.declared.edge.Edge.{Edge}
 use Rattle.mf_rows.specs.declared.group.Group.{Group}
 use Rattle.mf_rows.specs.declared.group.TheConstants.{GROUP_HEIGHT}
-use Rattle.mf_rows.specs.Bands.{HasRow, HasNoRow}
+use Rattle.mf_rows.specs.Bands.{HasNoRow}
 use Rattle.mf_rows.specs.EdgeRows.{EdgeRow, AreRowsFrom, AreRows, weight_in_rows}
 use Rattle.mf_rows.specs.Groups.{rows_at_place, rows_of_groups, AreGroupRows, AreGroupsFrom, AreGroups, IsPlaceOfRow}
-use Rattle.mf_rows.specs.Sums.{weight_in_all, HaveRowWeights}
+use Rattle.mf_rows.specs.Sums.{sum_in_rows, HaveRowWeights}
 use Rattle.mf_rows.proofs.EdgeRowsLemmas.{weight_in_rows-append, weight_in_rows-above, weight_in_rows-below, weight_in_rows-outside}
 use Rattle.mf_rows.proofs.EdgeRowsLemmas.{rows_from-higher, rows_from-below, rows_from-cut, rows_from-append}
 use Rattle.mf_rows.proofs.RowSumSteps.{stay_within}
@@ -86,12 +85,8 @@ weight_in_place top x y (g ∷ gs) (suc i) groups place =
     (record { top = omega (arith, ints, place.top); bottom = omega (arith, ints, place.bottom) }) in
     omega (arith, ints)
 
-in_field : (y : ℤ) (i : ℕ) → IsPlaceOfRow y i → IsPlaceFrom last_in_field y i
+pub in_field : (y : ℤ) (i : ℕ) → IsPlaceOfRow y i → IsPlaceFrom last_in_field y i
 in_field y i place = record { top = place.top; bottom = omega (arith, ints, place.bottom) }
-
-pub found_in_place : (gs : Groups) (y : ℤ) (i : ℕ) (es : List Edge) → AreGroups gs → IsPlaceOfRow y i
-    → HasRow (rows_in_place gs i) y es → HasRow (rows_of_groups gs) y es
-found_in_place gs y i es groups place found = grind (arith, ints, weight_in_place, in_field)
 
 pub absent_in_place : (gs : Groups) (y : ℤ) (i : ℕ) → AreGroups gs → IsPlaceOfRow y i
     → HasNoRow (rows_in_place gs i) y → HasNoRow (rows_of_groups gs) y
@@ -110,7 +105,7 @@ absent_outside gs y groups outside =
 
 -- a sum of rows of a group has no other rows
 pub sum_of_group : (top : ℤ) (rs ss sum : List EdgeRow) → AreGroupRows top rs → AreGroupRows top ss → AreRows sum
-    → HaveRowWeights (weight_in_all rs ss) sum → AreGroupRows top sum
+    → HaveRowWeights (sum_in_rows rs ss) sum → AreGroupRows top sum
 sum_of_group top rs ss sum left right rows weights =
     let within = stay_within rs ss sum rows weights in
     let below = within.below (top +ℤ pos 1) (rows_from-below top (top +ℤ pos 1) rs left.rows (omega (arith, ints)))
@@ -121,10 +116,10 @@ sum_of_group top rs ss sum left right rows weights =
     }
 
 -- a group and no group
-pub sum_with_none : (rs : List EdgeRow) → HaveRowWeights (weight_in_all rs []) rs
-unfolding weight_in_all weight_in_rows
+pub sum_with_none : (rs : List EdgeRow) → HaveRowWeights (sum_in_rows rs []) rs
+unfolding sum_in_rows weight_in_rows
 sum_with_none rs = record { weights = λ x y. omega (arith, ints) }
 
-pub sum_of_none : (rs : List EdgeRow) → HaveRowWeights (weight_in_all [] rs) rs
-unfolding weight_in_all weight_in_rows
+pub sum_of_none : (rs : List EdgeRow) → HaveRowWeights (sum_in_rows [] rs) rs
+unfolding sum_in_rows weight_in_rows
 sum_of_none rs = record { weights = λ x y. omega (arith, ints) }

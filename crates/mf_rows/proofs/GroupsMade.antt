@@ -10,12 +10,12 @@ use Rattle.mf_geom.specs.Coordinates.{last_in_field}
 use Rattle.mf_rows.specs.declared.group.Group.{Group}
 use Rattle.mf_rows.specs.declared.group.TheConstants.{GROUP_COUNT, GROUP_HEIGHT}
 use Rattle.mf_rows.specs.EdgeRows.{EdgeRow, AreRowsFrom, AreRows}
-use Rattle.mf_rows.specs.Groups.{rows_at_place, rows_of_groups, AreGroupRows, AreGroupsFrom, top_of_place, IsSplitAtPlace}
+use Rattle.mf_rows.specs.Groups.{rows_at_place, rows_of_groups, AreGroupRows, AreGroupsFrom, top_of_place, AreSplitAtPlace}
 use Rattle.mf_rows.proofs.EdgeRowsLemmas.{rows_from-higher, rows_from-front, rows_from-back, rows_from-cut}
 
 -- ---- rows that are split at a place
 
-module _ (p : ℕ) (rs own others : List EdgeRow) (left : AreRowsFrom (top_of_place p) rs) (split : IsSplitAtPlace p rs own others) where
+module _ (p : ℕ) (rs own others : List EdgeRow) (left : AreRowsFrom (top_of_place p) rs) (split : AreSplitAtPlace p rs own others) where
   from_here : AreRowsFrom (top_of_place p) (own ++ others)
   from_here = subst (AreRowsFrom (top_of_place p)) split.all left
 
@@ -60,7 +60,7 @@ pub record IsGroupedUpTo (p : ℕ) (whole : List EdgeRow) (gs : List (Option (Ar
   pub left : AreRowsFrom (top_of_place p) rest
 
 pub grouped_more : (p : ℕ) (whole : List EdgeRow) (gs : List (Option (Arc Group Global))) (rest own others : List EdgeRow)
-    → IsGroupedUpTo p whole gs rest → IsSplitAtPlace p rest own others → (g : Option (Arc Group Global)) → rows_at_place g ≡ own
+    → IsGroupedUpTo p whole gs rest → AreSplitAtPlace p rest own others → (g : Option (Arc Group Global)) → rows_at_place g ≡ own
     → IsGroupedUpTo (p + 1) whole (gs ++ g ∷ []) others
 grouped_more p whole gs rest own others so_far split g group =
     grind (arith, ints, length-append, rows_of_groups-more, append_assoc, sym, groups_from-more, own_of_group, others_from)

@@ -21,9 +21,6 @@ use Rattle.mf_rows.proofs.BoxesJoined.{any_right, box_of_some}
 is_nonzero : (w : ℤ) → w ≢ pos 0 → not (int_eq w (pos 0)) ≡ true
 is_nonzero w apart = grind (arith, ints)
 
-nonzero_is : (w : ℤ) → not (int_eq w (pos 0)) ≡ true → w ≢ pos 0
-nonzero_is w found zero = grind (arith, ints)
-
 -- a pixel of nonzero weight is a dot
 dot_at : (P : Dot → Type 0) (ds : List Dot) (x y : ℤ) → ((d : Dot) → d.x ≡ x → d.y ≡ y → P d) → weight_at ds x y ≢ pos 0 → Any P ds
 unfolding weight_at
@@ -44,7 +41,7 @@ pub least_of_weights : (f : ℤ → ℤ → Bool) (ds : List Dot) (b : Box4) →
     → IsBoxRound f b → IsLeastBox ds b
 least_of_weights f ds b picture weights box =
     let dot = λ (P : Dot → Type 0) (x y : ℤ) (at : (d : Dot) → d.x ≡ x → d.y ≡ y → P d) (found : f x y ≡ true).
-    dot_at P ds x y at (nonzero_is (weight_at ds x y) (sym (weights x y) ∙ found)) in
+    dot_at P ds x y at (λ zero. grind (arith, ints, weights x y)) in
     record {
       within = λ k d lt.
           let e = get_or ds k d in

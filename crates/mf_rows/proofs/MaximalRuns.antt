@@ -84,10 +84,6 @@ weight-after r (s ∷ rs) some runs maximal = λ same.
     let none = weight_at-before low (flat_map dots_of rs) x r.y (dots_from-runs low rs runs.2) (omega (arith, ints, runs.0.some, runs.1)) in
     some (sym same ∙ weight_at-off_first s rs x r.y elsewhere ∙ none)
 
--- and it is as long as it can be
-first_longest : (low : ℤ) (r : Run) (rs : List Run) → AreRunsFrom low (r ∷ rs) → AreMaximal (r ∷ rs) → IsMaximalRun (flat_map dots_of (r ∷ rs)) r
-first_longest low r rs runs maximal = grind (arith, ints, weight_at-on_first, sym, weight_at-left_of, weight-after, weight_at-off_first)
-
 -- a later run, which does not continue it, stays as long as it can be
 kept : (low : ℤ) (r : Run) (rs : List Run) (s : Run) → AreRunsFrom low (r ∷ rs) → place (r.x +ℤ pos r.len) r.y ≤ℤ place s.x s.y
     → (IsFollowedBy r s → ⊥) → IsMaximalRun (flat_map dots_of rs) s → IsMaximalRun (flat_map dots_of (r ∷ rs)) s
@@ -99,7 +95,8 @@ longest low [] runs maximal = All-nil (IsMaximalRun [])
 longest low (r ∷ rs) runs maximal =
     let end = place (r.x +ℤ pos r.len) r.y in
     let others = longest end rs runs.2 (maximal-tail r rs maximal) in
-    All-cons (IsMaximalRun (flat_map dots_of (r ∷ rs))) r rs (first_longest low r rs runs maximal)
+    All-cons (IsMaximalRun (flat_map dots_of (r ∷ rs))) r rs
+    (grind (arith, ints, weight_at-on_first, sym, weight_at-left_of, weight-after, weight_at-off_first))
     (λ k s lt. kept low r rs (get_or rs k s) runs (runs_from-after end rs runs.2 k s lt) (not_followed r rs runs.2 maximal k s lt) (others k s lt))
 
 -- each run of dots has at least one pixel, and is as long as it can be

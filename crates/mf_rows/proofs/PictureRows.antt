@@ -17,7 +17,7 @@ use Rattle.mf_edges.specs.Axes.{opposite, source_of}
 use Rattle.mf_rows.specs.Moves.{column_mirror_at, column_stretch_at, row_mirror_at, quarter_turn_at}
 use Rattle.mf_rows.specs.RowChanges.{image_in_rows, mirror_in_rows, quarter_turn_in_rows}
 use Rattle.mf_rows.specs.Signs.{negated_rows}
-use Rattle.mf_rows.specs.Sums.{HasWeights, IsUnlawfulSomewhere, weight_in_all, difference_at, sum_at, HaveFieldWeights, HaveRowWeights}
+use Rattle.mf_rows.specs.Sums.{HasWeights, IsUnlawfulSomewhere, sum_in_rows, difference_at, sum_at, HaveFieldWeights, HaveRowWeights}
 use Rattle.mf_edges.specs.WeightMaps.{mapped_weight}
 use Rattle.mf_rows.specs.WeightMaps.{mapped_weight_at}
 use Rattle.mf_rows.proofs.EdgeRowsLemmas.{weight_in_rows-here, weight_in_rows-elsewhere, weight_in_rows-none, weight_in_rows-below, rows_from-below}
@@ -55,29 +55,29 @@ pub unlawful_as : {f g : ℤ → ℤ → ℤ} (unlawful : IsUnlawfulSomewhere f)
 unlawful_as unlawful same = grind (arith, ints)
 
 module _ (rs ss : List EdgeRow) (left : AreRows rs) (right : AreRows ss) where
-  difference_is : (x y : ℤ) → weight_in_all rs (negated_rows ss) x y ≡ difference_at (picture_of_rows rs) (picture_of_rows ss) x y
-  unfolding difference_at weight_in_all
+  difference_is : (x y : ℤ) → sum_in_rows rs (negated_rows ss) x y ≡ difference_at (picture_of_rows rs) (picture_of_rows ss) x y
+  unfolding difference_at sum_in_rows
   difference_is x y = omega (arith, ints, weight_at-picture_of_rows rs x y left, weight_at-picture_of_rows ss x y right, weight_in_rows-negated ss x y)
 
-  sum_is : (x y : ℤ) → weight_in_all rs ss x y ≡ sum_at (picture_of_rows rs) (picture_of_rows ss) x y
-  unfolding sum_at weight_in_all
+  sum_is : (x y : ℤ) → sum_in_rows rs ss x y ≡ sum_at (picture_of_rows rs) (picture_of_rows ss) x y
+  unfolding sum_at sum_in_rows
   sum_is x y = omega (arith, ints, weight_at-picture_of_rows rs x y left, weight_at-picture_of_rows ss x y right)
 
 -- rows with the weights of rows and of others that are negated represent the difference of their pictures
 pub weights_with_difference : (rs ss new : List EdgeRow) → AreRows rs → AreRows ss → AreRows new
-    → HaveRowWeights (weight_in_all rs (negated_rows ss)) new → HasWeights (difference_at (picture_of_rows rs) (picture_of_rows ss)) (picture_of_rows new)
+    → HaveRowWeights (sum_in_rows rs (negated_rows ss)) new → HasWeights (difference_at (picture_of_rows rs) (picture_of_rows ss)) (picture_of_rows new)
 weights_with_difference rs ss new left right rows has = weights_as _ _ new rows has (difference_is rs ss left right)
 
-pub unlawful_with_difference : (rs ss : List EdgeRow) → AreRows rs → AreRows ss → IsUnlawfulSomewhere (weight_in_all rs (negated_rows ss))
+pub unlawful_with_difference : (rs ss : List EdgeRow) → AreRows rs → AreRows ss → IsUnlawfulSomewhere (sum_in_rows rs (negated_rows ss))
     → IsUnlawfulSomewhere (difference_at (picture_of_rows rs) (picture_of_rows ss))
 unlawful_with_difference rs ss left right unlawful = unlawful_as unlawful (λ inside. sym (difference_is rs ss left right _ _))
 
 -- rows with the weights of two lists of rows together represent the sum of their pictures
 pub weights_with_sum : (rs ss sum : List EdgeRow) → AreRows rs → AreRows ss → AreRows sum
-    → HaveRowWeights (weight_in_all rs ss) sum → HasWeights (sum_at (picture_of_rows rs) (picture_of_rows ss)) (picture_of_rows sum)
+    → HaveRowWeights (sum_in_rows rs ss) sum → HasWeights (sum_at (picture_of_rows rs) (picture_of_rows ss)) (picture_of_rows sum)
 weights_with_sum rs ss sum left right rows has = weights_as _ _ sum rows has (sum_is rs ss left right)
 
-pub unlawful_with_sum : (rs ss : List EdgeRow) → AreRows rs → AreRows ss → IsUnlawfulSomewhere (weight_in_all rs ss)
+pub unlawful_with_sum : (rs ss : List EdgeRow) → AreRows rs → AreRows ss → IsUnlawfulSomewhere (sum_in_rows rs ss)
     → IsUnlawfulSomewhere (sum_at (picture_of_rows rs) (picture_of_rows ss))
 unlawful_with_sum rs ss left right unlawful = unlawful_as unlawful (λ inside. sym (sum_is rs ss left right _ _))
 

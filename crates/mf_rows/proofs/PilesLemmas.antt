@@ -15,21 +15,21 @@ use Rattle.mf_edges.specs.declared.edge.Edge.{Edge}
 use Rattle.mf_rows.specs.declared.row_list.Head.{Head}
 use Rattle.mf_rows.specs.RowLists.{row_at, rows_at}
 use Rattle.mf_rows.specs.Piles.{IsReachOfSum, IsReachOf, ArePiled}
-use Rattle.mf_rows.specs.Sums.{weight_in_all, HaveRowWeights, IsUnlawfulSomewhere}
+use Rattle.mf_rows.specs.Sums.{sum_in_rows, HaveRowWeights, IsUnlawfulSomewhere}
 use Rattle.mf_rows.proofs.BothRowsLemmas.{weight_in_rows-both, rows-both, rows_both-none}
 use Rattle.mf_rows.proofs.EdgeRowsLemmas.{lawful_weight_in_rows, weight_in_rows-below, weight_in_rows-elsewhere, weight_in_rows-here, rows_from-below}
 use Rattle.mf_rows.proofs.RowSums.{by_same}
 use Rattle.mf_rows.proofs.GroupsLemmas.{Groups, rows_of_groups_are_rows}
 use Rattle.mf_rows.proofs.PictureRows.{unlawful_as}
-use Rattle.mf_rows.proofs.PictureGroups.{rows_of_same, groups-same}
+use Rattle.mf_rows.proofs.PictureGroups.{rows_of_same}
 
 -- the rows of a pile: its older groups, and those to which contours are added
-abbrev pub piled : Groups → Groups → List EdgeRow
-piled gs hs = rows_of_both (rows_of_groups hs) (rows_of_groups gs)
+abbrev pub pile_rows : Groups → Groups → List EdgeRow
+pile_rows gs hs = rows_of_both (rows_of_groups hs) (rows_of_groups gs)
 
-pub piled_rows : (gs hs : Groups) (reach : ℤ) → ArePiled gs hs reach → AreRows (piled gs hs)
-unfolding weight_in_all
-piled_rows gs hs reach pile =
+pub rows_in_pile : (gs hs : Groups) (reach : ℤ) → ArePiled gs hs reach → AreRows (pile_rows gs hs)
+unfolding sum_in_rows
+rows_in_pile gs hs reach pile =
     rows-both (rows_of_groups hs) (rows_of_groups gs) (rows_of_groups_are_rows hs pile.newest) (rows_of_groups_are_rows gs pile.older)
     (λ x y. record {
       least = omega (arith, ints, pile.reached.least x y, pile.reached.most);
@@ -40,15 +40,15 @@ pub rows_of_pile : (gs hs : Groups) (reach : ℤ) → ArePiled gs hs reach → A
 rows_of_pile gs hs reach pile = record {
   left = rows_of_groups_are_rows hs pile.newest;
   right = rows_of_groups_are_rows gs pile.older;
-  both = piled_rows gs hs reach pile;
+  both = rows_in_pile gs hs reach pile;
 }
 
 pub none_are_groups : AreGroups []
 none_are_groups = record { groups = tt }
 
 -- groups, none of them older
-pub piled_alone : (hs : Groups) → AreGroups hs → piled [] hs ≡ rows_of_groups hs
-piled_alone hs groups = rows_both-none (rows_of_groups hs) (rows_of_groups_are_rows hs groups)
+pub pile_alone : (hs : Groups) → AreGroups hs → pile_rows [] hs ≡ rows_of_groups hs
+pile_alone hs groups = rows_both-none (rows_of_groups hs) (rows_of_groups_are_rows hs groups)
 
 -- weights that are the same stay in the same reach
 pub stay_as : {reach : ℤ} {f g : ℤ → ℤ → ℤ} → IsReachOf reach f → ((x y : ℤ) → g x y ≡ f x y) → IsReachOf reach g
@@ -56,41 +56,36 @@ stay_as stay same = record { most = stay.most; least = λ x y. rw (same x y) (st
 
 -- groups that are kept apart as two lists
 pub are_piled_apart : (gs hs sum : Groups) (reach : ℤ) → AreGroups gs → AreGroups hs
-    → HaveRowWeights (weight_in_all (rows_of_groups gs) (rows_of_groups hs)) (rows_of_groups sum) → IsReachOf reach (weight_in_rows (rows_of_groups sum))
+    → HaveRowWeights (sum_in_rows (rows_of_groups gs) (rows_of_groups hs)) (rows_of_groups sum) → IsReachOf reach (weight_in_rows (rows_of_groups sum))
     → ArePiled gs hs reach
 are_piled_apart gs hs sum reach groups newest apart stay =
     record { older = groups; newest = newest; reached = stay_as stay (λ x y. sym (apart.weights x y)) }
 
 -- the weights of a pile are the sums of those in both lists
-pub pile_is : (gs hs : Groups) (x y : ℤ) → weight_in_rows (piled gs hs) x y ≡ weight_in_all (rows_of_groups gs) (rows_of_groups hs) x y
-unfolding weight_in_all
+pub pile_is : (gs hs : Groups) (x y : ℤ) → weight_in_rows (pile_rows gs hs) x y ≡ sum_in_rows (rows_of_groups gs) (rows_of_groups hs) x y
+unfolding sum_in_rows
 pile_is gs hs x y = omega (arith, ints, weight_in_rows-both (rows_of_groups hs) (rows_of_groups gs) x y)
 
-pub piled_apart : (f : ℤ → ℤ → ℤ) (gs hs sum : Groups) → HaveRowWeights (weight_in_all (rows_of_groups gs) (rows_of_groups hs)) (rows_of_groups sum)
-    → HaveRowWeights f (rows_of_groups sum) → HaveRowWeights f (piled gs hs)
-piled_apart f gs hs sum apart has = record { weights = λ x y. pile_is gs hs x y ∙ sym (apart.weights x y) ∙ has.weights x y }
+pub pile_apart : (f : ℤ → ℤ → ℤ) (gs hs sum : Groups) → HaveRowWeights (sum_in_rows (rows_of_groups gs) (rows_of_groups hs)) (rows_of_groups sum)
+    → HaveRowWeights f (rows_of_groups sum) → HaveRowWeights f (pile_rows gs hs)
+pile_apart f gs hs sum apart has = record { weights = λ x y. pile_is gs hs x y ∙ sym (apart.weights x y) ∙ has.weights x y }
 
 -- as one of the two
-pub apart_alone : (gs : Groups) → HaveRowWeights (weight_in_all (rows_of_groups gs) (rows_of_groups [])) (rows_of_groups gs)
-unfolding weight_in_all weight_in_rows
+pub apart_alone : (gs : Groups) → HaveRowWeights (sum_in_rows (rows_of_groups gs) (rows_of_groups [])) (rows_of_groups gs)
+unfolding sum_in_rows weight_in_rows
 apart_alone gs = record { weights = λ x y. omega (arith, ints) }
 
-pub alone_apart : (gs : Groups) → HaveRowWeights (weight_in_all (rows_of_groups []) (rows_of_groups gs)) (rows_of_groups gs)
-unfolding weight_in_all weight_in_rows
+pub alone_apart : (gs : Groups) → HaveRowWeights (sum_in_rows (rows_of_groups []) (rows_of_groups gs)) (rows_of_groups gs)
+unfolding sum_in_rows weight_in_rows
 alone_apart gs = record { weights = λ x y. omega (arith, ints) }
 
 pub none_is_piled : ArePiled [] [] (pos 0)
-unfolding weight_in_all weight_in_rows
+unfolding sum_in_rows weight_in_rows
 none_is_piled = grind (arith, ints, none_are_groups)
 
--- a copy of both lists
-pub piled_as : (gs hs gs' hs' : Groups) (reach : ℤ) → map rows_at_place gs' ≡ map rows_at_place gs → map rows_at_place hs' ≡ map rows_at_place hs
-    → ArePiled gs hs reach → ArePiled gs' hs' reach
-piled_as gs hs gs' hs' reach same other pile = grind (arith, ints, groups-same, rows_of_same)
-
-pub same_piled : (gs hs gs' hs' : Groups) → map rows_at_place gs' ≡ map rows_at_place gs → map rows_at_place hs' ≡ map rows_at_place hs
-    → piled gs' hs' ≡ piled gs hs
-same_piled gs hs gs' hs' same other = rw (rows_of_same gs' gs same, rows_of_same hs' hs other) refl
+pub same_pile : (gs hs gs' hs' : Groups) → map rows_at_place gs' ≡ map rows_at_place gs → map rows_at_place hs' ≡ map rows_at_place hs
+    → pile_rows gs' hs' ≡ pile_rows gs hs
+same_pile gs hs gs' hs' same other = rw (rows_of_same gs' gs same, rows_of_same hs' hs other) refl
 
 -- any rows stay in the greatest weight
 pub stay_in_greatest : (rs : List EdgeRow) → AreRows rs → IsReachOf greatest_weight (weight_in_rows rs)
@@ -104,16 +99,16 @@ pub alone_is_piled : (hs : Groups) → AreGroups hs → ArePiled [] hs greatest_
 alone_is_piled hs groups =
     are_piled_apart [] hs hs greatest_weight none_are_groups groups (alone_apart hs) (stay_in_greatest _ (rows_of_groups_are_rows hs groups))
 
-pub none_piled : piled [] [] ≡ []
-none_piled = piled_alone [] none_are_groups
+pub pile_none : pile_rows [] [] ≡ []
+pile_none = pile_alone [] none_are_groups
 
 -- ---- rows are added to what is beside the groups
 
-pub piled_with : (gs hs sum : Groups) (rs : List EdgeRow) (reach more : ℤ) → ArePiled gs hs reach → AreGroups sum
-    → HaveRowWeights (weight_in_all (rows_of_groups hs) rs) (rows_of_groups sum) → IsReachOf more (weight_in_rows rs) → (reach +ℤ more) ≤ℤ greatest_weight
+pub pile_with : (gs hs sum : Groups) (rs : List EdgeRow) (reach more : ℤ) → ArePiled gs hs reach → AreGroups sum
+    → HaveRowWeights (sum_in_rows (rows_of_groups hs) rs) (rows_of_groups sum) → IsReachOf more (weight_in_rows rs) → (reach +ℤ more) ≤ℤ greatest_weight
     → ArePiled gs sum (reach +ℤ more)
-unfolding weight_in_all
-piled_with gs hs sum rs reach more pile groups weights stay most = record {
+unfolding sum_in_rows
+pile_with gs hs sum rs reach more pile groups weights stay most = record {
   older = pile.older;
   newest = groups;
   reached = record {
@@ -123,17 +118,17 @@ piled_with gs hs sum rs reach more pile groups weights stay most = record {
   };
 }
 
-pub weights_with : (gs hs sum : Groups) (rs : List EdgeRow) → HaveRowWeights (weight_in_all (rows_of_groups hs) rs) (rows_of_groups sum)
-    → HaveRowWeights (weight_in_all (piled gs hs) rs) (piled gs sum)
-unfolding weight_in_all
+pub weights_with : (gs hs sum : Groups) (rs : List EdgeRow) → HaveRowWeights (sum_in_rows (rows_of_groups hs) rs) (rows_of_groups sum)
+    → HaveRowWeights (sum_in_rows (pile_rows gs hs) rs) (pile_rows gs sum)
+unfolding sum_in_rows
 weights_with gs hs sum rs weights = record {
   weights = λ x y. omega (arith, ints, weights.weights x y, pile_is gs hs x y, pile_is gs sum x y);
 }
 
 -- ---- all is added to the groups
 
-pub weights_of_pile : (gs hs sum : Groups) → HaveRowWeights (weight_in_all (rows_of_groups gs) (rows_of_groups hs)) (rows_of_groups sum)
-    → HaveRowWeights (weight_in_rows (piled gs hs)) (rows_of_groups sum)
+pub weights_of_pile : (gs hs sum : Groups) → HaveRowWeights (sum_in_rows (rows_of_groups gs) (rows_of_groups hs)) (rows_of_groups sum)
+    → HaveRowWeights (weight_in_rows (pile_rows gs hs)) (rows_of_groups sum)
 weights_of_pile gs hs sum weights = record { weights = λ x y. weights.weights x y ∙ sym (pile_is gs hs x y) }
 
 -- ---- the reach of rows is that of each of them
@@ -212,8 +207,8 @@ reach_is_no_less reach f stay = omega (arith, ints, stay.least (pos 0) (pos 0), 
 -- ---- two piles are added
 
 pub stay_in_sum : (left right reach : ℤ) (rs ss sum : List EdgeRow) → IsReachOf left (weight_in_rows rs) → IsReachOf right (weight_in_rows ss)
-    → AreRows sum → HaveRowWeights (weight_in_all rs ss) sum → IsReachOfSum left right reach → IsReachOf reach (weight_in_rows sum)
-unfolding weight_in_all
+    → AreRows sum → HaveRowWeights (sum_in_rows rs ss) sum → IsReachOfSum left right reach → IsReachOf reach (weight_in_rows sum)
+unfolding sum_in_rows
 stay_in_sum left right reach rs ss sum f g rows has (inl within) = record {
   most = omega (arith, ints, within.0, within.1);
   least = λ x y. omega (arith, ints, within.1, has.weights x y, f.least x y, g.least x y);
@@ -221,19 +216,19 @@ stay_in_sum left right reach rs ss sum f g rows has (inl within) = record {
 }
 stay_in_sum left right reach rs ss sum f g rows has (inr beyond) = subst (λ r. IsReachOf r (weight_in_rows sum)) (sym beyond.1) (stay_in_greatest sum rows)
 
-pub stay_in_pile : (gs hs : Groups) (reach : ℤ) → ArePiled gs hs reach → IsReachOf reach (weight_in_rows (piled gs hs))
+pub stay_in_pile : (gs hs : Groups) (reach : ℤ) → ArePiled gs hs reach → IsReachOf reach (weight_in_rows (pile_rows gs hs))
 stay_in_pile gs hs reach pile = stay_as pile.reached (pile_is gs hs)
 
 pub same_rows : (rs : List EdgeRow) → HaveRowWeights (weight_in_rows rs) rs
 same_rows rs = record { weights = λ x y. refl }
 
 pub sum_through : (rs ss ts us sum : List EdgeRow) → HaveRowWeights (weight_in_rows rs) ts → HaveRowWeights (weight_in_rows ss) us
-    → HaveRowWeights (weight_in_all ts us) sum → HaveRowWeights (weight_in_all rs ss) sum
-unfolding weight_in_all
+    → HaveRowWeights (sum_in_rows ts us) sum → HaveRowWeights (sum_in_rows rs ss) sum
+unfolding sum_in_rows
 sum_through rs ss ts us sum same others weights = record { weights = λ x y. omega (arith, ints, same.weights x y, others.weights x y, weights.weights x y) }
 
 pub unlawful_through_both : (rs ss ts us : List EdgeRow) → HaveRowWeights (weight_in_rows rs) ts → HaveRowWeights (weight_in_rows ss) us
-    → IsUnlawfulSomewhere (weight_in_all ts us) → IsUnlawfulSomewhere (weight_in_all rs ss)
-unfolding weight_in_all
+    → IsUnlawfulSomewhere (sum_in_rows ts us) → IsUnlawfulSomewhere (sum_in_rows rs ss)
+unfolding sum_in_rows
 unlawful_through_both rs ss ts us same others unlawful =
     unlawful_as unlawful (λ inside. omega (arith, ints, same.weights unlawful.x unlawful.y, others.weights unlawful.x unlawful.y))

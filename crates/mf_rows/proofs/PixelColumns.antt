@@ -74,14 +74,14 @@ module _ {es before : List Edge} {e : Edge} {after : List Edge} {w : ℤ} (cut :
 
   weight_before : (x : ℤ) → EndAt x before → x <ℤ e.x → weight_in es x ≡ w
   weight_before x left lt =
-      let same = weight_in-constant before x greatest_coordinate left (omega (arith, ints, among.edge.right)) in
+      let same = weight_in-constant before x greatest_coordinate left (omega (arith, ints, among.edge.column.greatest)) in
       let none = weight_in-none e.x (e ∷ after) x (among.edge, omega (arith, ints), among.others) (omega (arith, ints)) in
       omega (arith, ints, parts x, cut.weight)
 
   weight_after : (x : ℤ) → e.x ≤ℤ x → BeginFrom (x +ℤ pos 1) after → weight_in es x ≡ w +ℤ e.weight
   weight_after x le from =
       let left = up_to e.x (omega (arith, ints)) in
-      let same = weight_in-constant before e.x greatest_coordinate left among.edge.right in
+      let same = weight_in-constant before e.x greatest_coordinate left among.edge.column.greatest in
       let none = weight_in-none (e.x +ℤ pos 1) after x among.others from in
       omega (arith, ints, parts x, weight_in-constant before e.x x left le, weight_in-left e after x le, cut.weight)
 
@@ -95,7 +95,7 @@ module _ {es before : List Edge} {e : Edge} {after : List Edge} {w : ℤ} (cut :
   lawful = (subst IsLawfulWeight weight_left (cut.edges.lawful (e.x -ℤ pos 1)), subst IsLawfulWeight weight_here (cut.edges.lawful e.x))
 
   column_is : to_z w32 (of_z w32 e.x) ≡ e.x
-  column_is = omega (arith, ints, among.edge.left, among.edge.right)
+  column_is = omega (arith, ints, among.edge.column)
 
   change_is : to_z w32 (of_z w32 e.weight) ≡ e.weight
   change_is = omega (arith, ints, lawful.0.least, lawful.0.greatest, lawful.1.least, lawful.1.greatest)
@@ -137,7 +137,7 @@ module _ (p : Pixels) (es rest others : List Edge) (e : Edge) (w : ℤ) (next : 
         more = λ missing. record {
           passed = so_far.passed ++ e ∷ [];
           split = first_cut.split ∙ sym (append_assoc so_far.passed (e ∷ []) others);
-          weight = omega (arith, ints, weight_in-push so_far.passed e greatest_coordinate (among first_cut).edge.right, so_far.weight);
+          weight = omega (arith, ints, weight_in-push so_far.passed e greatest_coordinate (among first_cut).edge.column.greatest, so_far.weight);
           none = λ x from. by_lt_z x e.x (none x) (λ le. ap (is_among p) (weight_after first_cut x le from) ∙ missing);
         };
       })
@@ -174,7 +174,7 @@ module _ (p : Pixels) (es rest before : List Edge) (e : Edge) (w : ℤ) (last : 
   difference_fits = let new = (lawful last_cut).0 in rw (change_is last_cut) (omega (arith, ints, new.least, new.greatest))
 
   pub left_fits : FitsSigned w32 (to_z w32 (of_z w32 e.x) -ℤ pos 1)
-  left_fits = let edge = (among last_cut).edge in omega (arith, ints, edge.left, edge.right)
+  left_fits = let edge = (among last_cut).edge in omega (arith, ints, edge.column)
 
   pub last_step : IsStep p (to_z w32 (of_z w32 (w -ℤ to_z w32 (of_z w32 e.weight))))
       (IsLastColumn p es (to_z w32 (of_z w32 (to_z w32 (of_z w32 e.x) -ℤ pos 1))))
@@ -183,7 +183,7 @@ module _ (p : Pixels) (es rest before : List Edge) (e : Edge) (w : ℤ) (last : 
       let edge = (among last_cut).edge in
       let new = (lawful last_cut).0 in
       let less : to_z w32 (of_z w32 (w -ℤ e.weight)) ≡ w -ℤ e.weight = omega (arith, ints, new.least, new.greatest) in
-      let left : to_z w32 (of_z w32 (e.x -ℤ pos 1)) ≡ e.x -ℤ pos 1 = omega (arith, ints, edge.left, edge.right) in
+      let left : to_z w32 (of_z w32 (e.x -ℤ pos 1)) ≡ e.x -ℤ pos 1 = omega (arith, ints, edge.column) in
       let none : (x : ℤ) → e.x ≤ℤ x → is_among p (weight_in es x) ≡ false = λ x le.
       so_far.none x (rw last (All-push (λ f. f.x ≤ℤ x) before e (up_to last_cut x (omega (arith, ints, le))) le)) in
       rw (column_is last_cut, left, change_is last_cut, less) (record {

@@ -123,7 +123,7 @@ same_edges es fs no_other = (slice_eq-Decides edge_decides es fs _ refl).0 (not-
 -- ---- one row
 
 -- a blank row stays blank
-image_of_blank : (c : RowChange) (x : ℤ) → IsRowChange c → row_image c (λ z. pos 0) x ≡ pos 0
+pub image_of_blank : (c : RowChange) (x : ℤ) → IsRowChange c → row_image c (λ z. pos 0) x ≡ pos 0
 image_of_blank (change.Weights m) x lawful = lawful.zero
 image_of_blank change.Mirror x lawful = refl
 image_of_blank (change.Columns s) x lawful = refl
@@ -131,10 +131,6 @@ image_of_blank (change.Columns s) x lawful = refl
 -- rows with the same weights have the same image
 same_image : (c : RowChange) (f g : ℤ → ℤ) (x : ℤ) → ((z : ℤ) → f z ≡ g z) → row_image c f x ≡ row_image c g x
 same_image c f g x same = λ t. row_image c (λ z. same z t) x
-
-pub changed-none : (c : RowChange) → IsRowChange c → AreChanged c [] []
-unfolding weight_in image_in
-changed-none c lawful = grind (arith, ints, sym, image_of_blank)
 
 -- a row and those below it have their weights at different heights, so each is changed by itself
 module _ (c : RowChange) (r : EdgeRow) (rest : List EdgeRow) (x v : ℤ) where

@@ -13,7 +13,7 @@ use Rattle.mf_rows.specs.EdgeRows.{EdgeRow, IsEdgeRow, AreRowsFrom, AreRows, wei
 use Rattle.mf_rows.specs.Merging.{IsRowAt, IsSplitAtHeight, HasNewRow, IsUnlawfulInRow}
 use Rattle.mf_edges.specs.Reaches.{StaysInReach}
 use Rattle.mf_edges.specs.Sums.{IsEdgeSum, IsUnlawfulColumn, weight_in_both, HaveWeights}
-use Rattle.mf_rows.specs.Sums.{weight_in_all}
+use Rattle.mf_rows.specs.Sums.{sum_in_rows}
 use Rattle.mf_edges.proofs.EdgesLemmas.{weight_in-outside}
 use Rattle.mf_edges.proofs.EdgeSums.{changes_of_edges}
 use Rattle.mf_edges.proofs.ReachesLemmas.{row_in_reach}
@@ -31,9 +31,6 @@ by_same c y here elsewhere =
 row_is : (y : ℤ) (r : EdgeRow) → IsRowAt y (r ∷ []) → r.y ≡ y
 row_is y r here = grind (arith, ints, All-head)
 
-row_of_edges : (y : ℤ) (r : EdgeRow) → IsEdgeRow r → r.y ≡ y → IsRowAt y (r ∷ [])
-row_of_edges y r row is = grind (arith, ints, All-cons, All-nil)
-
 weight_in_rows-other : (y c x : ℤ) (rs : List EdgeRow) → IsRowAt y rs → c ≢ y → weight_in_rows rs x c ≡ pos 0
 weight_in_rows-other y c x rs here apart =
     by_lt_z y c
@@ -46,20 +43,20 @@ unfolding weight_in_rows
 weight_in_row y r x is = let here = weight_in_rows-here r [] x y is in omega (arith, ints)
 
 module _ (y : ℤ) (l r : EdgeRow) (left : IsRowAt y (l ∷ [])) (right : IsRowAt y (r ∷ [])) where
-  weight_in_all-here : (x : ℤ) → weight_in_all (l ∷ []) (r ∷ []) x y ≡ weight_in_both l.edges r.edges x
-  unfolding weight_in_all weight_in_both
-  weight_in_all-here x = grind (arith, ints, weight_in_row, row_is)
+  sum_in_rows-here : (x : ℤ) → sum_in_rows (l ∷ []) (r ∷ []) x y ≡ weight_in_both l.edges r.edges x
+  unfolding sum_in_rows weight_in_both
+  sum_in_rows-here x = grind (arith, ints, weight_in_row, row_is)
 
-  weight_in_all-other : (x c : ℤ) → c ≢ y → weight_in_all (l ∷ []) (r ∷ []) x c ≡ pos 0
-  unfolding weight_in_all
-  weight_in_all-other x c apart =
+  sum_in_rows-other : (x c : ℤ) → c ≢ y → sum_in_rows (l ∷ []) (r ∷ []) x c ≡ pos 0
+  unfolding sum_in_rows
+  sum_in_rows-other x c apart =
       omega (arith, ints, weight_in_rows-other y c x (l ∷ []) left apart, weight_in_rows-other y c x (r ∷ []) right apart, apart)
 
   -- outside the field both have weight 0, so a column with an unlawful weight lies in the field
-  pub unlawful_in_row : IsUnlawfulColumn (weight_in_both l.edges r.edges) → IsUnlawfulInRow (weight_in_all (l ∷ []) (r ∷ [])) y
+  pub unlawful_in_row : IsUnlawfulColumn (weight_in_both l.edges r.edges) → IsUnlawfulInRow (sum_in_rows (l ∷ []) (r ∷ [])) y
   unfolding weight_in_both
   unlawful_in_row column = by_field column.x y
-      (λ inside. record { x = column.x; in_field = inside; unlawful = λ lawful. column.unlawful (subst IsLawfulWeight (weight_in_all-here column.x) lawful) })
+      (λ inside. record { x = column.x; in_field = inside; unlawful = λ lawful. column.unlawful (subst IsLawfulWeight (sum_in_rows-here column.x) lawful) })
       (λ outside.
       let off : least_coordinate ≤ℤ column.x → column.x ≤ℤ last_in_field → ⊥ = grind (arith, ints, row_is) in
       let none_left = weight_in-outside l.edges column.x left.rows.0.edges off in
@@ -68,13 +65,13 @@ module _ (y : ℤ) (l r : EdgeRow) (left : IsRowAt y (l ∷ [])) (right : IsRowA
 
   -- two rows that cancel leave no row
   pub sum_of_both-blank : (before : List EdgeRow) (es : List Edge) → es ≡ []
-      → HaveWeights (weight_in_both l.edges r.edges) es → HasNewRow (weight_in_all (l ∷ []) (r ∷ [])) y before before
+      → HaveWeights (weight_in_both l.edges r.edges) es → HasNewRow (sum_in_rows (l ∷ []) (r ∷ [])) y before before
   unfolding weight_in weight_in_rows
   sum_of_both-blank before es none weights =
-      grind (arith, ints, sym, append-nil, All-nil, by_same, weight_in_all-here, weight_in_all-other, weights.weights, none, weights)
+      grind (arith, ints, sym, append-nil, All-nil, by_same, sum_in_rows-here, sum_in_rows-other, weights.weights, none, weights)
 
   pub sum_of_both-some : (before : List EdgeRow) (es : List Edge) (reach : ℤ) → es ≢ [] → IsEdgeSum l.edges r.edges es
-      → StaysInReach reach es → HasNewRow (weight_in_all (l ∷ []) (r ∷ [])) y before (before ++ record { y = y; edges = es } ∷ [])
+      → StaysInReach reach es → HasNewRow (sum_in_rows (l ∷ []) (r ∷ [])) y before (before ++ record { y = y; edges = es } ∷ [])
   sum_of_both-some before es reach some sum reached =
       let weights = sum.weights in
       let row : IsEdgeRow (record { y = y; edges = es }) = record {
@@ -83,21 +80,21 @@ module _ (y : ℤ) (l r : EdgeRow) (left : IsRowAt y (l ∷ [])) (right : IsRowA
         some = some;
         edges = row_in_reach l.edges r.edges es sum reach left.rows.0.edges (changes_of_edges r.edges right.rows.0.edges) reached;
       } in
-      let here = row_of_edges y (record { y = y; edges = es }) row refl in
+      let here : IsRowAt y (record { y = y; edges = es } ∷ []) = grind (arith, ints, All-cons, All-nil) in
       record {
         more = record { y = y; edges = es } ∷ [];
         all = refl;
         here = here;
         weights = record {
           weights = λ x c. by_same c y
-              (λ at. rw at (weight_in_row y (record { y = y; edges = es }) x refl ∙ weights.weights x ∙ sym (weight_in_all-here x)))
-              (λ apart. weight_in_rows-other y c x (record { y = y; edges = es } ∷ []) here apart ∙ sym (weight_in_all-other x c apart));
+              (λ at. rw at (weight_in_row y (record { y = y; edges = es }) x refl ∙ weights.weights x ∙ sym (sum_in_rows-here x)))
+              (λ apart. weight_in_rows-other y c x (record { y = y; edges = es } ∷ []) here apart ∙ sym (sum_in_rows-other x c apart));
         };
       }
 
 -- a row is added where there is none
-pub sum_of_right : (before : List EdgeRow) (y : ℤ) (ss : List EdgeRow) → IsRowAt y ss → HasNewRow (weight_in_all [] ss) y before (before ++ ss)
-unfolding weight_in_all weight_in_rows
+pub sum_of_right : (before : List EdgeRow) (y : ℤ) (ss : List EdgeRow) → IsRowAt y ss → HasNewRow (sum_in_rows [] ss) y before (before ++ ss)
+unfolding sum_in_rows weight_in_rows
 sum_of_right before y ss here = record { more = ss; all = refl; here = here; weights = record { weights = λ x c. omega (arith, ints) } }
 
 -- ---- the sum so far
@@ -110,9 +107,9 @@ pub record IsRowSumSoFar (f : ℤ → ℤ → ℤ) (sum rs ss : List EdgeRow) : 
   pub above : AreAbove top sum
   pub left : AreRowsFrom top rs
   pub right : AreRowsFrom top ss
-  pub weights : (x y : ℤ) → weight_in_rows sum x y +ℤ weight_in_all rs ss x y ≡ f x y
+  pub weights : (x y : ℤ) → weight_in_rows sum x y +ℤ sum_in_rows rs ss x y ≡ f x y
 
-pub sum_none : (rs ss : List EdgeRow) → AreRows rs → AreRows ss → IsRowSumSoFar (weight_in_all rs ss) [] rs ss
+pub sum_none : (rs ss : List EdgeRow) → AreRows rs → AreRows ss → IsRowSumSoFar (sum_in_rows rs ss) [] rs ss
 unfolding weight_in_rows
 sum_none rs ss left right = record {
   top = last_in_field;
@@ -155,10 +152,10 @@ module _ {f : ℤ → ℤ → ℤ} {sum left right : List EdgeRow} (so_far : IsR
   rest_from = rows_from-first so_far.top (to_z w32 (of_z w32 added.y)) others (rows_from-back so_far.top above others from_top) up_to
 
   pub added_split : IsSplitAtHeight right added.y (added ∷ []) rest_right
-  added_split = grind (arith, ints, row_of_edges)
+  added_split = grind (arith, ints, All-cons, All-nil)
 
   pub sum_with_above : (next : IsRowSumSoFar f (sum ++ above) others right) × (added.y ≤ℤ next.top)
-  unfolding weight_in_all
+  unfolding sum_in_rows
   sum_with_above =
       let first_rows = rows_from-front so_far.top above others from_top in
       let in_reach : added.y ≤ℤ so_far.top = added_rows.1 in (

@@ -10,16 +10,16 @@ use Rattle.mf_geom.specs.Coordinates.{last_in_field}
 use Rattle.mf_rows.specs.declared.group.Group.{Group}
 use Rattle.mf_rows.specs.declared.group.TheConstants.{GROUP_HEIGHT}
 use Rattle.mf_rows.specs.EdgeRows.{EdgeRow, AreRows, AreRowsFrom, weight_in_rows}
-use Rattle.mf_rows.specs.Groups.{rows_at_place, rows_of_groups, AreGroupRows, AreGroupsFrom, AreGroups, AreSameBefore, top_of_place, IsSplitAtPlace}
+use Rattle.mf_rows.specs.Groups.{rows_at_place, rows_of_groups, AreGroupRows, AreGroupsFrom, AreGroups, AreSameBefore, top_of_place, AreSplitAtPlace}
 use Rattle.mf_rows.specs.Piles.{HaveSameSum, ArePiled}
-use Rattle.mf_rows.specs.Sums.{weight_in_all, HaveRowWeights, IsUnlawfulSomewhere}
+use Rattle.mf_rows.specs.Sums.{sum_in_rows, HaveRowWeights, IsUnlawfulSomewhere}
 use Rattle.mf_rows.proofs.BothRowsLemmas.{weight_in_rows-both}
 use Rattle.mf_rows.proofs.EdgeRowsLemmas.{weight_in_rows-append, weight_in_rows-above, weight_in_rows-below, lawful_weight_in_rows}
 use Rattle.mf_rows.proofs.GroupsLemmas.{Groups, rows_in_place, top_of, none_of_group, group_rows_at, sum_of_group, sum_with_none}
 use Rattle.mf_rows.proofs.GroupsLemmas.{rows_of_groups_are_rows, weight_above_group, weight_below_group, weight_in_place}
 use Rattle.mf_rows.proofs.GroupsMade.{own_of_group}
 use Rattle.mf_rows.proofs.PictureRows.{unlawful_as}
-use Rattle.mf_rows.proofs.PilesLemmas.{piled}
+use Rattle.mf_rows.proofs.PilesLemmas.{pile_rows}
 
 -- ---- a group at place i is exchanged
 
@@ -90,17 +90,17 @@ pub record AreAddedFrom (i : ℕ) (gs : Groups) (rs : List EdgeRow) (gs' : Group
   pub groups : AreGroups gs'
   pub before : AreSameBefore i gs gs'
   pub count : i ≤ length gs'
-  pub weights : HaveRowWeights (weight_in_all (rows_of_groups gs) rs) (rows_of_groups gs')
+  pub weights : HaveRowWeights (sum_in_rows (rows_of_groups gs) rs) (rows_of_groups gs')
 
 module _ (i : ℕ) (gs : Groups) (rs own others : List EdgeRow)
-    (groups : AreGroups gs) (from : AreRowsFrom (top_of_place i) rs) (split : IsSplitAtPlace i rs own others) where
+    (groups : AreGroups gs) (from : AreRowsFrom (top_of_place i) rs) (split : AreSplitAtPlace i rs own others) where
   weight_parted : (x y : ℤ) → weight_in_rows rs x y ≡ (weight_in_rows own x y +ℤ weight_in_rows others x y)
   weight_parted x y = ap (λ rs. weight_in_rows rs x y) split.all ∙ weight_in_rows-append own others x y
 
   pub added_in_place : (later : Groups) (g : Option (Arc Group Global)) → AreRows (rows_at_place g)
-      → HaveRowWeights (weight_in_all (rows_in_place gs i) own) (rows_at_place g) → AreAddedFrom (i + 1) gs others later
+      → HaveRowWeights (sum_in_rows (rows_in_place gs i) own) (rows_at_place g) → AreAddedFrom (i + 1) gs others later
       → AreAddedFrom i gs rs (set later i g)
-  unfolding weight_in_all
+  unfolding sum_in_rows
   added_in_place later g rows weights added =
       let rows_in_group = sum_of_group (top_of last_in_field i) (rows_in_place gs i) own (rows_at_place g) (group_rows_at last_in_field gs i groups.groups)
       (own_of_group i rs own others from split) rows weights in
@@ -125,8 +125,8 @@ module _ (i : ℕ) (gs : Groups) (rs own others : List EdgeRow)
       }
 
   -- a weight that is too large at this place is so in all groups and rows
-  pub unlawful_here : IsUnlawfulSomewhere (weight_in_all (rows_in_place gs i) own) → IsUnlawfulSomewhere (weight_in_all (rows_of_groups gs) rs)
-  unfolding weight_in_all
+  pub unlawful_here : IsUnlawfulSomewhere (sum_in_rows (rows_in_place gs i) own) → IsUnlawfulSomewhere (sum_in_rows (rows_of_groups gs) rs)
+  unfolding sum_in_rows
   unlawful_here found =
       let x = found.x in
       let y = found.y in
@@ -149,8 +149,8 @@ module _ (i : ℕ) (gs : Groups) (rs own others : List EdgeRow)
       (λ below. absurd (lawful (weight_below_group top x y _ group below) (weight_below_group top x y _ added below)))))
 
   -- and so is one at a later place
-  pub unlawful_later : IsUnlawfulSomewhere (weight_in_all (rows_of_groups gs) others) → IsUnlawfulSomewhere (weight_in_all (rows_of_groups gs) rs)
-  unfolding weight_in_all
+  pub unlawful_later : IsUnlawfulSomewhere (sum_in_rows (rows_of_groups gs) others) → IsUnlawfulSomewhere (sum_in_rows (rows_of_groups gs) rs)
+  unfolding sum_in_rows
   unlawful_later found =
       let x = found.x in
       let y = found.y in
@@ -169,7 +169,7 @@ module _ (i : ℕ) (gs : Groups) (rs own others : List EdgeRow)
 
 -- where no row is left, nothing is added
 pub added_nothing : (gs gs' : Groups) (rs : List EdgeRow) → rs ≡ [] → rows_of_groups gs' ≡ rows_of_groups gs
-    → HaveRowWeights (weight_in_all (rows_of_groups gs) rs) (rows_of_groups gs')
+    → HaveRowWeights (sum_in_rows (rows_of_groups gs) rs) (rows_of_groups gs')
 added_nothing gs gs' rs none same = rw (none, same) (sum_with_none (rows_of_groups gs))
 
 -- ---- what was beside the groups up to place i is in the groups
@@ -182,10 +182,6 @@ pub record AreSettledTo (i : ℕ) (old new : Groups × Groups) : Type 0 where
   pub done : (k : ℕ) → k < i → rows_in_place new.1 k ≡ []
   pub weights : HaveSameSum old.0 old.1 new.0 new.1
 
-pub settled_none : (gs hs gs' : Groups) → AreGroups gs' → AreGroups hs → length hs ≤ length gs' → rows_of_groups gs' ≡ rows_of_groups gs
-    → AreSettledTo 0 (gs, hs) (gs', hs)
-settled_none gs hs gs' groups newest places same = grind (arith, ints)
-
 by_last : {P : Type 0} (i k : ℕ) → k < (i + 1) → (k < i → P) → (k ≡ i → P) → P
 by_last zero zero less before last = last refl
 by_last zero (suc k) less before last = absurd (omega arith)
@@ -193,9 +189,9 @@ by_last (suc i) zero less before last = before (omega arith)
 by_last (suc i) (suc k) less before last = by_last i k (omega arith) (λ lt. before (omega arith)) (λ is. last (ap suc is))
 
 pub settled_more : (i : ℕ) (gs hs gs' hs' : Groups) (g : Option (Arc Group Global)) → i < length hs' → AreSettledTo i (gs, hs) (gs', hs')
-    → AreRows (rows_at_place g) → HaveRowWeights (weight_in_all (rows_in_place gs' i) (rows_in_place hs' i)) (rows_at_place g)
+    → AreRows (rows_at_place g) → HaveRowWeights (sum_in_rows (rows_in_place gs' i) (rows_in_place hs' i)) (rows_at_place g)
     → AreSettledTo (i + 1) (gs, hs) (set gs' i g, set hs' i None)
-unfolding weight_in_all weight_in_rows
+unfolding sum_in_rows weight_in_rows
 settled_more i gs hs gs' hs' g inside so_far rows weights =
     let rows_in_group = sum_of_group (top_of last_in_field i) (rows_in_place gs' i) (rows_in_place hs' i) (rows_at_place g)
     (group_rows_at last_in_field gs' i so_far.groups.groups) (group_rows_at last_in_field hs' i so_far.newest.groups) rows weights in
@@ -224,23 +220,23 @@ all_settled i gs hs gs' hs' all so_far = none_left hs' (λ k inside. so_far.done
 
 -- ---- a pile whose groups took up some of what is beside them
 
-pub piled_same : (gs hs gs' hs' : Groups) (reach : ℤ) → ArePiled gs hs reach → AreGroups gs' → AreGroups hs' → HaveSameSum gs hs gs' hs'
+pub pile_same : (gs hs gs' hs' : Groups) (reach : ℤ) → ArePiled gs hs reach → AreGroups gs' → AreGroups hs' → HaveSameSum gs hs gs' hs'
     → ArePiled gs' hs' reach
-piled_same gs hs gs' hs' reach pile groups newest same = grind (arith, ints)
+pile_same gs hs gs' hs' reach pile groups newest same = grind (arith, ints)
 
 -- what is beside the groups keeps its rows
 pub same_beside : (gs hs hs' : Groups) → rows_of_groups hs' ≡ rows_of_groups hs → HaveSameSum gs hs gs hs'
-same_beside gs hs hs' same = record { weights = λ x y. ap (λ rs. weight_in_all (rows_of_groups gs) rs x y) same }
+same_beside gs hs hs' same = record { weights = λ x y. ap (λ rs. sum_in_rows (rows_of_groups gs) rs x y) same }
 
 -- and so do the groups
 pub same_among : (gs hs gs' hs' gs'' : Groups) → HaveSameSum gs hs gs' hs' → rows_of_groups gs'' ≡ rows_of_groups gs' → HaveSameSum gs hs gs'' hs'
-same_among gs hs gs' hs' gs'' sum same = record { weights = λ x y. ap (λ rs. weight_in_all rs (rows_of_groups hs') x y) same ∙ sum.weights x y }
+same_among gs hs gs' hs' gs'' sum same = record { weights = λ x y. ap (λ rs. sum_in_rows rs (rows_of_groups hs') x y) same ∙ sum.weights x y }
 
-pub rows_same : (gs hs gs' hs' : Groups) → HaveSameSum gs hs gs' hs' → HaveRowWeights (weight_in_rows (piled gs hs)) (piled gs' hs')
-unfolding weight_in_all
+pub rows_same : (gs hs gs' hs' : Groups) → HaveSameSum gs hs gs' hs' → HaveRowWeights (weight_in_rows (pile_rows gs hs)) (pile_rows gs' hs')
+unfolding sum_in_rows
 rows_same gs hs gs' hs' same = grind (arith, ints, weight_in_rows-both)
 
 pub rows_settled : (gs hs gs' hs' : Groups) → rows_of_groups hs' ≡ [] → HaveSameSum gs hs gs' hs'
-    → HaveRowWeights (weight_in_rows (piled gs hs)) (rows_of_groups gs')
-unfolding weight_in_all weight_in_rows
+    → HaveRowWeights (weight_in_rows (pile_rows gs hs)) (rows_of_groups gs')
+unfolding sum_in_rows weight_in_rows
 rows_settled gs hs gs' hs' none same = grind (arith, ints, weight_in_rows-both)

@@ -1,5 +1,5 @@
 -- Rows that are added or subtracted: the negated ones are as lawful as the others, and at the same heights.
-use Rattle.std.proofs.Common.{◌≡◌, ◌≢◌, ℕ, ℤ, pos, neg_ℤ, ◌+ℤ◌, ◌-ℤ◌, ◌≤ℤ◌, ◌<ℤ◌, ◌+◌, List, [], ◌∷◌, ◌++◌, length, refl, subst, ap, ◌∙◌, arith}
+use Rattle.std.proofs.Common.{◌≡◌, ◌≢◌, ℤ, pos, neg_ℤ, ◌+ℤ◌, ◌-ℤ◌, ◌≤ℤ◌, ◌<ℤ◌, List, [], ◌∷◌, ◌++◌, length, refl, subst, ap, ◌∙◌, arith}
 use Rattle.std.specs.List.{All}
 use Rattle.std.proofs.lemmas.Int.{ints, by_lt_z}
 use Rattle.std.proofs.lemmas.List.{map-append}
@@ -11,11 +11,10 @@ use Rattle.mf_edges.specs.LawfulWeights.{IsLawfulWeight, greatest_weight}
 use Rattle.mf_edges.proofs.EdgesLemmas.{weight_in-left, weight_in-right, weight_in-before}
 use Rattle.mf_rows.specs.declared.sign.Sign.{Sign}
 use Rattle.mf_rows.specs.declared.sign.Sign.TheVariants.{Plus, Minus}
-use Rattle.mf_rows.specs.BandSums.{AreSplitAtBand, lowest_of}
+use Rattle.mf_rows.specs.Bands.{AreSplit}
 use Rattle.mf_rows.specs.EdgeRows.{EdgeRow, AreRowsFrom, AreRows, weight_in_rows}
-use Rattle.mf_rows.specs.Groups.{IsSplitAtPlace, top_of_place}
 use Rattle.mf_rows.specs.Piles.{IsReachOf}
-use Rattle.mf_rows.specs.Signs.{negated_edge, negated_edges, negated_row, negated_rows, signed}
+use Rattle.mf_rows.specs.Signs.{negated_edge, negated_edges, negated_row, negated_rows, with_sign}
 use Rattle.mf_rows.specs.Sums.{HaveRowWeights}
 use Rattle.mf_rows.proofs.EdgeRowsLemmas.{weight_in_rows-here, weight_in_rows-elsewhere}
 use Rattle.mf_rows.proofs.RowSums.{by_same}
@@ -86,47 +85,39 @@ weight_in_rows-negated (r ∷ rs) x y =
 
 -- ---- rows with a sign
 
-pub signed_from : (s : Sign) (top : ℤ) (rs : List EdgeRow) → AreRowsFrom top rs → AreRowsFrom top (signed s rs)
-signed_from Plus top rs rows = rows
-signed_from Minus top rs rows = rows_from-negated top rs rows
+pub with_sign_from : (s : Sign) (top : ℤ) (rs : List EdgeRow) → AreRowsFrom top rs → AreRowsFrom top (with_sign s rs)
+with_sign_from Plus top rs rows = rows
+with_sign_from Minus top rs rows = rows_from-negated top rs rows
 
-pub signed_rows : (s : Sign) (rs : List EdgeRow) → AreRows rs → AreRows (signed s rs)
-signed_rows s rs rows = record { rows = signed_from s last_in_field rs rows.rows }
+pub with_sign_rows : (s : Sign) (rs : List EdgeRow) → AreRows rs → AreRows (with_sign s rs)
+with_sign_rows s rs rows = record { rows = with_sign_from s last_in_field rs rows.rows }
 
-pub signed_none : (s : Sign) (rs : List EdgeRow) → rs ≡ [] → signed s rs ≡ []
-signed_none Plus rs none = none
-signed_none Minus rs none = ap negated_rows none
+pub with_sign_none : (s : Sign) (rs : List EdgeRow) → rs ≡ [] → with_sign s rs ≡ []
+with_sign_none Plus rs none = none
+with_sign_none Minus rs none = ap negated_rows none
 
-pub signed-append : (s : Sign) (rs ss : List EdgeRow) → signed s (rs ++ ss) ≡ signed s rs ++ signed s ss
-signed-append Plus rs ss = refl
-signed-append Minus rs ss = map-append negated_row rs ss
+pub with_sign-append : (s : Sign) (rs ss : List EdgeRow) → with_sign s (rs ++ ss) ≡ with_sign s rs ++ with_sign s ss
+with_sign-append Plus rs ss = refl
+with_sign-append Minus rs ss = map-append negated_row rs ss
 
 -- what is true of the heights of rows stays so
-pub signed_all : (P : ℤ → Type 0) (s : Sign) (rs : List EdgeRow) → All (λ r. P r.y) rs → All (λ r. P r.y) (signed s rs)
-signed_all P Plus rs all = all
-signed_all P Minus rs all = All-map (λ r. P r.y) negated_row rs all
+pub with_sign_all : (P : ℤ → Type 0) (s : Sign) (rs : List EdgeRow) → All (λ r. P r.y) rs → All (λ r. P r.y) (with_sign s rs)
+with_sign_all P Plus rs all = all
+with_sign_all P Minus rs all = All-map (λ r. P r.y) negated_row rs all
 
-pub signed_split : (s : Sign) {n : ℤ} {rs first rest : List EdgeRow} → AreSplitAtBand n rs first rest
-    → AreSplitAtBand n (signed s rs) (signed s first) (signed s rest)
-signed_split s {n = n} {first = first} {rest = rest} split = record {
-  all = ap (signed s) split.all ∙ signed-append s first rest;
-  up_to = signed_all (λ y. (lowest_of n -ℤ pos 1) <ℤ y) s first split.up_to;
-  after = signed_all (λ y. y <ℤ lowest_of n) s rest split.after;
-}
-
-pub signed_split_at_place : (s : Sign) (i : ℕ) (rs own others : List EdgeRow) → IsSplitAtPlace i rs own others
-    → IsSplitAtPlace i (signed s rs) (signed s own) (signed s others)
-signed_split_at_place s i rs own others split = record {
-  all = ap (signed s) split.all ∙ signed-append s own others;
-  above = signed_all (λ y. top_of_place (i + 1) <ℤ y) s own split.above;
-  below = signed_all (λ y. y <ℤ (top_of_place (i + 1) +ℤ pos 1)) s others split.below;
+pub with_sign_split : (s : Sign) {high low : ℤ} {rs first rest : List EdgeRow} → AreSplit high low rs first rest
+    → AreSplit high low (with_sign s rs) (with_sign s first) (with_sign s rest)
+with_sign_split s {high} {low} {first = first} {rest = rest} split = record {
+  all = ap (with_sign s) split.all ∙ with_sign-append s first rest;
+  above = with_sign_all (λ y. high <ℤ y) s first split.above;
+  below = with_sign_all (λ y. y <ℤ low) s rest split.below;
 }
 
 -- the weights of rows with a sign depend on the weights of these rows alone
-pub signed_same : (s : Sign) (rs ss : List EdgeRow) → HaveRowWeights (weight_in_rows rs) ss → HaveRowWeights (weight_in_rows (signed s rs)) (signed s ss)
-signed_same Plus rs ss same = same
-signed_same Minus rs ss same = grind (arith, ints, weight_in_rows-negated)
+pub with_sign_same : (s : Sign) (rs ss : List EdgeRow) → HaveRowWeights (weight_in_rows rs) ss → HaveRowWeights (weight_in_rows (with_sign s rs)) (with_sign s ss)
+with_sign_same Plus rs ss same = same
+with_sign_same Minus rs ss same = grind (arith, ints, weight_in_rows-negated)
 
-pub signed_reach : (s : Sign) (reach : ℤ) (rs : List EdgeRow) → IsReachOf reach (weight_in_rows rs) → IsReachOf reach (weight_in_rows (signed s rs))
-signed_reach Plus reach rs stay = stay
-signed_reach Minus reach rs stay = grind (arith, ints, weight_in_rows-negated)
+pub with_sign_reach : (s : Sign) (reach : ℤ) (rs : List EdgeRow) → IsReachOf reach (weight_in_rows rs) → IsReachOf reach (weight_in_rows (with_sign s rs))
+with_sign_reach Plus reach rs stay = stay
+with_sign_reach Minus reach rs stay = grind (arith, ints, weight_in_rows-negated)

@@ -70,9 +70,6 @@ pub record AreHeadsSoFar (old : List Head) (s : StripHeads) (down : ℤ) (new : 
   pub heads : (es row : List Edge) → AreHeads es old → IsPlaceOf es s.place row → StaysInReach s.reach row → AreHeads es new
   pub rows : (es row : List Edge) → IsPlaceOf es s.place row → AreCopiesSoFar (rows_at es old) (strip_between row s.bottom s.top) down (rows_at es new)
 
-pub heads_none : (old : List Head) (s : StripHeads) → AreHeadsSoFar old s (pos 0) old
-heads_none old s = grind (arith, ints, copies_none)
-
 -- the next head goes below them
 module _ (old : List Head) (s : StripHeads) (down : ℤ) (new : List Head) (in_reach : (down +ℤ pos 1) ≤ℤ (s.top -ℤ s.bottom))
     (so_far : AreHeadsSoFar old s down new) (q : Place) (shared : (es row : List Edge) → IsPlaceOf es s.place row → IsPlaceOf es q row) where

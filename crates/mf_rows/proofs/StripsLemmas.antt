@@ -20,15 +20,12 @@ pub below_reach : (bottom : ℤ) (rs : List EdgeRow) (x y : ℤ) → ReachDownTo
 below_reach bottom rs x y down lt =
     weight_in_rows-above rs x y (All-weaker (λ r. bottom ≤ℤ r.y) (λ r. y <ℤ r.y) (λ r le. omega (arith, ints, le, lt)) rs down.reach)
 
-reach_lower : (bottom top : ℤ) (rs : List EdgeRow) → bottom ≤ℤ top → ReachDownTo top rs → ReachDownTo bottom rs
-reach_lower bottom top rs le down = grind (arith, ints, All-weaker)
-
 -- a strip with no rows or no edges adds nothing
 pub no_strip : (rs : List EdgeRow) (es : List Edge) (bottom top : ℤ) → ReachDownTo top rs → bottom ≤ℤ top
     → (bottom <ℤ top → es ≡ []) → HasStrip (strip_between es bottom top) rs rs
 unfolding weight_in
 no_strip rs es bottom top down le none = record {
-  rows = reach_lower bottom top rs le down;
+  rows = grind (arith, ints, All-weaker);
   strip = λ x y ge lt. rw (none (omega (arith, ints, ge, lt))) (below_reach top rs x y down lt);
   above = λ x y ge. refl;
 }
@@ -80,7 +77,7 @@ strip_below old es bottom top down low below in_reach some edges =
       rows = record {
         rows = rows_from-append last_in_field old new down.rows
             (strip_rows last_in_field bottom es n low (omega (arith, ints)) (omega (arith, ints)) some edges) lower;
-        reach = All-append (λ r. bottom ≤ℤ r.y) old new (reach_lower bottom top old (omega (arith, ints)) down).reach
+        reach = All-append (λ r. bottom ≤ℤ r.y) old new (All-weaker (λ r. top ≤ℤ r.y) (λ r. bottom ≤ℤ r.y) (λ r le. omega (arith, ints)) old down.reach)
             (All-weaker within (λ t. bottom ≤ℤ t.y) (λ t inside. inside.0) new heights);
       };
       strip = λ x y ge lt.

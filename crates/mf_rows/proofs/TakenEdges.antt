@@ -15,7 +15,7 @@ use Rattle.mf_edges.specs.Merging.{IsDifference, AreEdgesLeft}
 use Rattle.mf_edges.proofs.EdgesLemmas.{edges_from-lower}
 use Rattle.mf_edges.proofs.EdgeSums.{changes_of_edges, changes_left, difference_is, more_fits}
 use Rattle.mf_rows.specs.BothEdges.{edges_of_both, AreLeftOfBoth, IsFirstOfBoth, IsLastOfBoth}
-use Rattle.mf_rows.proofs.BothEdgesLemmas.{joined, both-left, both-right, both-here, both-left_last, both-right_last, both-here_last}
+use Rattle.mf_rows.proofs.BothEdgesLemmas.{edge_of_both, both-left, both-right, both-here, both-left_last, both-right_last, both-here_last}
 use Rattle.mf_rows.proofs.PixelColumns.{IsEdgeAmong, edge_among}
 
 pub left_of_none : AreEdgesLeft least_coordinate []
@@ -26,11 +26,8 @@ pub left_of_rows : (es fs : List Edge) → AreEdges es → AreEdges fs → AreLe
 left_of_rows es fs left right = record { left = changes_left es (changes_of_edges es left); right = changes_left fs (changes_of_edges fs right) }
 
 -- edges that cancel are none, others are one
-joined-none : (e f : Edge) → e.weight +ℤ f.weight ≡ pos 0 → joined e f ≡ []
-joined-none e f zero = cond-true (int_eq (e.weight +ℤ f.weight) (pos 0)) [] _ ((Decides-int_eq (e.weight +ℤ f.weight) (pos 0)).1 zero)
-
-joined-some : (e f : Edge) → (e.weight +ℤ f.weight) ≢ pos 0 → joined e f ≡ record { x = e.x; weight = e.weight +ℤ f.weight } ∷ []
-joined-some e f nonzero = grind (arith, ints, cond-false, false_from_ne_true, Decides-int_eq)
+edge_of_both-none : (e f : Edge) → e.weight +ℤ f.weight ≡ pos 0 → edge_of_both e f ≡ []
+edge_of_both-none e f zero = cond-true (int_eq (e.weight +ℤ f.weight) (pos 0)) [] _ ((Decides-int_eq (e.weight +ℤ f.weight) (pos 0)).1 zero)
 
 -- where no edge is left in either row, there is none
 pub none_over : (all ls rs : List Edge) → edges_of_both ls rs ≡ all → length ls ≡ 0 → length rs ≡ 0 → all ≡ []
@@ -67,28 +64,28 @@ pub record AreTaken (s : Side) (l r : SplitRow) : Type 0 where
 taken : (s : Side) (l r : SplitRow) → IsEdge l.edge → IsEdge r.edge → IsDifference l.edge.weight → IsDifference r.edge.weight
     → AreLeftOfBoth l.others r.others → (s.before l.edge.x r.edge.x → s.IsTaken l.edge l.others r.row)
     → (s.before r.edge.x l.edge.x → s.IsTaken r.edge l.row r.others)
-    → (put : List Edge → List Edge) → put [] ≡ edges_of_both l.others r.others → (l.edge.x ≡ r.edge.x → s.all ≡ put (joined l.edge r.edge))
+    → (put : List Edge → List Edge) → put [] ≡ edges_of_both l.others r.others → (l.edge.x ≡ r.edge.x → s.all ≡ put (edge_of_both l.edge r.edge))
     → ((g : Edge) → s.all ≡ put (g ∷ []) → s.IsTaken g l.others r.others) → AreTaken s l r
 taken s l r edge other left right others first second put none all_is some =
     let e = l.edge in
     let f = r.edge in
-    let x : to_z w32 (of_z w32 e.x) ≡ e.x = omega (arith, ints, edge.left, edge.right) in
-    let y : to_z w32 (of_z w32 f.x) ≡ f.x = omega (arith, ints, other.left, other.right) in
+    let x : to_z w32 (of_z w32 e.x) ≡ e.x = omega (arith, ints, edge.column) in
+    let y : to_z w32 (of_z w32 f.x) ≡ f.x = omega (arith, ints, other.column) in
     let sum = more_fits e.weight f.weight left right in
     let is : to_z w32 (sum_of e f) ≡ e.weight +ℤ f.weight = rw (difference_is e.weight left, difference_is f.weight right) (to_z-of_z sum) in
     record {
       left = rw (x, y) first;
       right = rw (x, y) second;
       sum = rw (difference_is e.weight left, difference_is f.weight right) sum;
-      here = λ same more. grind (arith, ints, difference_is, joined-some);
-      cancelled = λ same zero. (others, sym (all_is (rw (x, y) at same) ∙ ap put (joined-none e f (sym is ∙ ap (to_z w32) zero)) ∙ none));
+      here = λ same more. grind (arith, ints, difference_is, cond-false, false_from_ne_true, Decides-int_eq);
+      cancelled = λ same zero. (others, sym (all_is (rw (x, y) at same) ∙ ap put (edge_of_both-none e f (sym is ∙ ap (to_z w32) zero)) ∙ none));
     }
 
 -- ---- the first edge
 
 rest_left : (e : Edge) (es : List Edge) → AreEdgesLeft least_coordinate (e ∷ es) → AreEdgesLeft least_coordinate es
 rest_left e es left =
-    let edge = left.sorted.0.left in
+    let edge = left.sorted.0.column.least in
     record {
       sorted = edges_from-lower least_coordinate (e.x +ℤ pos 1) es (omega (arith, ints)) left.sorted.2;
       differences = All-tail (λ e. IsDifference e.weight) e es left.differences;

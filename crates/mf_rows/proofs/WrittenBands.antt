@@ -1,11 +1,10 @@
 -- Bands that are written one after another: where the rows fall, the numbers of the bands rise.
-use Rattle.std.proofs.Common.{◌≡◌, ◌≢◌, ℤ, pos, ◌+ℤ◌, ◌≤ℤ◌, List, [], ◌∷◌, ◌++◌, length, refl, sym, subst, ap, append_assoc, arith}
+use Rattle.std.proofs.Common.{◌≡◌, ◌≢◌, ℤ, pos, ◌+ℤ◌, ◌≤ℤ◌, List, [], ◌∷◌, ◌++◌, length, sym, subst, ap, append_assoc, arith}
 use Rattle.std.proofs.lemmas.Int.{ints}
 use Rattle.std.proofs.lemmas.List.{length-append}
 use Rattle.std.proofs.lemmas.List.Elements.{All-nil, All-cons, All-head, All-push}
 use Rattle.std.specs.declared.alloc.Global.{Global}
 use Rattle.std.specs.declared.sync.Arc.{Arc}
-use Rattle.mf_rows.specs.declared.bands.TheConstants.{BAND_COUNT}
 use Rattle.mf_geom.specs.Coordinates.{last_in_field}
 use Rattle.mf_rows.specs.declared.band.Band.{Band}
 use Rattle.mf_rows.specs.BandNumbers.{numbers_of, RiseWithin, HaveRisingNumbers, RiseBefore, IsWriting, number_of_rows}
@@ -34,10 +33,6 @@ writing_first n r bs own rising = grind (arith, ints, All-cons, All-nil)
 -- band n is finished: its number follows those of the bands before it
 module _ (n : ℤ) (bs : List (Arc Band Global)) (rs : List EdgeRow) (writing : IsWriting n bs rs)
     (cs : List (Arc Band Global)) (numbers : numbers_of cs ≡ numbers_of bs ++ number_of_rows n rs) where
-  -- where no row was written there is no band
-  none_finished : (high : ℤ) → rs ≡ [] → pos 0 ≤ℤ high → RiseBefore high cs
-  none_finished high none le = grind (arith, ints, sym)
-
   some_finished : (high : ℤ) → AreRows (rows_of_bands bs ++ rs) → (n +ℤ pos 1) ≤ℤ high → RiseBefore high cs
   some_finished high rows le =
       subst (RiseWithin (pos 0) high) (sym numbers)
@@ -45,7 +40,7 @@ module _ (n : ℤ) (bs : List (Arc Band Global)) (rs : List EdgeRow) (writing : 
 
 finished_before : (n own : ℤ) (bs : List (Arc Band Global)) (rs : List EdgeRow) (r : EdgeRow) (cs : List (Arc Band Global)) → IsWriting n bs rs
     → numbers_of cs ≡ numbers_of bs ++ number_of_rows n rs → IsOfBand own r.y → own ≢ n → AreRows ((rows_of_bands bs ++ rs) ++ r ∷ []) → RiseBefore own cs
-finished_before n own bs [] r cs writing numbers of_own other rows = grind (arith, ints, rows_from-back, none_finished)
+finished_before n own bs [] r cs writing numbers of_own other rows = grind (arith, ints, rows_from-back, sym)
 finished_before n own bs (s ∷ ss) r cs writing numbers of_own other rows =
     grind (arith, ints, front_are_rows, rows_from-back, append_assoc, All-head, some_finished)
 
@@ -59,5 +54,5 @@ writing_next n own bs rs r cs writing all numbers of_own other =
 -- in the end the numbers of all bands rise
 pub all_finished : (n : ℤ) (bs : List (Arc Band Global)) (rs : List EdgeRow) (cs : List (Arc Band Global)) → IsWriting n bs rs
     → numbers_of cs ≡ numbers_of bs ++ number_of_rows n rs → AreRows (rows_of_bands bs ++ rs) → HaveRisingNumbers cs
-all_finished n bs [] cs writing numbers rows = none_finished n bs [] writing cs numbers BAND_COUNT refl (omega (arith, ints))
+all_finished n bs [] cs writing numbers rows = grind (arith, ints, sym)
 all_finished n bs (s ∷ ss) cs writing numbers rows = grind (arith, ints, rows_from-back, All-head, some_finished)

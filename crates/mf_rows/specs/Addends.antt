@@ -10,16 +10,16 @@ use Rattle.mf_rows.specs.BandNumbers.{RiseFrom, number_of}
 use Rattle.mf_rows.specs.BandSums.{AreAfter, AreSplitAtBand}
 use Rattle.mf_rows.specs.EdgeRows.{EdgeRow, AreRows}
 use Rattle.mf_rows.specs.FieldBands.{AreOfBand}
-use Rattle.mf_rows.specs.Signs.{signed}
+use Rattle.mf_rows.specs.Signs.{with_sign}
 
 -- the rows of what is added
 abbrev pub addend_rows : Addend → List EdgeRow
-addend_rows (Bands bands sign) = signed sign (rows_of_bands bands.now)
+addend_rows (Bands bands sign) = with_sign sign (rows_of_bands bands.now)
 addend_rows (Rows rows) = slice_rows rows
 
 -- the rows that are added to one band
 abbrev pub part_rows : Part → List EdgeRow
-part_rows part = signed part.sign (slice_rows part.rows)
+part_rows part = with_sign part.sign (slice_rows part.rows)
 
 -- the number of bands or of rows that are added
 abbrev pub addend_size : Addend → ℕ

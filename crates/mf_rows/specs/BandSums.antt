@@ -2,9 +2,9 @@
 use Rattle.std.specs.Prelude.{◌≡◌, ℤ, pos, ◌-ℤ◌, ◌*ℤ◌, List, ◌++◌}
 use Rattle.mf_geom.specs.Coordinates.{greatest_coordinate}
 use Rattle.mf_rows.specs.declared.bands.TheConstants.{BAND_HEIGHT}
-use Rattle.mf_rows.specs.Bands.{AreAbove, AreBelow}
+use Rattle.mf_rows.specs.Bands.{AreAbove, AreBelow, AreSplit}
 use Rattle.mf_rows.specs.EdgeRows.{EdgeRow, AreRows}
-use Rattle.mf_rows.specs.Sums.{HaveRowWeights, StayWithin, weight_in_all}
+use Rattle.mf_rows.specs.Sums.{HaveRowWeights, StayWithin, sum_in_rows}
 
 -- the lowest row of band n of the field
 abbrev pub lowest_of : ℤ → ℤ
@@ -19,15 +19,13 @@ abbrev pub AreAfter : ℤ → List EdgeRow → Type 0
 AreAfter n rs = AreBelow (lowest_of n) rs
 
 -- rows are split into those of bands up to band n and those of bands after it
-pub record AreSplitAtBand (n : ℤ) (rs first rest : List EdgeRow) : Type 0 where
-  pub all : rs ≡ first ++ rest
-  pub up_to : AreUpTo n first
-  pub after : AreAfter n rest
+abbrev pub AreSplitAtBand : ℤ → List EdgeRow → List EdgeRow → List EdgeRow → Type 0
+AreSplitAtBand n = AreSplit (lowest_of n -ℤ pos 1) (lowest_of n)
 
 -- rows were appended that have the weights of two lists of rows together and reach no further than these
 pub record HasSum (before rs ss after : List EdgeRow) : Type 0 where
   pub more : List EdgeRow
   pub all : after ≡ before ++ more
   pub rows : AreRows more
-  pub weights : HaveRowWeights (weight_in_all rs ss) more
+  pub weights : HaveRowWeights (sum_in_rows rs ss) more
   pub within : StayWithin rs ss more

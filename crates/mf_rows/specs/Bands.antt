@@ -1,5 +1,5 @@
 -- The rows that are kept in bands.
-use Rattle.std.specs.Prelude.{◌≡◌, ℤ, pos, ◌<ℤ◌, All, List, map, flat_map}
+use Rattle.std.specs.Prelude.{◌≡◌, ℤ, pos, ◌<ℤ◌, All, List, ◌++◌, map, flat_map}
 use Rattle.std.specs.Arc.{arc_value}
 use Rattle.std.specs.declared.alloc.Global.{Global}
 use Rattle.std.specs.declared.sync.Arc.{Arc}
@@ -52,3 +52,9 @@ AreAbove y rs = All (λ r. y <ℤ r.y) rs
 -- rows below row y
 abbrev pub AreBelow : ℤ → List EdgeRow → Type 0
 AreBelow y rs = All (λ r. r.y <ℤ y) rs
+
+-- rows are split into those above row `high` and those below row `low`
+pub record AreSplit (high low : ℤ) (rs first rest : List EdgeRow) : Type 0 where
+  pub all : rs ≡ first ++ rest
+  pub above : AreAbove high first
+  pub below : AreBelow low rest

@@ -1,6 +1,6 @@
 -- Corners: each adds its weight to all pixels at or to the right of its column and below its height.
 use Rattle.std.specs.Prelude.{◌≡◌, ◌≤◌, ◌*◌, ◌&&◌, ℤ, pos, neg_ℤ, ◌+ℤ◌, ◌≤ℤ◌, int_le, int_lt, All, List, [], ◌∷◌, length, if◌then◌else◌}
-use Rattle.mf_geom.specs.Coordinates.{least_coordinate, greatest_coordinate}
+use Rattle.mf_geom.specs.Coordinates.{greatest_coordinate, IsCoordinate}
 use Rattle.mf_geom.specs.Lawful.{most_points}
 use Rattle.mf_rows.specs.declared.corner.Corner.{Corner}
 use Rattle.mf_rows.specs.Dots.{Dot, weight_at}
@@ -25,10 +25,8 @@ pub record IsCornerWeight (w : ℤ) : Type 0 where
 
 -- a corner is a point in range with such a weight
 pub record IsCorner (k : Corner) : Type 0 where
-  pub left : least_coordinate ≤ℤ k.x
-  pub right : k.x ≤ℤ greatest_coordinate
-  pub bottom : least_coordinate ≤ℤ k.y
-  pub top : k.y ≤ℤ greatest_coordinate
+  pub column : IsCoordinate k.x
+  pub height : IsCoordinate k.y
   pub weight : IsCornerWeight k.weight
 
 -- there are at most two corners for each point of a cycle, and they add nothing to the right of the field (what they add below it is left out,

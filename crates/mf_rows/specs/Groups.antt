@@ -1,5 +1,5 @@
 -- Groups of bands: the field has a place for each, and a group has the bands of 256 rows of the field.
-use Rattle.std.specs.Prelude.{◌≡◌, ℕ, ◌+◌, ◌<◌, ℤ, pos, ◌+ℤ◌, ◌-ℤ◌, ◌*ℤ◌, ◌≤ℤ◌, ◌<ℤ◌, List, [], ◌∷◌, ◌++◌, Option, Some, None, flat_map, slice_index_or}
+use Rattle.std.specs.Prelude.{◌≡◌, ℕ, ◌+◌, ◌<◌, ℤ, pos, ◌+ℤ◌, ◌-ℤ◌, ◌*ℤ◌, ◌≤ℤ◌, ◌<ℤ◌, List, [], ◌∷◌, Option, Some, None, flat_map, slice_index_or}
 use Rattle.std.specs.Arc.{arc_value}
 use Rattle.std.specs.Borrow.{Bor}
 use Rattle.std.specs.declared.alloc.Global.{Global}
@@ -7,7 +7,7 @@ use Rattle.std.specs.declared.sync.Arc.{Arc}
 use Rattle.mf_geom.specs.Coordinates.{last_in_field}
 use Rattle.mf_rows.specs.declared.group.Group.{Group}
 use Rattle.mf_rows.specs.declared.group.TheConstants.{GROUP_HEIGHT}
-use Rattle.mf_rows.specs.Bands.{rows_of_bands, AreAbove, AreBelow}
+use Rattle.mf_rows.specs.Bands.{rows_of_bands, AreAbove, AreSplit}
 use Rattle.mf_rows.specs.EdgeRows.{EdgeRow, AreRowsFrom}
 
 -- the rows of the group at a place, where there is one
@@ -48,10 +48,8 @@ pub record IsPlaceOfRow (y : ℤ) (i : ℕ) : Type 0 where
   pub bottom : top_of_place (i + 1) <ℤ y
 
 -- rows are split into those that belong to the groups up to place i, and those that belong to later groups
-pub record IsSplitAtPlace (i : ℕ) (rs own others : List EdgeRow) : Type 0 where
-  pub all : rs ≡ own ++ others
-  pub above : AreAbove (top_of_place (i + 1)) own
-  pub below : AreBelow (top_of_place (i + 1) +ℤ pos 1) others
+abbrev pub AreSplitAtPlace : ℕ → List EdgeRow → List EdgeRow → List EdgeRow → Type 0
+AreSplitAtPlace i = AreSplit (top_of_place (i + 1)) (top_of_place (i + 1) +ℤ pos 1)
 
 -- at each place before place i, groups have the rows that others have
 pub record AreSameBefore (i : ℕ) (gs gs' : List (Option (Arc Group Global))) : Type 0 where

@@ -5,7 +5,7 @@ use Rattle.std.specs.declared.sync.Arc.{Arc}
 use Rattle.mf_edges.specs.LawfulWeights.{greatest_weight}
 use Rattle.mf_rows.specs.declared.group.Group.{Group}
 use Rattle.mf_rows.specs.Groups.{rows_of_groups, AreGroups}
-use Rattle.mf_rows.specs.Sums.{weight_in_all}
+use Rattle.mf_rows.specs.Sums.{sum_in_rows}
 
 -- no weight exceeds a reach in absolute value, and the reach is at most 32767
 pub record IsReachOf (reach : ℤ) (f : ℤ → ℤ → ℤ) : Type 0 where
@@ -21,8 +21,8 @@ IsReachOfSum a b reach = (((a +ℤ b) ≤ℤ greatest_weight) × (reach ≡ (a +
 pub record ArePiled (gs hs : List (Option (Arc Group Global))) (reach : ℤ) : Type 0 where
   pub older : AreGroups gs
   pub newest : AreGroups hs
-  pub reached : IsReachOf reach (weight_in_all (rows_of_groups gs) (rows_of_groups hs))
+  pub reached : IsReachOf reach (sum_in_rows (rows_of_groups gs) (rows_of_groups hs))
 
 -- two lists of groups have the same weights together as two others
 pub record HaveSameSum (gs hs gs' hs' : List (Option (Arc Group Global))) : Type 0 where
-  pub weights : (x y : ℤ) → weight_in_all (rows_of_groups gs') (rows_of_groups hs') x y ≡ weight_in_all (rows_of_groups gs) (rows_of_groups hs) x y
+  pub weights : (x y : ℤ) → sum_in_rows (rows_of_groups gs') (rows_of_groups hs') x y ≡ sum_in_rows (rows_of_groups gs) (rows_of_groups hs) x y

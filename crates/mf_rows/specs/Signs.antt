@@ -22,6 +22,6 @@ abbrev pub negated_rows : List EdgeRow → List EdgeRow
 negated_rows rs = map negated_row rs
 
 -- what is added to other rows where these are added, or subtracted
-abbrev pub signed : Sign → List EdgeRow → List EdgeRow
-signed Plus rs = rs
-signed Minus rs = negated_rows rs
+abbrev pub with_sign : Sign → List EdgeRow → List EdgeRow
+with_sign Plus rs = rs
+with_sign Minus rs = negated_rows rs

@@ -18,8 +18,8 @@ pub record IsUnlawfulSomewhere (f : ℤ → ℤ → ℤ) : Type 0 where
   pub unlawful : IsLawfulWeight (f x y) → ⊥
 
 -- the weight of the pixel (x, y) in two lists of rows together
-unfoldable pub weight_in_all : List EdgeRow → List EdgeRow → ℤ → ℤ → ℤ
-weight_in_all rs ss x y = weight_in_rows rs x y +ℤ weight_in_rows ss x y
+unfoldable pub sum_in_rows : List EdgeRow → List EdgeRow → ℤ → ℤ → ℤ
+sum_in_rows rs ss x y = weight_in_rows rs x y +ℤ weight_in_rows ss x y
 
 -- the weight of the pixel (x, y) in two pictures together
 unfoldable pub sum_at : List Dot → List Dot → ℤ → ℤ → ℤ

@@ -6,8 +6,8 @@ ghost use Rattle.mf_rows.specs.BandNumbers.{HaveRisingNumbers, IsOnlyBand, RiseB
 ghost use Rattle.mf_rows.specs.Bands.{rows_in, rows_of_bands, slice_rows};
 ghost use Rattle.mf_rows.specs.BandSums.{HasSum};
 ghost use Rattle.mf_rows.specs.EdgeRows.{AreRows};
-ghost use Rattle.mf_rows.specs.Signs.{signed};
-ghost use Rattle.mf_rows.specs.Sums.{weight_in_all, HaveRowWeights, IsUnlawfulSomewhere, StayWithin};
+ghost use Rattle.mf_rows.specs.Signs.{with_sign};
+ghost use Rattle.mf_rows.specs.Sums.{sum_in_rows, HaveRowWeights, IsUnlawfulSomewhere, StayWithin};
 
 use crate::addend::{Addend, Part};
 use crate::band::Band;
@@ -35,9 +35,9 @@ pub(crate) fn sum_of_bands(
     requires added { IsAddedFrom (pos 0) added }
     ensures rows { IfOk result (λ sum. AreRows (rows_of_bands sum.items)) }
     ensures rising { IfOk result (λ sum. HaveRisingNumbers sum.items) }
-    ensures weights { IfOk result (λ sum. HaveRowWeights (weight_in_all (rows_of_bands bands.now) (addend_rows added.entry)) (rows_of_bands sum.items)) }
+    ensures weights { IfOk result (λ sum. HaveRowWeights (sum_in_rows (rows_of_bands bands.now) (addend_rows added.entry)) (rows_of_bands sum.items)) }
     ensures too_large { IfErr result (λ fault. fault ≢ AddFault.OutOfMemory
-        → IsUnlawfulSomewhere (weight_in_all (rows_of_bands bands.now) (addend_rows added.entry))) }
+        → IsUnlawfulSomewhere (sum_in_rows (rows_of_bands bands.now) (addend_rows added.entry))) }
 {
     let mut sum = Vec::new(alloc);
     sum.reserve(added.room_with(bands))?;
@@ -68,7 +68,7 @@ fn push_band_sum(
         (rows_of_bands (band_found own.entry)) (part_rows part.entry) (rows_of_bands sum.new.items)) }
     ensures rising { OnOk result (RiseBefore (part.entry.number +ℤ pos 1) sum.new.items) }
     ensures too_large { IfErr result (λ fault. fault ≢ AddFault.OutOfMemory
-        → IsUnlawfulSomewhere (weight_in_all (rows_of_bands (band_found own.entry)) (part_rows part.entry))) }
+        → IsUnlawfulSomewhere (sum_in_rows (rows_of_bands (band_found own.entry)) (part_rows part.entry))) }
 {
     if let (None, Some(band), Sign::Plus) = (own, part.band, part.sign) {
         return Ok(share_band(sum, band)?);
@@ -96,10 +96,10 @@ fn sum_with_band(
     requires own { AreRows (rows_of_bands (band_found own)) }
     requires rows { AreRows (slice_rows rows) }
     ensures rows { IfOk result (λ sum. AreRows sum) }
-    ensures weights { IfOk result (λ sum. HaveRowWeights (weight_in_all (rows_of_bands (band_found own.entry)) (signed sign (slice_rows rows.entry))) sum) }
-    ensures within { IfOk result (λ sum. StayWithin (rows_of_bands (band_found own.entry)) (signed sign (slice_rows rows.entry)) sum) }
+    ensures weights { IfOk result (λ sum. HaveRowWeights (sum_in_rows (rows_of_bands (band_found own.entry)) (with_sign sign (slice_rows rows.entry))) sum) }
+    ensures within { IfOk result (λ sum. StayWithin (rows_of_bands (band_found own.entry)) (with_sign sign (slice_rows rows.entry)) sum) }
     ensures too_large { IfErr result (λ fault. fault ≢ AddFault.OutOfMemory
-        → IsUnlawfulSomewhere (weight_in_all (rows_of_bands (band_found own.entry)) (signed sign (slice_rows rows.entry)))) }
+        → IsUnlawfulSomewhere (sum_in_rows (rows_of_bands (band_found own.entry)) (with_sign sign (slice_rows rows.entry)))) }
 {
     match (own, sign) {
         (Some(band), Sign::Plus) => sum_of_rows(alloc, RowSlice::of(&band.rows), rows),
@@ -114,7 +114,7 @@ fn sum_with_band(
 /// A copy of rows, which is negated where they are subtracted.
 fn signed_copy(alloc: Global, rows: RowSlice<'_>, sign: Sign) -> Result<RowList, OutOfMemory>
     requires { AreRows (slice_rows rows) }
-    ensures { IfOk result (λ copy. copy ≡ signed sign (slice_rows rows.entry)) }
+    ensures { IfOk result (λ copy. copy ≡ with_sign sign (slice_rows rows.entry)) }
 {
     match sign {
         Sign::Plus => {

@@ -4,7 +4,7 @@ ghost use Rattle.mf_rows.specs.Bands.{slice_rows};
 ghost use Rattle.mf_rows.specs.EdgeRows.{AreRows, AreRowsFrom};
 ghost use Rattle.mf_rows.specs.Groups.{AreGroups, AreSameBefore, rows_of_groups, top_of_place};
 ghost use Rattle.mf_rows.specs.Piles.{HaveSameSum};
-ghost use Rattle.mf_rows.specs.Sums.{weight_in_all, HaveRowWeights, IsUnlawfulSomewhere};
+ghost use Rattle.mf_rows.specs.Sums.{sum_in_rows, HaveRowWeights, IsUnlawfulSomewhere};
 
 use crate::addend::Addend;
 use crate::fault::AddFault;
@@ -27,10 +27,10 @@ pub(crate) fn add_rows(
     requires groups { AreGroups groups.old.items }
     requires rows { AreRows (slice_rows rows) }
     ensures groups { AreGroups groups.new.items }
-    ensures weights { OnOk result (HaveRowWeights (weight_in_all (rows_of_groups groups.old.items) (slice_rows rows.entry)) (rows_of_groups groups.new.items)) }
+    ensures weights { OnOk result (HaveRowWeights (sum_in_rows (rows_of_groups groups.old.items) (slice_rows rows.entry)) (rows_of_groups groups.new.items)) }
     ensures unchanged { OnErr result (rows_of_groups groups.new.items ≡ rows_of_groups groups.old.items) }
     ensures too_large { IfErr result (λ fault. fault ≢ AddFault.OutOfMemory
-        → IsUnlawfulSomewhere (weight_in_all (rows_of_groups groups.old.items) (slice_rows rows.entry))) }
+        → IsUnlawfulSomewhere (sum_in_rows (rows_of_groups groups.old.items) (slice_rows rows.entry))) }
 {
     let Some((first, _)) = rows.split_first() else {
         return Ok(());
@@ -51,10 +51,10 @@ fn add_rows_from(
     ensures groups { AreGroups groups.new.items }
     ensures before { AreSameBefore place groups.old.items groups.new.items }
     ensures count { OnOk result (place ≤ length groups.new.items) }
-    ensures weights { OnOk result (HaveRowWeights (weight_in_all (rows_of_groups groups.old.items) (slice_rows rows.entry)) (rows_of_groups groups.new.items)) }
+    ensures weights { OnOk result (HaveRowWeights (sum_in_rows (rows_of_groups groups.old.items) (slice_rows rows.entry)) (rows_of_groups groups.new.items)) }
     ensures unchanged { OnErr result (rows_of_groups groups.new.items ≡ rows_of_groups groups.old.items) }
     ensures too_large { IfErr result (λ fault. fault ≢ AddFault.OutOfMemory
-        → IsUnlawfulSomewhere (weight_in_all (rows_of_groups groups.old.items) (slice_rows rows.entry))) }
+        → IsUnlawfulSomewhere (sum_in_rows (rows_of_groups groups.old.items) (slice_rows rows.entry))) }
 {
     if rows.is_empty() {
         return Ok(lengthen(groups, place)?);

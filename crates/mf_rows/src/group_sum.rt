@@ -5,8 +5,8 @@ ghost use Rattle.mf_rows.specs.BandNumbers.{HaveRisingNumbers};
 ghost use Rattle.mf_rows.specs.Bands.{rows_of_bands};
 ghost use Rattle.mf_rows.specs.EdgeRows.{AreRows};
 ghost use Rattle.mf_rows.specs.Groups.{AreGroups, rows_if_any, rows_at_place, rows_of_groups};
-ghost use Rattle.mf_rows.specs.Signs.{signed};
-ghost use Rattle.mf_rows.specs.Sums.{weight_in_all, HaveRowWeights, IsUnlawfulSomewhere};
+ghost use Rattle.mf_rows.specs.Signs.{with_sign};
+ghost use Rattle.mf_rows.specs.Sums.{sum_in_rows, HaveRowWeights, IsUnlawfulSomewhere};
 
 use crate::addend::Addend;
 use crate::band::Band;
@@ -31,9 +31,9 @@ pub(crate) fn sum_of_groups(
     requires right { AreGroups right.now }
     ensures groups { IfOk result (λ sum. AreGroups sum.items) }
     ensures weights { IfOk result (λ sum.
-        HaveRowWeights (weight_in_all (rows_of_groups left.now) (signed sign (rows_of_groups right.now))) (rows_of_groups sum.items)) }
+        HaveRowWeights (sum_in_rows (rows_of_groups left.now) (with_sign sign (rows_of_groups right.now))) (rows_of_groups sum.items)) }
     ensures too_large { IfErr result (λ fault. fault ≢ AddFault.OutOfMemory
-        → IsUnlawfulSomewhere (weight_in_all (rows_of_groups left.now) (signed sign (rows_of_groups right.now)))) }
+        → IsUnlawfulSomewhere (sum_in_rows (rows_of_groups left.now) (with_sign sign (rows_of_groups right.now)))) }
 {
     let count = left.len().max(right.len());
     let mut sum = Vec::new(alloc);
@@ -54,9 +54,9 @@ pub(crate) fn sum_of_two(
     requires left { AreRows (rows_if_any left) }
     requires right { AreRows (rows_if_any right) }
     ensures rows { IfOk result (λ sum. AreRows (rows_at_place sum)) }
-    ensures weights { IfOk result (λ sum. HaveRowWeights (weight_in_all (rows_if_any left.entry) (signed sign (rows_if_any right.entry))) (rows_at_place sum)) }
+    ensures weights { IfOk result (λ sum. HaveRowWeights (sum_in_rows (rows_if_any left.entry) (with_sign sign (rows_if_any right.entry))) (rows_at_place sum)) }
     ensures too_large { IfErr result (λ fault. fault ≢ AddFault.OutOfMemory
-        → IsUnlawfulSomewhere (weight_in_all (rows_if_any left.entry) (signed sign (rows_if_any right.entry)))) }
+        → IsUnlawfulSomewhere (sum_in_rows (rows_if_any left.entry) (with_sign sign (rows_if_any right.entry)))) }
 {
     match (left, sign) {
         (None, Sign::Plus) => Ok(share_group(right)?),
@@ -73,9 +73,9 @@ pub(crate) fn sum_with(
     requires group { AreRows (rows_if_any group) }
     requires added { IsAddedFrom (pos 0) added }
     ensures rows { IfOk result (λ sum. AreRows (rows_at_place sum)) }
-    ensures weights { IfOk result (λ sum. HaveRowWeights (weight_in_all (rows_if_any group.entry) (addend_rows added.entry)) (rows_at_place sum)) }
+    ensures weights { IfOk result (λ sum. HaveRowWeights (sum_in_rows (rows_if_any group.entry) (addend_rows added.entry)) (rows_at_place sum)) }
     ensures too_large { IfErr result (λ fault. fault ≢ AddFault.OutOfMemory
-        → IsUnlawfulSomewhere (weight_in_all (rows_if_any group.entry) (addend_rows added.entry))) }
+        → IsUnlawfulSomewhere (sum_in_rows (rows_if_any group.entry) (addend_rows added.entry))) }
 {
     if added.is_empty() {
         return Ok(share_group(group)?);

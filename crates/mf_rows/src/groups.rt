@@ -4,7 +4,7 @@ ghost use Rattle.mf_geom.specs.Coordinates.{least_coordinate, last_in_field};
 ghost use Rattle.mf_rows.specs.BandNumbers.{HaveRisingNumbers};
 ghost use Rattle.mf_rows.specs.Bands.{edge_rows, rows_of_bands, slice_rows, HasRow, HasNoRow};
 ghost use Rattle.mf_rows.specs.EdgeRows.{AreRows};
-ghost use Rattle.mf_rows.specs.Groups.{AreGroups, IsPlaceOfRow, IsSplitAtPlace, rows_if_any, rows_at_place, rows_of_groups};
+ghost use Rattle.mf_rows.specs.Groups.{AreGroups, IsPlaceOfRow, AreSplitAtPlace, rows_if_any, rows_at_place, rows_of_groups};
 
 use crate::band::Band;
 use crate::bands::{find_row_in, push_shared, split_bands, split_rows};
@@ -130,7 +130,7 @@ pub(crate) fn groups_of(
 pub(crate) fn split_at_place(bands: &[Arc<Band>], place: usize) -> (&[Arc<Band>], &[Arc<Band>])
     requires rising { HaveRisingNumbers bands.now }
     requires place { place < GROUP_COUNT }
-    ensures rows { IsSplitAtPlace place (rows_of_bands bands.now) (rows_of_bands result.0.now) (rows_of_bands result.1.now) }
+    ensures rows { AreSplitAtPlace place (rows_of_bands bands.now) (rows_of_bands result.0.now) (rows_of_bands result.1.now) }
     ensures own { HaveRisingNumbers result.0.now }
     ensures others { HaveRisingNumbers result.1.now }
 {
@@ -141,7 +141,7 @@ pub(crate) fn split_at_place(bands: &[Arc<Band>], place: usize) -> (&[Arc<Band>]
 pub(crate) fn split_rows_at_place(rows: RowSlice<'_>, place: usize) -> (RowSlice<'_>, RowSlice<'_>)
     requires rows { AreRows (slice_rows rows) }
     requires place { place < GROUP_COUNT }
-    ensures { IsSplitAtPlace place (slice_rows rows.entry) (slice_rows result.0) (slice_rows result.1) }
+    ensures { AreSplitAtPlace place (slice_rows rows.entry) (slice_rows result.0) (slice_rows result.1) }
 {
     split_rows(rows, BANDS_IN_GROUP * (place as i32 + 1) - 1)
 }

@@ -9,8 +9,8 @@ ghost use Rattle.mf_rows.specs.EdgeCounts.{edge_count};
 ghost use Rattle.mf_rows.specs.Groups.{AreGroups, rows_of_groups};
 ghost use Rattle.mf_rows.specs.PixelsOfRows.{among_rows};
 ghost use Rattle.mf_rows.specs.Runs.{runs_of};
-ghost use Rattle.mf_rows.specs.Signs.{signed};
-ghost use Rattle.mf_rows.specs.Sums.{weight_in_all, HaveRowWeights, IsUnlawfulSomewhere};
+ghost use Rattle.mf_rows.specs.Signs.{with_sign};
+ghost use Rattle.mf_rows.specs.Sums.{sum_in_rows, HaveRowWeights, IsUnlawfulSomewhere};
 
 use crate::both_rows::BothRows;
 use crate::bounds::{Box4, Pixels, bounds_of};
@@ -62,7 +62,7 @@ impl Model for Pile {
 
 impl Pile {
     /// No rows. Allocates nothing.
-    #[tactic(auto, using(crate::proofs::PilesLemmas::none_is_piled, crate::proofs::PilesLemmas::none_piled))]
+    #[tactic(auto, using(crate::proofs::PilesLemmas::none_is_piled, crate::proofs::PilesLemmas::pile_none))]
     pub(crate) fn blank(alloc: Global) -> Pile
         ensures { result ≡ [] }
     {
@@ -75,7 +75,7 @@ impl Pile {
     }
 
     /// The rows of these groups.
-    #[tactic(auto, using(crate::proofs::PilesLemmas::alone_is_piled, crate::proofs::PilesLemmas::piled_alone))]
+    #[tactic(auto, using(crate::proofs::PilesLemmas::alone_is_piled, crate::proofs::PilesLemmas::pile_alone))]
     pub(crate) fn of(alloc: Global, groups: Vec<Option<Arc<Group>>>) -> Pile
         requires { AreGroups groups.items }
         ensures { result ≡ rows_of_groups groups.items }
@@ -90,7 +90,7 @@ impl Pile {
     }
 
     /// The same rows, which are shared.
-    #[tactic(auto, using(crate::proofs::PilesLemmas::same_piled))]
+    #[tactic(auto, using(crate::proofs::PilesLemmas::same_pile))]
     pub(crate) fn copy(&self, alloc: Global) -> Result<Pile, OutOfMemory>
         ensures { IfOk result (λ copy. copy ≡ self.now) }
     {
@@ -187,10 +187,10 @@ impl Pile {
     /// Adds the rows of another picture, or subtracts them. Refused with `WeightTooLarge` where a weight would exceed 32767 in absolute
     /// value, and with `OutOfMemory` where an allocation fails; a refusal leaves the rows as they were.
     pub(crate) fn add(&mut self, alloc: Global, other: &Pile, sign: Sign) -> Result<(), AddFault>
-        ensures weights { OnOk result (HaveRowWeights (weight_in_all self.old (signed sign other.now)) self.new) }
+        ensures weights { OnOk result (HaveRowWeights (sum_in_rows self.old (with_sign sign other.now)) self.new) }
         ensures unchanged { OnErr result (self.new ≡ self.old) }
         ensures rows { AreRows self.new }
-        ensures too_large { IfErr result (λ fault. fault ≢ AddFault.OutOfMemory → IsUnlawfulSomewhere (weight_in_all self.old (signed sign other.now))) }
+        ensures too_large { IfErr result (λ fault. fault ≢ AddFault.OutOfMemory → IsUnlawfulSomewhere (sum_in_rows self.old (with_sign sign other.now))) }
     {
         let groups = self.whole(alloc)?;
         let others = other.whole(alloc)?;
@@ -209,10 +209,10 @@ impl Pile {
     /// the older rows.
     pub(crate) fn add_rows(&mut self, alloc: Global, rows: RowSlice<'_>) -> Result<(), AddFault>
         requires { AreRows (slice_rows rows) }
-        ensures weights { OnOk result (HaveRowWeights (weight_in_all self.old (slice_rows rows.entry)) self.new) }
+        ensures weights { OnOk result (HaveRowWeights (sum_in_rows self.old (slice_rows rows.entry)) self.new) }
         ensures unchanged { OnErr result (picture_of_rows self.new ≡ picture_of_rows self.old) }
         ensures rows { AreRows self.new }
-        ensures too_large { IfErr result (λ fault. fault ≢ AddFault.OutOfMemory → IsUnlawfulSomewhere (weight_in_all self.old (slice_rows rows.entry))) }
+        ensures too_large { IfErr result (λ fault. fault ≢ AddFault.OutOfMemory → IsUnlawfulSomewhere (sum_in_rows self.old (slice_rows rows.entry))) }
     {
         let reach = self.reach + rows.reach();
         let edges = rows.all_edge_count();
@@ -233,10 +233,10 @@ impl Pile {
     /// Does the same, after the newest contours are added to the older rows, and finds anew which rows are kept apart.
     fn add_and_measure(&mut self, alloc: Global, rows: RowSlice<'_>) -> Result<(), AddFault>
         requires { AreRows (slice_rows rows) }
-        ensures weights { OnOk result (HaveRowWeights (weight_in_all self.old (slice_rows rows.entry)) self.new) }
+        ensures weights { OnOk result (HaveRowWeights (sum_in_rows self.old (slice_rows rows.entry)) self.new) }
         ensures unchanged { OnErr result (picture_of_rows self.new ≡ picture_of_rows self.old) }
         ensures rows { AreRows self.new }
-        ensures too_large { IfErr result (λ fault. fault ≢ AddFault.OutOfMemory → IsUnlawfulSomewhere (weight_in_all self.old (slice_rows rows.entry))) }
+        ensures too_large { IfErr result (λ fault. fault ≢ AddFault.OutOfMemory → IsUnlawfulSomewhere (sum_in_rows self.old (slice_rows rows.entry))) }
     {
         take_up(alloc, &mut self.older, &mut self.groups)?;
         add_rows(alloc, &mut self.older, rows)?;
@@ -261,7 +261,7 @@ fn keep_apart(
     requires { AreGroups groups.items }
     ensures older { AreGroups result.0.items }
     ensures groups { AreGroups result.1.items }
-    ensures weights { HaveRowWeights (weight_in_all (rows_of_groups result.0.items) (rows_of_groups result.1.items)) (rows_of_groups groups.items) }
+    ensures weights { HaveRowWeights (sum_in_rows (rows_of_groups result.0.items) (rows_of_groups result.1.items)) (rows_of_groups groups.items) }
 {
     if are_long {
         return (groups, Vec::new(alloc));

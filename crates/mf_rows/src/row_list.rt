@@ -80,7 +80,7 @@ impl Model for RowList {
 impl RowList {
     ghost use Rattle.mf_rows.specs.Bands.{edge_row};
     ghost use Rattle.mf_rows.specs.Merging.{IsRowAt, HasNewRow, IsUnlawfulInRow};
-    ghost use Rattle.mf_rows.specs.Sums.{weight_in_all};
+    ghost use Rattle.mf_rows.specs.Sums.{sum_in_rows};
 
     /// No rows. Allocates nothing.
     pub(crate) fn new(alloc: Global) -> RowList
@@ -171,9 +171,9 @@ impl RowList {
     ) -> Result<(), AddFault>
         requires left { IsRowAt right.now.y (edge_row left.now ∷ []) }
         requires right { IsRowAt right.now.y (edge_row right.now ∷ []) }
-        ensures pushed { OnOk result (HasNewRow (weight_in_all (edge_row left.now ∷ []) (edge_row right.now ∷ [])) right.now.y self.old self.new) }
+        ensures pushed { OnOk result (HasNewRow (sum_in_rows (edge_row left.now ∷ []) (edge_row right.now ∷ [])) right.now.y self.old self.new) }
         ensures too_large { IfErr result (λ fault. fault ≢ AddFault.OutOfMemory
-            → IsUnlawfulInRow (weight_in_all (edge_row left.now ∷ []) (edge_row right.now ∷ [])) right.now.y) }
+            → IsUnlawfulInRow (sum_in_rows (edge_row left.now ∷ []) (edge_row right.now ∷ [])) right.now.y) }
     {
         if left.edges.len() + right.edges.len() > MANY_EDGES {
             return self.push_long_sum(alloc, left, right);
@@ -202,9 +202,9 @@ impl RowList {
     ) -> Result<(), AddFault>
         requires left { IsRowAt right.now.y (edge_row left.now ∷ []) }
         requires right { IsRowAt right.now.y (edge_row right.now ∷ []) }
-        ensures pushed { OnOk result (HasNewRow (weight_in_all (edge_row left.now ∷ []) (edge_row right.now ∷ [])) right.now.y self.old self.new) }
+        ensures pushed { OnOk result (HasNewRow (sum_in_rows (edge_row left.now ∷ []) (edge_row right.now ∷ [])) right.now.y self.old self.new) }
         ensures too_large { IfErr result (λ fault. fault ≢ AddFault.OutOfMemory
-            → IsUnlawfulInRow (weight_in_all (edge_row left.now ∷ []) (edge_row right.now ∷ [])) right.now.y) }
+            → IsUnlawfulInRow (sum_in_rows (edge_row left.now ∷ []) (edge_row right.now ∷ [])) right.now.y) }
     {
         let mut edges = Vec::new(alloc);
         push_sum_of_edges(&mut edges, left.edges, right.edges)?;

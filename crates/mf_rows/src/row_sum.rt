@@ -3,7 +3,7 @@ ghost use Rattle.std.specs.Prelude.{◌≡◌, ◌≢◌, ◌∷◌, ◌++◌, [
 ghost use Rattle.mf_rows.specs.Bands.{edge_row, slice_rows};
 ghost use Rattle.mf_rows.specs.EdgeRows.{AreRows};
 ghost use Rattle.mf_rows.specs.Merging.{IsRowAt, row_found, HasNewRow, IsUnlawfulInRow};
-ghost use Rattle.mf_rows.specs.Sums.{weight_in_all, HaveRowWeights, StayWithin, IsUnlawfulSomewhere};
+ghost use Rattle.mf_rows.specs.Sums.{sum_in_rows, HaveRowWeights, StayWithin, IsUnlawfulSomewhere};
 
 use crate::bands::BAND_HEIGHT;
 use crate::fault::AddFault;
@@ -23,10 +23,10 @@ pub(crate) fn sum_of_rows(
     requires left { AreRows (slice_rows left) }
     requires right { AreRows (slice_rows right) }
     ensures rows { IfOk result (λ sum. AreRows sum) }
-    ensures weights { IfOk result (λ sum. HaveRowWeights (weight_in_all (slice_rows left.entry) (slice_rows right.entry)) sum) }
+    ensures weights { IfOk result (λ sum. HaveRowWeights (sum_in_rows (slice_rows left.entry) (slice_rows right.entry)) sum) }
     ensures within { IfOk result (λ sum. StayWithin (slice_rows left.entry) (slice_rows right.entry) sum) }
     ensures too_large { IfErr result (λ fault. fault ≢ AddFault.OutOfMemory
-        → IsUnlawfulSomewhere (weight_in_all (slice_rows left.entry) (slice_rows right.entry))) }
+        → IsUnlawfulSomewhere (sum_in_rows (slice_rows left.entry) (slice_rows right.entry))) }
 {
     // No band has more rows than its height. The rows of what is added often share edges, and those of a sum seldom do. So most
     // sums need no more room.
@@ -68,9 +68,9 @@ fn push_row_sum(
 ) -> Result<(), AddFault>
     requires left { IsRowAt right.y (row_found left) }
     requires right { IsRowAt right.y (edge_row right ∷ []) }
-    ensures pushed { OnOk result (HasNewRow (weight_in_all (row_found left.entry) (edge_row right.entry ∷ [])) right.entry.y sum.old sum.new) }
+    ensures pushed { OnOk result (HasNewRow (sum_in_rows (row_found left.entry) (edge_row right.entry ∷ [])) right.entry.y sum.old sum.new) }
     ensures too_large { IfErr result (λ fault. fault ≢ AddFault.OutOfMemory
-        → IsUnlawfulInRow (weight_in_all (row_found left.entry) (edge_row right.entry ∷ [])) right.entry.y) }
+        → IsUnlawfulInRow (sum_in_rows (row_found left.entry) (edge_row right.entry ∷ [])) right.entry.y) }
 {
     match left {
         Some(left) => sum.push_sum(alloc, &left, &right),

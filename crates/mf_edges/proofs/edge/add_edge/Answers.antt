@@ -29,7 +29,7 @@ returns-in_ok-insert-in-Err-clause-sorted c =
     let by_column = c.in-Err.ensures.position (λ edge. edge.x) (answers_always _ _ _ (λ f a r g called. search rules)) in
     let parted = subst (λ p. IsBinarySearchResult (λ (edge : Edge). int_cmp edge.x p) c.deref.result.now (Err c.in-Err.at)) x by_column in
     rw (c.in_ok-insert-in-Err.ensures.items, x, w) (inserted_sorted c.args.edges.now.items c.args.x c.args.weight c.in-Err.at c.requires.edges
-    (search rules) c.requires.left c.requires.right (λ zero_is. absurd (omega (arith, ints, zero_is, c.if-weight-ne0.true)))
+    (search rules) c.requires.column (λ zero_is. absurd (omega (arith, ints, zero_is, c.if-weight-ne0.true)))
     (rw c.deref.ensures.value at parted))
 
 pub returns-in_ok-insert-in-Err-clause-weights : goal.returns-in_ok-insert-in-Err-clause-weights

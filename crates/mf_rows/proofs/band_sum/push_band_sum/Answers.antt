@@ -5,7 +5,7 @@ use Rattle.mf_rows.specs.FieldBands.{IsOfBand}
 use Rattle.mf_rows.proofs.BandNumbersLemmas.{rise-append, rise-finished}
 use Rattle.mf_rows.proofs.BandSumsLemmas.{has_sum-right}
 use Rattle.mf_rows.proofs.FieldBandsLemmas.{rows_of_only, sum_is_of_band}
-use Rattle.mf_rows.proofs.SignsLemmas.{signed_all}
+use Rattle.mf_rows.proofs.SignsLemmas.{with_sign_all}
 use Rattle.mf_rows.proofs.band_sum.push_band_sum.Goals as goal
 
 pub returns-in-None-Some-Plus-clause-pushed : goal.returns-in-None-Some-Plus-clause-pushed
@@ -18,7 +18,7 @@ pub close_band-requires : goal.close_band-requires
 close_band-requires c =
     let n = c.args.part.number in
     let fits : to_z w32 (of_z w32 n) ≡ n = omega (arith, ints) in
-    rw fits (sum_is_of_band n _ _ _ (rows_of_only n _ c.requires.number) (signed_all (IsOfBand n) c.args.part.sign _ c.requires.part.of_band)
+    rw fits (sum_is_of_band n _ _ _ (rows_of_only n _ c.requires.number) (with_sign_all (IsOfBand n) c.args.part.sign _ c.requires.part.of_band)
     c.in_ok-rows.ensures.within)
 
 pub returns-clause-rising : goal.returns-clause-rising

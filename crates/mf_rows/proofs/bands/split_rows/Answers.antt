@@ -9,6 +9,6 @@ returns c =
     let after = others_below c.args.number _ c.split_above.ensures.others in
     record {
       all = c.split_above.ensures.all;
-      up_to = subst (λ y. AreAbove y (slice_rows c.split_above.result.0)) (omega (arith, ints, c.requires)) c.split_above.ensures.above;
-      after = after (omega (arith, ints, c.requires));
+      above = subst (λ y. AreAbove y (slice_rows c.split_above.result.0)) (omega (arith, ints, c.requires)) c.split_above.ensures.above;
+      below = after (omega (arith, ints, c.requires));
     }

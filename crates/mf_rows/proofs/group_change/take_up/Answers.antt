@@ -1,9 +1,10 @@
+use Rattle.std.proofs.lemmas.Int.{ints}
 use Rattle.std.proofs.Common.{arith}
-use Rattle.mf_rows.proofs.SettledGroups.{settled_more, settled_none}
+use Rattle.mf_rows.proofs.SettledGroups.{settled_more}
 use Rattle.mf_rows.proofs.group_change.take_up.Goals as goal
 
 pub loop-place-init : goal.loop-place-init
-loop-place-init c = grind (arith, settled_none)
+loop-place-init c = grind (arith, ints)
 
 pub loop-place-preserved : goal.loop-place-preserved
 loop-place-preserved c =

@@ -10,8 +10,8 @@ returns-clause-rows c =
     let split = rows_split_at c.split_bands.ensures in
     record {
       all = split.all;
-      above = subst (λ y. AreAbove y (rows_of_bands c.split_bands.result.0.now)) (omega (arith, ints)) split.up_to;
-      below = subst (λ y. AreBelow y (rows_of_bands c.split_bands.result.1.now)) (omega (arith, ints)) split.after;
+      above = subst (λ y. AreAbove y (rows_of_bands c.split_bands.result.0.now)) (omega (arith, ints)) split.above;
+      below = subst (λ y. AreBelow y (rows_of_bands c.split_bands.result.1.now)) (omega (arith, ints)) split.below;
     }
 
 pub returns-clause-own : goal.returns-clause-own

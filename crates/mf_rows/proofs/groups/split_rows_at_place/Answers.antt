@@ -8,6 +8,6 @@ returns c =
     let split = c.split_rows.ensures in
     record {
       all = split.all;
-      above = subst (λ y. AreAbove y (slice_rows c.split_rows.result.0)) (omega (arith, ints)) split.up_to;
-      below = subst (λ y. AreBelow y (slice_rows c.split_rows.result.1)) (omega (arith, ints)) split.after;
+      above = subst (λ y. AreAbove y (slice_rows c.split_rows.result.0)) (omega (arith, ints)) split.above;
+      below = subst (λ y. AreBelow y (slice_rows c.split_rows.result.1)) (omega (arith, ints)) split.below;
     }

@@ -1,3 +1,4 @@
+use Rattle.mf_edges.specs.Edges.{weight_in}
 use Rattle.std.proofs.Common.{◌≡◌, ◌++◌, to_z, of_z, w32, sym, ap, ◌∙◌, arith}
 use Rattle.std.proofs.lemmas.Int.{ints}
 use Rattle.std.proofs.lemmas.List.{drop_all}
@@ -5,13 +6,14 @@ use Rattle.std.proofs.lemmas.List.Elements.{All-head}
 use Rattle.mf_rows.specs.Bands.{edge_row}
 use Rattle.mf_rows.specs.BlankRows.{unless_blank}
 use Rattle.mf_rows.specs.NewEdges.{new_edges}
-use Rattle.mf_edges.specs.RowChanges.{AreChanged, EdgesAllowChange}
-use Rattle.mf_rows.proofs.RowChangesLemmas.{next_rows, same_edges, changed-none, made_none, change_more, change_all}
+use Rattle.mf_edges.specs.RowChanges.{AreChanged, EdgesAllowChange, image_in}
+use Rattle.mf_rows.proofs.RowChangesLemmas.{next_rows, same_edges, made_none, change_more, change_all, image_of_blank}
 use Rattle.mf_rows.proofs.row_change.changed_rows.Goals.{then-ne+in_ok-changed_edges+in_ok-image, else-ne}
 use Rattle.mf_rows.proofs.row_change.changed_rows.Goals as goal
 
 pub loop-row-init : goal.loop-row-init
-loop-row-init c = grind (arith, ints, made_none, changed-none)
+unfolding weight_in image_in
+loop-row-init c = grind (arith, ints, made_none, sym, image_of_blank)
 
 pub changed_edges-requires : goal.changed_edges-requires
 changed_edges-requires c =

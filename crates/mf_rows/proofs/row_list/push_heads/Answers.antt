@@ -1,10 +1,10 @@
 use Rattle.std.proofs.Common.{◌≡◌, pos, ◌+ℤ◌, ◌-ℤ◌, ◌≤ℤ◌, to_z, to_z-of_z, w32, arith}
 use Rattle.std.proofs.lemmas.Int.{ints}
-use Rattle.mf_rows.proofs.StripCopies.{heads_none, heads_more, heads_all, next_place}
+use Rattle.mf_rows.proofs.StripCopies.{heads_more, heads_all, next_place, copies_none}
 use Rattle.mf_rows.proofs.row_list.push_heads.Goals as goal
 
 pub loop-down-init : goal.loop-down-init
-loop-down-init c = record { copies = heads_none _ _; least = omega (arith, ints); greatest = omega (arith, ints, c.requires.order) }
+loop-down-init c = record { copies = grind (arith, ints, copies_none); least = omega (arith, ints); greatest = omega (arith, ints, c.requires.order) }
 
 pub returns-in_err-push-clause-heads : goal.returns-in_err-push-clause-heads
 returns-in_err-push-clause-heads c = λ edges row heads placed reached.

@@ -1,4 +1,4 @@
-use Rattle.mf_rows.proofs.PilesLemmas.{piled_rows, rows_of_pile}
+use Rattle.mf_rows.proofs.PilesLemmas.{rows_in_pile, rows_of_pile}
 use Rattle.mf_rows.proofs.pile.Pile.bounds.Goals as goal
 
 pub bounds_of-requires : goal.bounds_of-requires
@@ -8,4 +8,4 @@ pub returns-clause-bounds : goal.returns-clause-bounds
 returns-clause-bounds c = rw (← c.self.view_is) (rw (c.deref.ensures.value, c.deref-2.ensures.value) at c.bounds_of.ensures)
 
 pub returns-clause-rows : goal.returns-clause-rows
-returns-clause-rows c = rw c.self.view_is at (piled_rows _ _ _ c.self.invariant)
+returns-clause-rows c = rw c.self.view_is at (rows_in_pile _ _ _ c.self.invariant)

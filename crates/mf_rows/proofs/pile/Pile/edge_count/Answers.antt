@@ -1,5 +1,5 @@
 use Rattle.mf_rows.specs.Groups.{rows_of_groups}
-use Rattle.mf_rows.proofs.PilesLemmas.{piled_rows, rows_of_pile}
+use Rattle.mf_rows.proofs.PilesLemmas.{rows_in_pile, rows_of_pile}
 use Rattle.mf_rows.proofs.EdgeCountsLemmas.{IsCountOfBoth, count-of_both}
 use Rattle.mf_rows.proofs.pile.Pile.edge_count.Goals as goal
 
@@ -16,4 +16,4 @@ pub returns-clause-edges : goal.returns-clause-edges
 returns-clause-edges c = rw (← c.self.view_is) (both c).edges
 
 pub returns-clause-rows : goal.returns-clause-rows
-returns-clause-rows c = rw c.self.view_is at (piled_rows _ _ _ c.self.invariant)
+returns-clause-rows c = rw c.self.view_is at (rows_in_pile _ _ _ c.self.invariant)

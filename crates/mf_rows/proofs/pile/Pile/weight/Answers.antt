@@ -2,7 +2,7 @@ use Rattle.std.proofs.Common.{to_z-of_z, arith}
 use Rattle.std.proofs.lemmas.Int.{ints}
 use Rattle.mf_rows.specs.Groups.{rows_of_groups}
 use Rattle.mf_rows.proofs.BothRowsLemmas.{weight_in_rows-both}
-use Rattle.mf_rows.proofs.PilesLemmas.{piled_rows}
+use Rattle.mf_rows.proofs.PilesLemmas.{rows_in_pile}
 use Rattle.mf_rows.proofs.pile.Pile.weight.Goals as goal
 
 pub returns-clause-weight : goal.returns-clause-weight
@@ -15,4 +15,4 @@ returns-clause-weight c =
     rw (← c.self.view_is) (omega (arith, ints))
 
 pub returns-clause-rows : goal.returns-clause-rows
-returns-clause-rows c = rw c.self.view_is at (piled_rows _ _ _ c.self.invariant)
+returns-clause-rows c = rw c.self.view_is at (rows_in_pile _ _ _ c.self.invariant)

@@ -1,7 +1,9 @@
+use Rattle.std.proofs.lemmas.List.Elements.{All-weaker}
+use Rattle.std.proofs.lemmas.List.{take_all}
 use Rattle.std.proofs.Common.{◌≤◌, sym, subst, arith}
 use Rattle.mf_rows.specs.Copies.{LiesBetween}
 use Rattle.mf_rows.specs.RowLists.{IsThere}
-use Rattle.mf_rows.proofs.CopiesLemmas.{head_at, within_more, within_all}
+use Rattle.mf_rows.proofs.CopiesLemmas.{head_at, within_more, within_wider}
 use Rattle.mf_rows.proofs.row_list.copies.edges_of.Goals.{in-Among, in_default}
 use Rattle.mf_rows.proofs.row_list.copies.edges_of.Goals as goal
 
@@ -44,6 +46,4 @@ pub returns-clause-range : goal.returns-clause-range
 returns-clause-range c = grind (arith)
 
 pub returns-clause-within : goal.returns-clause-within
-returns-clause-within c =
-    within_all c.loop-head.first c.loop-head.last c.max.result (omega (arith, c.max.ensures))
-    c.args.rows.heads.now c.loop-head.head-index c.loop-head-test.false c.loop-head.invariant.within
+returns-clause-within c = grind (arith, All-weaker, within_wider, take_all)
