@@ -22,16 +22,12 @@ quarters_to left_up = pos 3
 abbrev corner : Bool → Bool → Quadrant
 corner right above = if right then (if above then right_up else right_down) else (if above then left_up else left_down)
 
--- 0 for what is beyond, and 1 for what has been reached
-abbrev reached : Bool → ℤ
-reached beyond = if beyond then pos 0 else pos 1
-
-quarter-upright : (right above above' : Bool) → quarter (corner right above) (corner right above')
-    ≡ pos 4 *ℤ (reached right *ℤ (reached above' -ℤ reached above)) +ℤ (quarters_to (corner right above') -ℤ quarters_to (corner right above))
-quarter-upright right above above' = grind (arith, ints)
+-- the unit step from its test: 0 where that answers true, and else 1
+abbrev step_of_test : Bool → ℤ
+step_of_test beyond = if beyond then pos 0 else pos 1
 
 quarter-level : (right right' above : Bool) → quarter (corner right above) (corner right' above)
-    ≡ pos 4 *ℤ (reached right *ℤ (reached above -ℤ reached above)) +ℤ (quarters_to (corner right' above) -ℤ quarters_to (corner right above))
+    ≡ pos 4 *ℤ (step_of_test right *ℤ (step_of_test above -ℤ step_of_test above)) +ℤ (quarters_to (corner right' above) -ℤ quarters_to (corner right above))
 quarter-level right right' above = grind (arith, ints)
 
 -- a segment that is parallel to an axis leads to the same quadrant or to a neighbouring one, so its quarter turns are the
@@ -42,7 +38,7 @@ unfolding quarter_along crossing unit_step quadrant IsRectilinear across up
 quarter_along-crossing x y e (inl level) =
     let same_height : e.to.y ≡ e.from.y = let rise = level.1 in omega (arith, ints) in
     rw same_height (quarter-level (int_lt x e.from.x) (int_lt x e.to.x) (int_lt y e.from.y))
-quarter_along-crossing x y e (inr upright) = grind (arith, ints, quarter-upright)
+quarter_along-crossing x y e (inr upright) = grind (arith, ints)
 
 -- round a cycle, the differences of the quadrants add up to 0
 pub quarters-crossings : (ps : List Point) (x y : ℤ) → IsRectilinearCycle ps

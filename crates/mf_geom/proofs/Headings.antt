@@ -1,5 +1,5 @@
 -- The turns of a path, from the headings of its segments.
-use Rattle.std.proofs.Common.{◌≡◌, ◌≢◌, ◌⊎◌, ℕ, zero, suc, ◌*◌, ◌<◌, Bool, ℤ, pos, negsuc, ◌+ℤ◌, ◌-ℤ◌, ◌*ℤ◌, neg_ℤ}
+use Rattle.std.proofs.Common.{◌≡◌, ◌≢◌, ◌⊎◌, ℕ, zero, suc, ◌*◌, ◌<◌, Bool, ℤ, pos, negsuc, ◌+ℤ◌, ◌-ℤ◌, ◌*ℤ◌}
 use Rattle.std.proofs.Common.{int_lt, int_div, ◌<ℤ◌, if◌then◌else◌, List, length, refl, sym, ◌∙◌, ap, inl, inr, arith}
 use Rattle.std.specs.Int.{int_signum}
 use Rattle.std.proofs.lemmas.Int.{ints}
@@ -17,9 +17,6 @@ use Rattle.mf_geom.proofs.Sums.{next_place-below, sum_below-next_place, sum_belo
 abbrev side : Bool → ℤ
 side forward = if forward then pos 1 else negsuc 0
 
-negative-from_signum : (a : ℤ) → int_signum a ≡ negsuc 0 → a <ℤ pos 0
-negative-from_signum a negative = grind (arith, ints)
-
 suc-mul-suc : (m n : ℕ) → 0 < suc m * suc n
 suc-mul-suc m n = mul-pos (omega arith) (omega arith)
 
@@ -31,9 +28,6 @@ signum-product (pos (suc m)) (pos (suc n)) a_apart b_apart = let positive = suc-
 signum-product (pos (suc m)) (negsuc n) a_apart b_apart = let positive = suc-mul-suc m n in grind (arith, ints)
 signum-product (negsuc m) (pos (suc n)) a_apart b_apart = let positive = suc-mul-suc m n in grind (arith, ints)
 signum-product (negsuc m) (negsuc n) a_apart b_apart = let positive = suc-mul-suc m n in grind (arith, ints)
-
-signum-neg : (a : ℤ) → int_signum (neg_ℤ a) ≡ neg_ℤ (int_signum a)
-signum-neg a = grind (arith, ints)
 
 -- the heading of a segment that leads right or left, in quarter turns from the right
 abbrev level_heading : Bool → ℤ
@@ -47,9 +41,6 @@ upright_heading upwards = if upwards then pos 1 else pos 3
 abbrev heading : ℤ → ℤ → ℤ
 heading a b = if int_lt (pos 0) a then pos 0 else (if int_lt a (pos 0) then pos 2 else upright_heading (int_lt (pos 0) b))
 
-heading-level : (a b : ℤ) → a ≢ pos 0 → heading a b ≡ level_heading (int_lt (pos 0) a)
-heading-level a b apart = grind (arith, ints)
-
 -- the whole turns to add to a difference of headings to get the turn: 1 from down to right, -1 from right to down, else
 -- 0
 abbrev jump : ℤ → ℤ
@@ -59,36 +50,23 @@ jump d = if int_lt d (negsuc 1) then pos 1 else (if int_lt (pos 2) d then negsuc
 abbrev bend : ℤ → ℤ
 bend d = pos 4 *ℤ jump d +ℤ d
 
-bend-level-upright : (p q : Bool) → side p *ℤ side q ≡ bend (upright_heading q -ℤ level_heading p)
-bend-level-upright p q = grind (arith, ints)
-
-bend-upright-level : (p q : Bool) → neg_ℤ (side p *ℤ side q) ≡ bend (level_heading q -ℤ upright_heading p)
-bend-upright-level p q = grind (arith, ints)
-
-bend-level : (p q : Bool) → side p *ℤ side q ≢ negsuc 0 → pos 0 ≡ bend (level_heading q -ℤ level_heading p)
-bend-level p q onward = grind (arith, ints)
-
-bend-upright : (p q : Bool) → side p *ℤ side q ≢ negsuc 0 → pos 0 ≡ bend (upright_heading q -ℤ upright_heading p)
-bend-upright p q onward = grind (arith, ints)
-
 -- where a product is not negative, its factors have the same sign
 same_side : (a b : ℤ) → a ≢ pos 0 → b ≢ pos 0 → ((a *ℤ b) <ℤ pos 0 → ⊥) → side (int_lt (pos 0) a) *ℤ side (int_lt (pos 0) b) ≢ negsuc 0
-same_side a b a_apart b_apart onward opposite =
-    onward (negative-from_signum (a *ℤ b) (signum-product a b a_apart b_apart ∙ opposite))
+same_side a b a_apart b_apart onward opposite = grind (arith, ints, signum-product)
 
 cross-level : (a c : ℤ) → a ≢ pos 0 → c ≢ pos 0 → ((a *ℤ c +ℤ pos 0 *ℤ pos 0) <ℤ pos 0 → ⊥)
     → int_signum (a *ℤ pos 0 -ℤ pos 0 *ℤ c) ≡ bend (heading c (pos 0) -ℤ heading a (pos 0))
-cross-level a c a_apart c_apart onward = grind (arith, ints, heading-level, bend-level, same_side)
+cross-level a c a_apart c_apart onward = grind (arith, ints, same_side)
 
 cross-level-upright : (a d : ℤ) → a ≢ pos 0 → d ≢ pos 0 → int_signum (a *ℤ d -ℤ pos 0 *ℤ pos 0) ≡ bend (heading (pos 0) d -ℤ heading a (pos 0))
-cross-level-upright a d a_apart d_apart = grind (arith, ints, signum-product, heading-level, bend-level-upright)
+cross-level-upright a d a_apart d_apart = grind (arith, ints, signum-product)
 
 cross-upright-level : (b c : ℤ) → b ≢ pos 0 → c ≢ pos 0 → int_signum (pos 0 *ℤ pos 0 -ℤ b *ℤ c) ≡ bend (heading c (pos 0) -ℤ heading (pos 0) b)
-cross-upright-level b c b_apart c_apart = grind (arith, ints, signum-neg, signum-product, heading-level, bend-upright-level)
+cross-upright-level b c b_apart c_apart = grind (arith, ints, signum-product)
 
 cross-upright : (b d : ℤ) → b ≢ pos 0 → d ≢ pos 0 → ((pos 0 *ℤ pos 0 +ℤ b *ℤ d) <ℤ pos 0 → ⊥)
     → int_signum (pos 0 *ℤ d -ℤ b *ℤ pos 0) ≡ bend (heading (pos 0) d -ℤ heading (pos 0) b)
-cross-upright b d b_apart d_apart onward = grind (arith, ints, bend-upright, same_side)
+cross-upright b d b_apart d_apart onward = grind (arith, ints, same_side)
 
 -- the turn from one rectilinear segment to the next is the difference of their headings, except for the jump between right
 -- and down

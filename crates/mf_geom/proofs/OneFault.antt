@@ -8,7 +8,7 @@ use Rattle.mf_geom.specs.declared.cycle.CycleFault.TheVariants.{TooFewPoints, To
 use Rattle.mf_geom.specs.declared.point.Point.{Point}
 use Rattle.mf_geom.specs.Faults.{fault_from_turning, first_not_rectilinear, first_out_of_range, first_reversal}
 use Rattle.mf_geom.specs.Faults.{form_fault, is_not_rectilinear, is_out_of_range, is_reversal, turning_fault}
-use Rattle.mf_geom.specs.Lawful.{HasLawfulLength, StaysInRange, IsRectilinearCycle, NeverReverses, IsFault}
+use Rattle.mf_geom.specs.Lawful.{HasLawfulLength, StaysInRange, IsRectilinearCycle, IsFault}
 use Rattle.mf_geom.specs.Path.{segment_into, point_at, segment_at, IsInRange, IsRectilinear, IsReversal}
 use Rattle.mf_geom.proofs.FirstFaults.{IsReversal-from_true, form_fault-few, form_fault-many, form_fault-sized, is_cycle-straight}
 use Rattle.mf_geom.proofs.FirstFaults.{is_not_rectilinear-false, is_not_rectilinear-true, is_out_of_range-false, is_out_of_range-true}
@@ -28,9 +28,6 @@ back ps k = (is_reversal-true _ _, IsReversal-from_true _ _)
 
 -- ---- what is declared is computed
 
-straight_so_far : (ps : List Point) → StaysInRange ps → form_fault ps ≡ option_map NotRectilinear (first_not_rectilinear ps)
-straight_so_far ps range = grind (arith, ints, first_place-none, is_out_of_range-false, form_fault-sized)
-
 pub fault-computed : (ps : List Point) (fault : CycleFault) → IsFault ps fault → option_or (form_fault ps) (turning_fault ps) ≡ Some fault
 unfolding IsFault
 fault-computed ps TooFewPoints few = let is = form_fault-few ps few in rw is refl
@@ -41,7 +38,8 @@ fault-computed ps (PointOutOfRange i) (sized, first) =
     rw (is, found) refl
 fault-computed ps (NotRectilinear i) (range, first) =
     let found : first_not_rectilinear ps ≡ Some i = first_place-first _ _ i (slanted ps) first in
-    let is = straight_so_far ps range in
+    let is : form_fault ps ≡ option_map NotRectilinear (first_not_rectilinear ps) =
+    grind (arith, ints, first_place-none, is_out_of_range-false, form_fault-sized) in
     rw (is, found) refl
 fault-computed ps (Backtracks i) (cycle, first) =
     let found : first_reversal ps ≡ Some i = first_place-first _ _ i (back ps) first in
@@ -54,14 +52,10 @@ fault-computed ps TurningZero (never, zero_turns) = grind (arith, ints, no_form_
 same_fault : (one other : CycleFault) → Some one ≡ Some other → other ≡ one
 same_fault one other is = grind (arith)
 
-declared-turning : (ps : List Point) (fault : CycleFault) → NeverReverses ps → fault_from_turning ps ≡ Some fault → IsFault ps fault
-unfolding IsFault
-declared-turning ps fault never is = grind (arith, ints, cases_Bool, same_fault)
-
 declared-vertices : (ps : List Point) (fault : CycleFault) (found : Option ℕ) → found ≡ first_reversal ps → IsRectilinearCycle ps
     → option_or (option_map Backtracks found) (fault_from_turning ps) ≡ Some fault → IsFault ps fault
 unfolding IsFault
-declared-vertices ps fault None none cycle is = declared-turning ps fault (never_reverses ps cycle (sym none)) is
+declared-vertices ps fault None none cycle is = grind (arith, ints, cases_Bool, same_fault, never_reverses, sym)
 declared-vertices ps fault (Some i) some cycle is =
     let same : fault ≡ Backtracks i = same_fault _ _ is in
     rw same (cycle, first-first_place _ _ i (back ps) (sym some))
