@@ -1,6 +1,6 @@
 //! Rectangles, and their corners.
-ghost use Rattle.std.specs.Prelude.{IfOk, OnOk, ◌≡◌, ◌≤ℤ◌};
-ghost use Rattle.mf_geom.specs.Coordinates.{least_coordinate, greatest_coordinate};
+ghost use Rattle.std.specs.Prelude.{IfOk, OnOk, ◌≡◌};
+ghost use Rattle.mf_geom.specs.Coordinates.{IsCoordinate};
 ghost use Rattle.mf_rows.specs.Corners.{AreCorners};
 
 use mf_base::OutOfMemory;
@@ -113,8 +113,7 @@ pub(super) fn make_corner(x: i32, y: i32, weight: i32) -> Corner
 
 /// Asserts that a corner may have this coordinate.
 fn assert_in_reach(rt: &impl Abort, coordinate: i32)
-    ensures least { least_coordinate ≤ℤ coordinate }
-    ensures greatest { coordinate ≤ℤ greatest_coordinate }
+    ensures { IsCoordinate coordinate }
 {
     assert!(rt; -4095 <= coordinate);
     assert!(rt; coordinate <= 4095);

@@ -2,7 +2,7 @@ use Rattle.std.proofs.Common.{◌≡◌, ◌≤◌, ℤ, pos, negsuc, ◌+ℤ◌
 use Rattle.std.proofs.lemmas.Int.{ints}
 use Rattle.std.proofs.lemmas.List.{length-append}
 use Rattle.std.proofs.lemmas.List.Elements.{All-append, All-from_recursion}
-use Rattle.mf_geom.specs.Coordinates.{least_coordinate, greatest_coordinate}
+use Rattle.mf_geom.specs.Coordinates.{greatest_coordinate, IsCoordinate}
 use Rattle.mf_rows.specs.declared.corner.Corner.{Corner}
 use Rattle.mf_rows.specs.Corners.{AreCorners, IsCorner, added_by, added_by_all}
 use Rattle.mf_rows_tests.proofs.tests.rectangles.push_corners.Goals as goal
@@ -18,28 +18,17 @@ pair_cancels : (a b y h w v : ℤ) → a ≤ℤ greatest_coordinate → b ≤ℤ
 unfolding added_by
 pair_cancels a b y h w v left right opposite = grind (arith, ints)
 
--- a coordinate of a corner
-record IsReached (z : ℤ) : Type 0 where
-  least : least_coordinate ≤ℤ z
-  greatest : z ≤ℤ greatest_coordinate
-
 -- the corners of a rectangle
 abbrev four : ℤ → ℤ → ℤ → ℤ → ℤ → ℤ → List Corner
 four l b r t w v =
     record { x = l; y = t; weight = w } ∷ record { x = l; y = b; weight = v } ∷ record { x = r; y = t; weight = v } ∷ record { x = r; y = b; weight = w } ∷ []
 
-is_corner : (x y w : ℤ) → IsReached x → IsReached y → negsuc 2 ≤ℤ w → w ≤ℤ pos 3 → IsCorner (record { x = x; y = y; weight = w })
-is_corner x y w column row least greatest = record {
-  left = column.least;
-  right = column.greatest;
-  bottom = row.least;
-  top = row.greatest;
-  weight = record { least = least; greatest = greatest };
-}
+is_corner : (x y w : ℤ) → IsCoordinate x → IsCoordinate y → negsuc 2 ≤ℤ w → w ≤ℤ pos 3 → IsCorner (record { x = x; y = y; weight = w })
+is_corner x y w column height least greatest = record { column = column; height = height; weight = record { least = least; greatest = greatest } }
 
 -- they may be added to others
-with_four : (ks : List Corner) (l b r t w v : ℤ) → AreCorners ks → length ks ≤ 8188 → IsReached l → IsReached b
-    → IsReached r → IsReached t → negsuc 2 ≤ℤ w → w ≤ℤ pos 3 → w +ℤ v ≡ pos 0 → AreCorners (ks ++ four l b r t w v)
+with_four : (ks : List Corner) (l b r t w v : ℤ) → AreCorners ks → length ks ≤ 8188 → IsCoordinate l → IsCoordinate b
+    → IsCoordinate r → IsCoordinate t → negsuc 2 ≤ℤ w → w ≤ℤ pos 3 → w +ℤ v ≡ pos 0 → AreCorners (ks ++ four l b r t w v)
 unfolding added_by_all
 with_four ks l b r t w v corners room left bottom right top least greatest opposite = record {
   few = rw length-append (omega (arith, room));
@@ -62,21 +51,9 @@ with_four ks l b r t w v corners room left bottom right top least greatest oppos
 
 pub returns : goal.returns
 returns g c =
-    let left : IsReached (to_z w32 (of_z w32 c.args.rectangle.now.left)) = record {
-      least = omega (arith, ints, c.assert_in_reach.ensures.least);
-      greatest = omega (arith, ints, c.assert_in_reach.ensures.greatest);
-    } in
-    let bottom : IsReached (to_z w32 (of_z w32 c.args.rectangle.now.bottom)) = record {
-      least = omega (arith, ints, c.assert_in_reach-2.ensures.least);
-      greatest = omega (arith, ints, c.assert_in_reach-2.ensures.greatest);
-    } in
-    let right : IsReached (to_z w32 (of_z w32 c.args.rectangle.now.right)) = record {
-      least = omega (arith, ints, c.assert_in_reach-3.ensures.least);
-      greatest = omega (arith, ints, c.assert_in_reach-3.ensures.greatest);
-    } in
-    let top : IsReached (to_z w32 (of_z w32 c.args.rectangle.now.top)) = record {
-      least = omega (arith, ints, c.assert_in_reach-4.ensures.least);
-      greatest = omega (arith, ints, c.assert_in_reach-4.ensures.greatest);
-    } in
+    let left : IsCoordinate (to_z w32 (of_z w32 c.args.rectangle.now.left)) = omega (arith, ints, c.assert_in_reach.ensures) in
+    let bottom : IsCoordinate (to_z w32 (of_z w32 c.args.rectangle.now.bottom)) = omega (arith, ints, c.assert_in_reach-2.ensures) in
+    let right : IsCoordinate (to_z w32 (of_z w32 c.args.rectangle.now.right)) = omega (arith, ints, c.assert_in_reach-3.ensures) in
+    let top : IsCoordinate (to_z w32 (of_z w32 c.args.rectangle.now.top)) = omega (arith, ints, c.assert_in_reach-4.ensures) in
     rw (c.in_ok-extend_from_slice.ensures.items, c.make_corner.ensures, c.make_corner-2.ensures, c.make_corner-3.ensures, c.make_corner-4.ensures)
     (with_four _ _ _ _ _ _ _ c.requires (omega arith) left bottom right top (omega (arith, ints)) (omega (arith, ints)) (omega (arith, ints)))
