@@ -173,9 +173,7 @@ coordinate_fits x in_range = omega (arith, ints)
 
 module _ (s : Stretch) (e : Edge) (stretch : IsStretch s) (edge : IsEdge e) where
   product_size : unsigned_abs (e.x *ℤ s.factor) ≤ greatest_product
-  product_size =
-      rw unsigned_abs-mul
-      (mul-le-mul (size-at_most e.x edge.column.least edge.column.greatest) (size-at_most s.factor (omega (arith, ints, stretch.least)) stretch.greatest))
+  product_size = grind (arith, ints, unsigned_abs-mul, mul-le-mul, size-at_most)
 
   x_is : to_z w32 (of_z w32 e.x) ≡ e.x
   x_is = omega (arith, ints, edge.column)
@@ -189,11 +187,7 @@ module _ (s : Stretch) (e : Edge) (stretch : IsStretch s) (edge : IsEdge e) wher
   module _ (in_range : IsCoordinate (target_of s e.x)) where
     -- the product is small, and so is the sum, so the offset is small, too
     sum_is : to_z w32 (of_z w32 (to_z w32 (of_z w32 e.x) *ℤ to_z w32 (of_z w32 s.factor))) +ℤ to_z w32 (of_z w32 s.offset) ≡ target_of s e.x
-    sum_is =
-        let product_is : to_z w32 (of_z w32 (e.x *ℤ s.factor)) ≡ e.x *ℤ s.factor =
-        to_z-of_z w32 _ (fits_signed_from_abs w32 (e.x *ℤ s.factor) (omega (arith, product_size))) in
-        let offset_is : to_z w32 (of_z w32 s.offset) ≡ s.offset = offset_is-small (e.x *ℤ s.factor) s.offset product_size in_range in
-        rw (x_is, factor_is, product_is, offset_is) refl
+    sum_is = grind (arith, ints, to_z-of_z, fits_signed_from_abs, product_size, offset_is-small, x_is, factor_is)
 
     pub sum_fits : FitsSigned w32 (to_z w32 (of_z w32 (to_z w32 (of_z w32 e.x) *ℤ to_z w32 (of_z w32 s.factor))) +ℤ to_z w32 (of_z w32 s.offset))
     sum_fits = rw sum_is (coordinate_fits (target_of s e.x) in_range)

@@ -1,5 +1,5 @@
 -- Lists whose heights fall, and what a partition point says of a list.
-use Rattle.std.proofs.Common.{◌≡◌, ℕ, zero, suc, ◌+◌, ◌<◌, ◌≤◌, ℤ, ◌≤ℤ◌, ◌<ℤ◌, List, [], ◌∷◌, Bool, true, length, take, drop, get_or, arith}
+use Rattle.std.proofs.Common.{◌≡◌, ℕ, zero, suc, ◌+◌, ◌≤◌, ℤ, ◌≤ℤ◌, ◌<ℤ◌, List, [], ◌∷◌, Bool, true, length, take, drop, get_or, arith}
 use Rattle.std.specs.List.{All, AllWithin}
 use Rattle.std.specs.List.Sorted.{IsPartitionedBy}
 use Rattle.std.proofs.lemmas.Int.{ints}
@@ -23,9 +23,7 @@ IsPartitionedBy-falls f p up (x ∷ xs) falls (suc i) (suc j) d le lt e = IsPart
 
 -- what a partition point says of the elements before it, and of those from it on
 pub All-take_within : {X : Type 0} (P : X → Type 0) (xs : List X) (n : ℕ) → n ≤ length xs → AllWithin P xs 0 n → All P (take n xs)
-All-take_within P xs n le within k d lt =
-    let inside : k < n = omega (arith, length-take-le n xs le) in
-    rw (get_or-take n xs k d inside) (within k d (omega arith) inside)
+All-take_within P xs n le within k d lt = grind (arith, ints, length-take-le, get_or-take)
 
 pub All-drop_within : {X : Type 0} (P : X → Type 0) (xs : List X) (n : ℕ) → AllWithin P xs n (length xs) → All P (drop n xs)
 All-drop_within P xs n within k d lt = rw get_or-drop (within (n + k) d (omega arith) (omega (arith, length-drop n xs)))

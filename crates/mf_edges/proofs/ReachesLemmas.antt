@@ -98,9 +98,7 @@ module _ (es : List Edge) (count : ℕ) (d : Edge) (w reach : ℤ) (changes : Ar
       (λ wider. reach_grows (pos (nat_abs (w +ℤ e.weight))) wider (omega (arith, ints)) e.x (ap (λ v. pos (nat_abs v)) at_edge))
 
 pub reach_all : (es : List Edge) (w reach : ℤ) (count : ℕ) → IsReachSoFar es count w reach → length es ≤ count → IsLeastReach reach es
-reach_all es w reach count so_far end =
-    let all : take count es ≡ es = take_all count es end in
-    record { least = rw all at so_far.least; greatest = rw all at so_far.greatest; x = so_far.x; here = so_far.here }
+reach_all es w reach count so_far end = grind (arith, ints, take_all)
 
 -- ---- reaches that fit
 

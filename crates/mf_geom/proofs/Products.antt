@@ -1,5 +1,5 @@
 -- Products of integers. An integer a is read as `up a - down a`, where one of the two naturals is 0.
-use Rattle.std.proofs.Common.{◌≡◌, ℕ, ◌+◌, ◌*◌, ◌/◌, ◌<◌, ℤ, pos, ◌+ℤ◌, ◌-ℤ◌, ◌*ℤ◌, neg_ℤ, int_div, arith, ap, sym, ◌∙◌}
+use Rattle.std.proofs.Common.{◌≡◌, ℕ, ◌*◌, ◌<◌, ℤ, pos, ◌+ℤ◌, ◌-ℤ◌, ◌*ℤ◌, neg_ℤ, int_div, arith, ap, sym, ◌∙◌}
 use Rattle.std.proofs.lemmas.Int.{ints}
 use borrow.Author.Differences.{up, down, same_in, sum_is_lem, product_is, quot_is}
 use lib.IntN.{*ℤ_comm}
@@ -25,11 +25,4 @@ pub sub-mul : (a b c : ℤ) → (a -ℤ b) *ℤ c ≡ a *ℤ c -ℤ b *ℤ c
 sub-mul a b c = *ℤ_comm (a -ℤ b) c ∙ mul-sub c a b ∙ (λ t. *ℤ_comm c a t -ℤ *ℤ_comm c b t)
 
 pub int_div-mul : (n : ℕ) (a : ℤ) → 0 < n → int_div (pos n *ℤ a) (pos n) ≡ a
-int_div-mul n a positive =
-    let product = product_is (pos n) a in
-    let quotient = quot_is (pos n *ℤ a) n in
-    let ups : up (pos n *ℤ a) ≡ n * up a = omega arith in
-    let downs : down (pos n *ℤ a) ≡ n * down a = omega arith in
-    let up_part = quotient.0 ∙ ap (λ k. k / n) ups ∙ mul-div_cancel_left (up a) positive in
-    let down_part = quotient.1 ∙ ap (λ k. k / n) downs ∙ mul-div_cancel_left (down a) positive in
-    same_in _ _ (λ t. up_part t + sym down_part t)
+int_div-mul n a positive = grind (arith, ints, product_is, quot_is, mul-div_cancel_left, same_in, sym)

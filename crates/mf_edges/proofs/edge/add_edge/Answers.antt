@@ -33,9 +33,7 @@ returns-in_ok-insert-in-Err-clause-sorted c =
     (rw c.deref.ensures.value at parted))
 
 pub returns-in_ok-insert-in-Err-clause-weights : goal.returns-in_ok-insert-in-Err-clause-weights
-returns-in_ok-insert-in-Err-clause-weights c =
-    rw (c.in_ok-insert-in-Err.ensures.items, to_z-of_z c.ranges.x, to_z-of_z c.ranges.weight)
-    (inserted_weights c.args.edges.now.items c.in-Err.at c.args.x c.args.weight)
+returns-in_ok-insert-in-Err-clause-weights c = grind (arith, ints, to_z-of_z, inserted_weights)
 
 pub returns-else-weight-ne0-clause-weights : goal.returns-else-weight-ne0-clause-weights
 returns-else-weight-ne0-clause-weights c = grind (arith, ints, nothing_added)
