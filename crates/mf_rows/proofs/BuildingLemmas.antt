@@ -142,11 +142,7 @@ pub record ArePushed (old : List EdgeRow) (r : Run) (new : List EdgeRow) : Type 
   pub picture : picture_of_rows new ≡ picture_of_rows old ++ dots_of r
 
 by_on_run : {P : Type 0} (r : Run) (x y : ℤ) → (IsOnRun r x y → P) → ((IsOnRun r x y → ⊥) → P) → P
-by_on_run r x y on off =
-    by_same r.y y
-    (λ row. by_columns r x (λ before. off (λ on. let from = on.left in omega (arith, ints)))
-    (λ from to. on (record { row = row; left = from; right = to })) (λ after. off (λ on. let to = on.right in omega (arith, ints))))
-    (λ apart. off (λ on. apart on.row))
+by_on_run r x y on off = grind (arith, ints, by_same, by_columns)
 
 -- the last row gets a run
 pushed : (all rs : List EdgeRow) (old new : EdgeRow) (r : Run) → AreRows all → Fits (picture_of_rows all) r → AreRows rs → AreAbove r.y rs → old.y ≡ r.y

@@ -6,7 +6,7 @@ use Rattle.std.proofs.lemmas.Bool.{cond-true, cond-false, cond_both, false_from_
 use Rattle.std.proofs.lemmas.Bool.Decides.{Decides-int_eq}
 use Rattle.std.proofs.lemmas.Int.{ints, by_lt_z}
 use Rattle.std.proofs.lemmas.List.Elements.{All-head, All-tail, All-cons, All-nil, All-weaker}
-use Rattle.mf_geom.specs.Coordinates.{least_coordinate, last_in_field}
+use Rattle.mf_geom.specs.Coordinates.{last_in_field}
 use Rattle.mf_geom.specs.Field.{IsInField}
 use Rattle.mf_rows.specs.Bands.{AreAbove, AreBelow}
 use Rattle.mf_edges.specs.LawfulWeights.{IsLawfulWeight}
@@ -119,12 +119,7 @@ lawful_picture_of_rows rs rows = lawful_picture_of (weight_in_rows rs) (λ x y i
 
 -- a pixel lies in the field or not
 pub by_field : {P : Type 0} (x y : ℤ) → (IsInField x y → P) → ((IsInField x y → ⊥) → P) → P
-by_field x y inside outside =
-    by_lt_z x least_coordinate (λ off. outside (λ within. omega (arith, ints, within.left)))
-    (λ left. by_lt_z last_in_field x (λ off. outside (λ within. omega (arith, ints, within.right)))
-    (λ right. by_lt_z y least_coordinate (λ off. outside (λ within. omega (arith, ints, within.bottom)))
-    (λ bottom. by_lt_z last_in_field y (λ off. outside (λ within. omega (arith, ints, within.top)))
-    (λ top. inside (record { left = left; right = right; bottom = bottom; top = top })))))
+by_field x y inside outside = grind (arith, ints, by_lt_z)
 
 -- and its weights are those of the rows, at every pair of numbers
 pub weight_at-picture_of_rows : (rs : List EdgeRow) (x y : ℤ) → AreRows rs → weight_at (picture_of_rows rs) x y ≡ weight_in_rows rs x y

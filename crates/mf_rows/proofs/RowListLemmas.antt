@@ -71,10 +71,7 @@ module _ (es ds : List Edge) (kept : HasMoreEdges es ds) where
         (record { there = placed.there; reached = subst (StaysInReach h.reach) (sym placed.edges) reached })
 
     pub rows_push : rows_at ds (hs ++ h ∷ []) ≡ rows_at es hs ++ record { y = h.y; edges = row } ∷ []
-    rows_push =
-        map_push (row_at ds) hs h
-        ∙ ap (λ (rs : List EdgeRow). rs ++ row_at ds h ∷ []) (rows_kept hs heads)
-        ∙ ap (λ (fs : List Edge). rows_at es hs ++ record { y = h.y; edges = fs } ∷ []) placed.edges
+    rows_push = grind (arith, ints, map_push, rows_kept)
 
 module _ (es ds : List Edge) (kept : HasMoreEdges es ds) (start end : ℕ) (starts : start ≡ length es) (ends : end ≡ length ds) where
   count_of_more : end - start ≡ length kept.more

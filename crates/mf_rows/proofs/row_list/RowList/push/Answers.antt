@@ -1,3 +1,4 @@
+use Rattle.std.proofs.lemmas.Int.{ints}
 use Rattle.std.proofs.Common.{to_z-of_z, arith}
 use Rattle.std.proofs.lemmas.Result.{err_from_is_err_and}
 use Rattle.mf_edges.proofs.ReachesLemmas.{reach_is}
@@ -17,7 +18,4 @@ invariant_of-self-2 c =
     (heads_push _ _ c.place_of.ensures.kept _ c.self.invariant _ row.edges.now c.in_ok-place.ensures.place row.reached)
 
 pub returns-clause-pushed : goal.returns-clause-pushed
-returns-clause-pushed c =
-    let y_is = to_z-of_z c.ranges.y in
-    rw (c.in_ok-push.ensures.items, ← c.self.view_is, y_is) (rows_push _ _ c.place_of.ensures.kept _ c.self.invariant _ c.args.row.now.edges.now
-    c.in_ok-place.ensures.place)
+returns-clause-pushed c = grind (arith, ints, to_z-of_z, rows_push)

@@ -1,7 +1,6 @@
-use Rattle.std.proofs.Common.{◌≡◌, ◌++◌, ◌∷◌, [], to_z-of_z, ap, sym, ◌∙◌, arith, append_assoc}
+use Rattle.std.proofs.Common.{◌≡◌, to_z-of_z, sym, ◌∙◌, arith, append_assoc}
 use Rattle.std.proofs.lemmas.Bool.{false≢true}
 use Rattle.std.proofs.lemmas.Int.{ints}
-use Rattle.mf_rows.specs.Bands.{rows_of_bands}
 use Rattle.mf_rows.specs.EdgeRows.{EdgeRow}
 use Rattle.mf_rows.specs.RowLists.{last_edges}
 use Rattle.mf_rows.proofs.RowListLemmas.{last_edges-back}
@@ -28,7 +27,4 @@ invariant_of-self-then-band_of-self c =
     (writing_more c.self.inside.number c.self.inside.bands.items c.self.inside.rows row c.self.invariant (rw (← same, ← y_is) c.band_of.ensures))
 
 pub returns-then-band_of-self : goal.returns-then-band_of-self
-returns-then-band_of-self c =
-    let row : EdgeRow = record { y = c.args.y; edges = c.args.row.now.edges.now } in
-    rw (c.in_ok-push_again.ensures.pushed, to_z-of_z c.ranges.y, last_is c)
-    (sym (append_assoc (rows_of_bands c.self.inside.bands.items) c.self.inside.rows (row ∷ [])) ∙ ap (λ rs. rs ++ row ∷ []) c.self.view_is)
+returns-then-band_of-self c = grind (arith, ints, to_z-of_z, last_is, sym, append_assoc)
