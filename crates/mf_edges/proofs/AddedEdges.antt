@@ -136,8 +136,8 @@ pub found_column : (es : List Edge) (x : ℤ) (at : ℕ) (d : Edge) → IsBinary
 found_column es x at d found = int_ranked _ x _ (sym (found d))
 
 -- where there is no edge at a column, the edges are on both sides of it
-pub inserted_sorted : (es : List Edge) (x w : ℤ) (at : ℕ) → AreOpenEdges es → at ≤ length es → IsCoordinate x → w ≢ pos 0 → IsBinarySearchResult (λ e. int_cmp e.x x) es (Err at)
-    → AreEdgesFrom least_coordinate (insert es at record { x = x; weight = w })
+pub inserted_sorted : (es : List Edge) (x w : ℤ) (at : ℕ) → AreOpenEdges es → at ≤ length es → IsCoordinate x → w ≢ pos 0
+    → IsBinarySearchResult (λ e. int_cmp e.x x) es (Err at) → AreEdgesFrom least_coordinate (insert es at record { x = x; weight = w })
 inserted_sorted es x w at edges le column nonzero parted =
     let sides = parted (searchable_from_sorted int_cmp_total (λ (e : Edge). e.x) es x (columns_sorted es edges)) in
     let e : Edge = record { x = x; weight = w } in

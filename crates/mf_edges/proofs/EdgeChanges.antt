@@ -47,7 +47,8 @@ opposite_edges-before : (low column : ℤ) (es : List Edge) → AreEdgesFrom low
 opposite_edges-before low column [] edges before = All-nil (λ e. e.x <ℤ column)
 opposite_edges-before low column (e ∷ es) edges before =
     let start : low ≤ℤ e.x = edges.1 in
-    All-push (λ e. e.x <ℤ column) (opposite_edges es) (opposite_edge e) (opposite_edges-before (e.x +ℤ pos 1) column es edges.2 (omega (arith, ints))) (omega (arith, ints))
+    All-push (λ e. e.x <ℤ column) (opposite_edges es) (opposite_edge e)
+    (opposite_edges-before (e.x +ℤ pos 1) column es edges.2 (omega (arith, ints))) (omega (arith, ints))
 
 opposite_edges-sorted : (low : ℤ) (es : List Edge) → AreEdgesFrom low es → AreEdgesFrom least_coordinate (opposite_edges es)
 opposite_edges-sorted low [] edges = tt
