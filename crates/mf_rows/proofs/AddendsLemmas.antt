@@ -66,7 +66,8 @@ first_band s bs rest b rows from is same =
       none_before = with_sign_all (λ y. y <ℤ lowest_of (n -ℤ pos 1)) s (rows_of_bands bs.now)
           (All-rows_of_bands (λ m. n ≤ℤ m) (λ y. y <ℤ lowest_of (n -ℤ pos 1)) (λ m y le of_band. omega (arith, ints, le, of_band.top)) bs.now
           (at_least n BAND_COUNT bs.now here));
-      rows = subst (λ rs. AreSplitAtBand n (with_sign s (rows_of_bands bs.now)) (with_sign s rs) (with_sign s (rows_of_bands rest.now))) own (with_sign_split s parts);
+      rows = subst (λ rs. AreSplitAtBand n (with_sign s (rows_of_bands bs.now)) (with_sign s rs) (with_sign s (rows_of_bands rest.now))) own
+          (with_sign_split s parts);
       after = (rows_of_rest parts from.0, rest_from split n here greatest);
       fewer = omega (arith, ap length is);
     }

@@ -110,9 +110,6 @@ pub split_at_own : (n : ℤ) (bs : List (Arc Band Global)) (b : Arc Band Global)
     → number_of b ≡ n → IsSplitAtBand n bs (b ∷ []) rest
 split_at_own n bs b rest is rise own = grind (arith, ints, All-cons, All-nil, greater_after)
 
-pub split_none : (n : ℤ) (bs : List (Arc Band Global)) → bs ≡ [] → IsSplitAtBand n bs [] bs
-split_none n bs none = grind (arith, ints, All-nil, sym)
-
 pub split_before_other : (n : ℤ) (bs : List (Arc Band Global)) (b : Arc Band Global) (rest : List (Arc Band Global)) → bs ≡ b ∷ rest → RiseFrom n bs
     → number_of b ≢ n → IsSplitAtBand n bs [] bs
 split_before_other n bs b rest is rise other =

@@ -4,8 +4,8 @@ use Rattle.std.specs.Int.{int_min}
 use Rattle.std.proofs.lemmas.Int.{ints, clamps, by_lt_z}
 use Rattle.std.proofs.lemmas.List.Elements.{All-head, All-append, All-weaker}
 use Rattle.mf_geom.specs.Coordinates.{last_in_field}
-use Rattle.mf_rows.specs.Bands.{AreBelow, AreSplit}
-use Rattle.mf_rows.specs.BandSums.{lowest_of, AreUpTo, AreAfter, AreSplitAtBand, HasSum}
+use Rattle.mf_rows.specs.Bands.{AreAbove, AreBelow, AreSplit}
+use Rattle.mf_rows.specs.BandSums.{lowest_of, AreAfter, AreSplitAtBand, HasSum}
 use Rattle.mf_rows.specs.EdgeRows.{EdgeRow, AreRowsFrom, AreRows, weight_in_rows}
 use Rattle.mf_rows.specs.Sums.{sum_in_rows, IsUnlawfulSomewhere}
 use Rattle.mf_rows.proofs.EdgeRowsLemmas.{weight_in_rows-append, weight_in_rows-above, weight_in_rows-below}
@@ -74,7 +74,8 @@ module _ {f : ℤ → ℤ → ℤ} {sum rs ss : List EdgeRow} (so_far : IsRowSum
       (λ in_reach. by_lt_z y (lowest_of n)
       (λ under.
       let higher =
-      λ (rs : List EdgeRow) (up_to : AreUpTo n rs). All-weaker (λ r. (lowest_of n -ℤ pos 1) <ℤ r.y) (λ r. y <ℤ r.y) (λ r lt. omega (arith, ints)) rs up_to in
+      λ (rs : List EdgeRow) (up_to : AreAbove (lowest_of n -ℤ pos 1) rs).
+      All-weaker (λ r. (lowest_of n -ℤ pos 1) <ℤ r.y) (λ r. y <ℤ r.y) (λ r lt. omega (arith, ints)) rs up_to in
       let none_left = weight_in_rows-above first_left x y (higher first_left split_left.above) in
       let none_right = weight_in_rows-above first_right x y (higher first_right split_right.above) in
       absurd (some (omega (arith, ints))))

@@ -1,6 +1,6 @@
 -- Rows of bands: from row to row the heights fall, so a row is found by binary search.
 use Rattle.std.proofs.Common.{◌≡◌, ◌≢◌, ℕ, ◌<◌, ◌≤◌, ℤ, pos, ◌+ℤ◌, ◌-ℤ◌, ◌≤ℤ◌, ◌<ℤ◌, List, [], ◌∷◌, ◌++◌, Bool, true, false}
-use Rattle.std.proofs.Common.{length, take, drop, get_or, subst, sym, append-nil, ap, ◌∙◌, arith}
+use Rattle.std.proofs.Common.{length, take, drop, get_or, subst, sym, ap, ◌∙◌, arith}
 use Rattle.std.specs.List.{All, AllWithin}
 use Rattle.std.specs.List.Sorted.{IsPartitionedBy}
 use Rattle.std.proofs.lemmas.Int.{ints}
@@ -52,9 +52,6 @@ row_here y above r below lawful higher here =
 
 -- rows that are split at row y: those above it, and the others
 module _ (y : ℤ) (rs above others : List EdgeRow) (all : rs ≡ above ++ others) (higher : AreAbove y above) where
-  pub absent_row_all : others ≡ [] → HasNoRow rs y
-  absent_row_all none = grind (arith, ints, append-nil, weight_in_rows-above)
-
   module _ (r : EdgeRow) (below : List EdgeRow) (first : others ≡ r ∷ below) (lawful : AreRows rs) where
     with_first : rs ≡ above ++ r ∷ below
     with_first = all ∙ ap (λ ss. above ++ ss) first

@@ -1,11 +1,9 @@
 -- Copies of edges: a part of a part, places that have moved, and the rows that have them.
-use Rattle.std.proofs.Common.{◌≡◌, ℕ, get_or, ◌-◌, ◌+◌, ◌≤◌, ◌<◌, ◌^◌, List, [], ◌∷◌, ◌++◌, length, take}
-use Rattle.std.proofs.Common.{drop, sym, ap, subst, ◌∙◌, length-append, append-nil, append_assoc, arith}
-use Rattle.std.proofs.Math.Seq.{drop-append_seam}
+use Rattle.std.proofs.Common.{◌≡◌, ℕ, get_or, ◌-◌, ◌+◌, ◌≤◌, ◌<◌, List, [], ◌∷◌, ◌++◌, length, take}
+use Rattle.std.proofs.Common.{drop, sym, ap, subst, ◌∙◌, append-nil, append_assoc, arith}
 use Rattle.std.specs.List.{All}
 use Rattle.std.proofs.lemmas.List.{drop-take, drop-drop, take-take, take_more, take_all, map_push}
 use Rattle.std.proofs.lemmas.List.Elements.{All-weaker, All-push}
-use Rattle.std.proofs.lemmas.List.Edits.{length-between}
 use Rattle.mf_edges.specs.declared.edge.Edge.{Edge}
 use Rattle.mf_rows.specs.declared.row_list.Head.{Head}
 use Rattle.mf_rows.specs.declared.row_list.Place.{Place}
@@ -13,7 +11,7 @@ use Rattle.mf_rows.specs.declared.row_list.Place.TheVariants as place
 use Rattle.mf_rows.specs.declared.slice.RowSlice.{RowSlice}
 use Rattle.mf_rows.specs.Copies.{LiesBetween, IsMovable, IsMoved, IsCopied}
 use Rattle.mf_rows.specs.EdgeRows.{EdgeRow}
-use Rattle.mf_rows.specs.RowLists.{edges_between, edges_at, row_at, rows_at, IsRange, IsThere, IsPlaceOf, IsHead, AreHeads}
+use Rattle.mf_rows.specs.RowLists.{edges_between, edges_at, row_at, rows_at, IsThere, IsPlaceOf, IsHead, AreHeads}
 use Rattle.mf_rows.proofs.RowListLemmas.{nothing_more, heads_push, rows_push}
 
 -- ---- heads one after another
@@ -114,10 +112,3 @@ module _ (rows : RowSlice) (i : ℕ) (ds : List Edge) (j : ℕ) (copied : IsCopi
 pub moved_all : (es ds : List Edge) (before after hs : List Head) (n : ℕ) → length hs ≤ n → AreMoved ds before after (rows_at es (take n hs))
     → rows_at ds after ≡ rows_at ds before ++ rows_at es hs
 moved_all es ds before after hs n all so_far = so_far.rows ∙ ap (λ (gs : List Head). rows_at ds before ++ rows_at es gs) (take_all n hs all)
-
--- ---- edges are appended to others
-
-pub copied_after : (rows : RowSlice) (fs ds : List Edge) (i end : ℕ) → IsRange rows.edges.now i end
-    → All (λ h. LiesBetween i end h.place) rows.heads.now → ds ≡ fs ++ edges_between rows.edges.now i end → length ds < 2 ^ 64
-    → IsCopied rows i ds (length fs)
-copied_after rows fs ds i end range within all fits = grind (arith, length-between, length-append, drop-append_seam, take_all)

@@ -114,7 +114,8 @@ with_sign_split s {high} {low} {first = first} {rest = rest} split = record {
 }
 
 -- the weights of rows with a sign depend on the weights of these rows alone
-pub with_sign_same : (s : Sign) (rs ss : List EdgeRow) → HaveRowWeights (weight_in_rows rs) ss → HaveRowWeights (weight_in_rows (with_sign s rs)) (with_sign s ss)
+pub with_sign_same : (s : Sign) (rs ss : List EdgeRow) → HaveRowWeights (weight_in_rows rs) ss
+    → HaveRowWeights (weight_in_rows (with_sign s rs)) (with_sign s ss)
 with_sign_same Plus rs ss same = same
 with_sign_same Minus rs ss same = grind (arith, ints, weight_in_rows-negated)
 

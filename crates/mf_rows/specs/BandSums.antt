@@ -2,17 +2,13 @@
 use Rattle.std.specs.Prelude.{◌≡◌, ℤ, pos, ◌-ℤ◌, ◌*ℤ◌, List, ◌++◌}
 use Rattle.mf_geom.specs.Coordinates.{greatest_coordinate}
 use Rattle.mf_rows.specs.declared.bands.TheConstants.{BAND_HEIGHT}
-use Rattle.mf_rows.specs.Bands.{AreAbove, AreBelow, AreSplit}
+use Rattle.mf_rows.specs.Bands.{AreBelow, AreSplit}
 use Rattle.mf_rows.specs.EdgeRows.{EdgeRow, AreRows}
 use Rattle.mf_rows.specs.Sums.{HaveRowWeights, StayWithin, sum_in_rows}
 
 -- the lowest row of band n of the field
 abbrev pub lowest_of : ℤ → ℤ
 lowest_of n = (greatest_coordinate -ℤ BAND_HEIGHT) -ℤ (BAND_HEIGHT *ℤ n)
-
--- rows that belong to bands up to band n
-abbrev pub AreUpTo : ℤ → List EdgeRow → Type 0
-AreUpTo n rs = AreAbove (lowest_of n -ℤ pos 1) rs
 
 -- rows that belong to bands after band n
 abbrev pub AreAfter : ℤ → List EdgeRow → Type 0

@@ -54,7 +54,8 @@ pub(crate) fn sum_of_two(
     requires left { AreRows (rows_if_any left) }
     requires right { AreRows (rows_if_any right) }
     ensures rows { IfOk result (λ sum. AreRows (rows_at_place sum)) }
-    ensures weights { IfOk result (λ sum. HaveRowWeights (sum_in_rows (rows_if_any left.entry) (with_sign sign (rows_if_any right.entry))) (rows_at_place sum)) }
+    ensures weights { IfOk result (λ sum.
+        HaveRowWeights (sum_in_rows (rows_if_any left.entry) (with_sign sign (rows_if_any right.entry))) (rows_at_place sum)) }
     ensures too_large { IfErr result (λ fault. fault ≢ AddFault.OutOfMemory
         → IsUnlawfulSomewhere (sum_in_rows (rows_if_any left.entry) (with_sign sign (rows_if_any right.entry)))) }
 {

@@ -1,5 +1,5 @@
-use Rattle.std.proofs.lemmas.Int.{ints}
 use Rattle.std.proofs.Common.{arith}
+use Rattle.std.proofs.lemmas.Int.{ints}
 use Rattle.mf_rows.proofs.SettledGroups.{settled_more}
 use Rattle.mf_rows.proofs.group_change.take_up.Goals as goal
 

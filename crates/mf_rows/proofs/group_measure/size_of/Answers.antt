@@ -1,6 +1,6 @@
-use Rattle.mf_rows.specs.EdgeCounts.{edges_in_rows}
-use Rattle.std.proofs.lemmas.Int.{ints}
 use Rattle.std.proofs.Common.{arith}
+use Rattle.std.proofs.lemmas.Int.{ints}
+use Rattle.mf_rows.specs.EdgeCounts.{edges_in_rows}
 use Rattle.mf_rows.proofs.GroupsLemmas.{rows_of_groups_are_rows}
 use Rattle.mf_rows.proofs.EdgeCountsLemmas.{count-start, count-fits}
 use Rattle.mf_rows.proofs.group_measure.size_of.Goals as goal

@@ -1,9 +1,9 @@
-use Rattle.mf_rows.specs.EdgeRows.{weight_in_rows}
-use Rattle.std.proofs.lemmas.Int.{ints}
 use Rattle.std.proofs.Common.{◌≤◌, length, ap, arith}
+use Rattle.std.proofs.lemmas.Int.{ints}
 use Rattle.std.proofs.Math.ListN.{drop_of_length-le}
 use Rattle.std.proofs.lemmas.Grind.{common_steps}
 use Rattle.std.proofs.lemmas.Result.{err_from_is_err_and}
+use Rattle.mf_rows.specs.EdgeRows.{weight_in_rows}
 use Rattle.mf_rows.specs.Groups.{rows_of_groups}
 use Rattle.mf_rows.specs.Signs.{with_sign}
 use Rattle.mf_rows.proofs.GroupsLemmas.{rows_of_groups_are_rows, rows_in_place_are_rows}

@@ -1,8 +1,8 @@
-use Rattle.mf_edges.specs.Edges.{weight_in}
 use Rattle.std.proofs.Common.{◌≡◌, ◌++◌, to_z, of_z, w32, sym, ap, ◌∙◌, arith}
 use Rattle.std.proofs.lemmas.Int.{ints}
 use Rattle.std.proofs.lemmas.List.{drop_all}
 use Rattle.std.proofs.lemmas.List.Elements.{All-head}
+use Rattle.mf_edges.specs.Edges.{weight_in}
 use Rattle.mf_rows.specs.Bands.{edge_row}
 use Rattle.mf_rows.specs.BlankRows.{unless_blank}
 use Rattle.mf_rows.specs.NewEdges.{new_edges}

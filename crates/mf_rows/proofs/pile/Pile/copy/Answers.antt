@@ -1,6 +1,6 @@
-use Rattle.mf_rows.proofs.PictureGroups.{groups-same, rows_of_same}
 use Rattle.std.proofs.Common.{◌≡◌, to_z, of_z, w32, arith}
 use Rattle.std.proofs.lemmas.Int.{ints}
+use Rattle.mf_rows.proofs.PictureGroups.{groups-same, rows_of_same}
 use Rattle.mf_rows.proofs.pile.Pile.copy.Goals as goal
 
 pub invariant_of-result : goal.invariant_of-result

@@ -1,6 +1,6 @@
+use Rattle.mf_rows.proofs.PilesLemmas.{rows_in_pile, weights_of_pile}
 use Rattle.mf_rows.proofs.GroupsLemmas.{rows_of_groups_are_rows}
 use Rattle.mf_rows.proofs.PictureGroups.{same_picture}
-use Rattle.mf_rows.proofs.PilesLemmas.{rows_in_pile, weights_of_pile}
 use Rattle.mf_rows.proofs.pile.Pile.whole.Goals as goal
 use Rattle.std.proofs.Common.{arith}
 

@@ -1,5 +1,5 @@
-use Rattle.std.proofs.lemmas.Int.{ints}
 use Rattle.std.proofs.Common.{to_z-of_z, arith}
+use Rattle.std.proofs.lemmas.Int.{ints}
 use Rattle.std.proofs.lemmas.Result.{err_from_is_err_and}
 use Rattle.mf_edges.proofs.ReachesLemmas.{reach_is}
 use Rattle.mf_rows.proofs.RowListLemmas.{heads_kept, heads_push, rows_push, rows_kept}

@@ -1,6 +1,8 @@
-use Rattle.std.proofs.Common.{arith}
+use Rattle.std.proofs.Common.{arith, length-append}
+use Rattle.std.proofs.Math.Seq.{drop-append_seam}
+use Rattle.std.proofs.lemmas.List.Edits.{length-between}
+use Rattle.std.proofs.lemmas.List.{take_all}
 use Rattle.mf_edges.specs.Sums.{HasMoreEdges}
-use Rattle.mf_rows.proofs.CopiesLemmas.{copied_after}
 use Rattle.mf_rows.proofs.RowListLemmas.{heads_kept, rows_kept}
 use Rattle.mf_rows.proofs.row_list.RowList.push_all.Goals as goal
 
@@ -10,7 +12,7 @@ push_relocated-requires-clause-heads c =
     rw c.deref.ensures.value (heads_kept _ _ kept _ c.self.invariant)
 
 pub push_relocated-requires-clause-copied : goal.push_relocated-requires-clause-copied
-push_relocated-requires-clause-copied c = grind (arith, copied_after)
+push_relocated-requires-clause-copied c = grind (arith, length-between, length-append, drop-append_seam, take_all)
 
 pub returns : goal.returns
 returns c = grind (arith, rows_kept)

@@ -1,6 +1,6 @@
+use Rattle.std.proofs.Common.{◌≤◌, sym, subst, arith}
 use Rattle.std.proofs.lemmas.List.Elements.{All-weaker}
 use Rattle.std.proofs.lemmas.List.{take_all}
-use Rattle.std.proofs.Common.{◌≤◌, sym, subst, arith}
 use Rattle.mf_rows.specs.Copies.{LiesBetween}
 use Rattle.mf_rows.specs.RowLists.{IsThere}
 use Rattle.mf_rows.proofs.CopiesLemmas.{head_at, within_more, within_wider}

@@ -1,10 +1,11 @@
-use Rattle.std.proofs.Common.{◌≡◌, ◌≢◌, of_z, to_z-of_z, w32, ap, arith}
+use Rattle.std.proofs.Common.{◌≡◌, ◌≢◌, of_z, to_z-of_z, w32, ap, arith, append-nil}
 use Rattle.std.proofs.lemmas.Int.{ints}
-use Rattle.mf_rows.proofs.BandsLemmas.{found_row, absent_row, absent_row_all}
+use Rattle.mf_rows.proofs.EdgeRowsLemmas.{weight_in_rows-above}
+use Rattle.mf_rows.proofs.BandsLemmas.{found_row, absent_row}
 use Rattle.mf_rows.proofs.slice.RowSlice.find.Goals as goal
 
 pub returns-in_err-row-clause-blank : goal.returns-in_err-row-clause-blank
-returns-in_err-row-clause-blank c = grind (arith, ints, absent_row_all)
+returns-in_err-row-clause-blank c = grind (arith, ints, append-nil, weight_in_rows-above)
 
 pub returns-then-row-y-clause-found : goal.returns-then-row-y-clause-found
 returns-then-row-y-clause-found c =
