@@ -104,9 +104,6 @@ among n s q = unit_step q s -ℤ unit_step q (s +ℤ pos n)
 among-inside : (n : ℕ) (s q : ℤ) → s ≤ℤ q → q <ℤ (s +ℤ pos n) → among n s q ≡ pos 1
 among-inside n s q start end = grind (arith, ints, unit_step-reached, unit_step-beyond)
 
-among-outside : (n : ℕ) (s q : ℤ) → (s ≤ℤ q → q <ℤ (s +ℤ pos n) → ⊥) → among n s q ≡ pos 0
-among-outside n s q outside = grind (arith, ints, by_lt_z, unit_step-beyond, unit_step-reached)
-
 axis_sum-among : (n : ℕ) (s : ℤ) → least_coordinate ≤ℤ s → (s +ℤ pos n) ≤ℤ greatest_coordinate → axis_sum (among n s) ≡ pos n
 axis_sum-among n s start end =
     let from_start = sum_below-unit_step_in_field s start (omega (arith, ints)) in
@@ -125,7 +122,7 @@ abbrev part : ℕ → ℤ → (ℤ → ℤ) → ℤ → ℤ → ℤ
 part n s g q p = g p *ℤ among n s q
 
 part-other : (n : ℕ) (s : ℤ) (g : ℤ → ℤ) (q p : ℤ) → (s ≤ℤ q → q <ℤ (s +ℤ pos n) → ⊥) → part n s g q p ≡ pos 0
-part-other n s g q p outside = ap (λ a. g p *ℤ a) (among-outside n s q outside) ∙ *ℤ-zero (g p)
+part-other n s g q p outside = ap (λ a. g p *ℤ a) (grind (arith, ints, by_lt_z, unit_step-beyond, unit_step-reached)) ∙ *ℤ-zero (g p)
 
 part-zero : (n : ℕ) (s : ℤ) (g : ℤ → ℤ) (q p : ℤ) → g p ≡ pos 0 → part n s g q p ≡ pos 0
 part-zero n s g q p none = ap (λ a. a *ℤ among n s q) none ∙ zero-*ℤ (among n s q)

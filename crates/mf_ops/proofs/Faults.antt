@@ -136,14 +136,10 @@ op_fault-inside ds op inside =
 pub op_fault-leaves : (ds : List Dot) (op : Op) → TurnsLawfully op → list_any (leaves op) ds ≡ true → op_fault ds op ≡ Some OutOfField
 op_fault-leaves ds op turns leaves_it = op_fault-pixels ds op turns ∙ (λ t. cond (leaves_it t) (Some OutOfField) (weight_fault (next_picture ds op)))
 
--- a step that has the weights of a picture is not refused
-op_fault-from_weights : (ds : List Dot) (op : Op) (new : List Dot) → IsForWeights ds op → IsPicture new → HasWeights (step_at ds op) new → op_fault ds op ≡ None
-op_fault-from_weights ds op new stays picture has = grind (arith, ints, next_picture-from_weights, none_too_large, op_fault-inside, sym)
-
 -- so it is the picture after the operation, which is not refused
 pub made-from_weights : (ds : List Dot) (op : Op) (new : List Dot) → IsForWeights ds op → IsPicture new → HasWeights (step_at ds op) new
     → (new ≡ next_picture ds op) × (op_fault ds op ≡ None)
-made-from_weights ds op new stays picture has = (next_picture-from_weights ds op new picture has, op_fault-from_weights ds op new stays picture has)
+made-from_weights ds op new stays picture has = grind (arith, ints, next_picture-from_weights, none_too_large, op_fault-inside, sym)
 
 -- a step with an unlawful weight is refused
 pub op_fault-too_large : (ds : List Dot) (op : Op) → IsForWeights ds op → IsUnlawfulSomewhere (step_at ds op) → op_fault ds op ≡ Some WeightTooLarge

@@ -169,12 +169,9 @@ scale-outside ds s factors at =
 
 -- ---- turns
 
-opposite_inside : (p : ℤ) → IsColumnOrRow (opposite p) → IsColumnOrRow p
-opposite_inside p inside = grind (arith, ints)
-
 -- where the turned place of a pixel lies in the field, so does the pixel
 turned_in_field : (x y : ℤ) → IsInField y (opposite x) → IsInField x y
-turned_in_field x y field = in_field x y (opposite_inside x (row_inside y (opposite x) field)) (column_inside y (opposite x) field)
+turned_in_field x y field = in_field x y (grind (arith, ints, row_inside y (opposite x) field)) (column_inside y (opposite x) field)
 
 -- weights that are 0 outside the field stay so under a turn
 ZeroOutside : (ℤ → ℤ → ℤ) → Type 0

@@ -1,5 +1,5 @@
 -- Which column, or row, a scale takes to the part of the axis that contains a given one.
-use Rattle.std.proofs.Common.{◌≡◌, ◌↔◌, ℕ, zero, suc, ℤ, pos, negsuc, neg_ℤ, ◌+ℤ◌, ◌-ℤ◌, ◌*ℤ◌, ◌≤ℤ◌, ◌<ℤ◌, nat_abs, refl, ap, ◌∙◌, false, int_lt, arith}
+use Rattle.std.proofs.Common.{◌≡◌, ◌↔◌, ℕ, zero, suc, ℤ, pos, negsuc, ◌+ℤ◌, ◌-ℤ◌, ◌*ℤ◌, ◌≤ℤ◌, ◌<ℤ◌, nat_abs, refl, ap, ◌∙◌, arith}
 use Rattle.std.specs.Int.{int_max, int_min}
 use Rattle.std.proofs.lemmas.Bool.{cond-false}
 use Rattle.std.proofs.lemmas.Int.{ints, clamps, by_lt_z}
@@ -8,27 +8,21 @@ use Rattle.mf_edges.specs.Axes.{IsStretch, target_of, source_of, opposite}
 use Rattle.mf_edges.proofs.Sources.{mul-next, target_of-next, source_of-reached, source_of-from, source_of-is}
 use Rattle.mf_ops.specs.Moves.{IsFactor, HasPlace, scale_by, scale_source}
 
-pub not_negative : (n : ℕ) → int_lt (pos n) (pos 0) ≡ false
-not_negative n = grind (arith, ints)
-
 -- a scale by a positive factor is a stretch
 pub scale_source-positive : (n : ℕ) (q : ℤ) → scale_source (pos n) q ≡ source_of (scale_by (pos n)) q
 unfolding scale_source
-scale_source-positive n q = cond-false _ (opposite (source_of (scale_by (pos n)) q)) (source_of (scale_by (pos n)) q) (not_negative n)
+scale_source-positive n q = cond-false _ (opposite (source_of (scale_by (pos n)) q)) (source_of (scale_by (pos n)) q) (grind (arith, ints))
 
 -- under a negative factor, p is the source where under the opposite factor the place opposite to p is
 pub scale_source-negative : (n : ℕ) (q : ℤ) → scale_source (negsuc n) q ≡ opposite (source_of (scale_by (pos (suc n))) q)
 unfolding scale_source
 scale_source-negative n q = refl
 
-mul-neg : (a b : ℤ) → a *ℤ neg_ℤ b ≡ neg_ℤ a *ℤ b
-mul-neg a b = grind (arith, ints)
-
 pub start-negative : (n : ℕ) (p : ℤ) → p *ℤ negsuc n ≡ (opposite p +ℤ pos 1) *ℤ pos (suc n)
-start-negative n p = grind (arith, ints, mul-neg)
+start-negative n p = grind (arith, ints)
 
 pub end-negative : (n : ℕ) (p : ℤ) → (p +ℤ pos 1) *ℤ negsuc n ≡ opposite p *ℤ pos (suc n)
-end-negative n p = grind (arith, ints, mul-neg)
+end-negative n p = grind (arith, ints)
 
 -- so the part of p is the part of the opposite place under the opposite factor
 HasPlace-negative : (n : ℕ) (p q : ℤ) → HasPlace (pos (suc n)) (opposite p) q ↔ HasPlace (negsuc n) p q

@@ -4,7 +4,6 @@ use Rattle.std.proofs.lemmas.Bool.{cond-false}
 use Rattle.std.proofs.lemmas.Int.{ints, by_lt_z}
 use Rattle.std.specs.List.{All}
 use Rattle.mf_geom.specs.Coordinates.{least_coordinate, greatest_coordinate, last_in_field}
-use Rattle.mf_geom.specs.Field.{IsInField}
 use Rattle.mf_edges.specs.declared.stretch.Stretch.{Stretch}
 use Rattle.mf_rows.specs.Dots.{Dot, IsPicture, weight_at}
 use Rattle.mf_edges.specs.Axes.{IsStretch, PlaceStaysInside, opposite, source_of}
@@ -12,10 +11,10 @@ use Rattle.mf_rows.specs.Moves.{PixelsStayInside, stretch_at}
 use Rattle.mf_rows.specs.Sums.{HasWeights}
 use Rattle.mf_rows.proofs.DotsLemmas.{dots_from-lawful, weight_at-dot}
 use Rattle.mf_edges.proofs.Sources.{source_of-reached, source_of-from}
-use Rattle.mf_ops.specs.Moves.{Factors, AreFactors, IsFactor, scale_by, scale_source}
+use Rattle.mf_ops.specs.Moves.{Factors, IsFactor, scale_by, scale_source}
 use Rattle.mf_ops.specs.Reflections.{on_side, reflection_at}
 use Rattle.mf_ops.specs.Step.{step_at}
-use Rattle.mf_ops.proofs.Places.{IsStretch-size, by_size, end-negative, not_negative, opposite-opposite, start-negative}
+use Rattle.mf_ops.proofs.Places.{IsStretch-size, by_size, end-negative, opposite-opposite, start-negative}
 use Rattle.mf_ops.specs.declared.op.Op.TheVariants.{Scale}
 use mir.Syntax.{w32}
 use mir.Val.{to_z, of_z}
@@ -55,25 +54,17 @@ source_of-greatest f q is_factor greatest =
     absurd (omega (arith, ints)))
     (λ within. within)
 
-IsInField-sources : (s : Factors) (x y : ℤ) → AreFactors s → IsInField x y → IsInField (source_of (by_size s.x) x) (source_of (by_size s.y) y)
-IsInField-sources s x y factors in_field = grind (arith, ints, source_of-least, source_of-greatest)
-
--- the reflected picture, stretched, is the scaled one
-HasWeights-reflected : (ds middle new : List Dot) (s : Factors) → AreFactors s
-    → HasWeights (reflection_at (int_lt s.x (pos 0)) (int_lt s.y (pos 0)) ds) middle
-    → HasWeights (stretch_at (by_size s.x) (by_size s.y) middle) new → HasWeights (step_at ds (Scale s)) new
-unfolding reflection_at stretch_at scale_source
-HasWeights-reflected ds middle new s factors reflected has = grind (arith, ints, by_size, IsInField-sources)
-
 pub HasWeights-scale : (ds middle new : List Dot) (s : Factors) (a b : ℤ) (columns rows sized_columns sized_rows : Stretch)
     → AreMade s.x a columns sized_columns → AreMade s.y b rows sized_rows
     → HasWeights (reflection_at (int_lt a (pos 0)) (int_lt b (pos 0)) ds) middle
     → HasWeights (stretch_at sized_columns sized_rows middle) new → HasWeights (step_at ds (Scale s)) new
-HasWeights-scale ds middle new s a b columns rows sized_columns sized_rows x y reflected stretched = grind (arith, ints, HasWeights-reflected)
+unfolding reflection_at stretch_at scale_source
+HasWeights-scale ds middle new s a b columns rows sized_columns sized_rows x y reflected stretched =
+    grind (arith, ints, by_size, source_of-least, source_of-greatest)
 
 -- the ends of a column, or row, change places when it goes to the other side of 0
 PlaceStaysInside-size : (f p : ℤ) → PlaceStaysInside (scale_by f) (on_side (int_lt f (pos 0)) p) → PlaceStaysInside (by_size f) p
-PlaceStaysInside-size (pos n) p inside = subst (PlaceStaysInside (scale_by (pos n))) (cond-false _ (opposite p) p (not_negative n)) inside
+PlaceStaysInside-size (pos n) p inside = subst (PlaceStaysInside (scale_by (pos n))) (cond-false _ (opposite p) p (grind (arith, ints))) inside
 PlaceStaysInside-size (negsuc n) p inside = grind (arith, ints, opposite-opposite, end-negative, start-negative)
 
 -- each dot of the reflected picture comes from a pixel of nonzero weight
@@ -83,7 +74,7 @@ unfolding reflection_at
 reflected_dots columns rows ds middle picture reflected k d lt = grind (arith, ints, dots_from-lawful, sym, weight_at-dot)
 
 -- so the reflected picture stays in the field when it is stretched, where the picture does when it is scaled
-PixelsStayInside-reflected : (ds middle : List Dot) (s : Factors) → IsPicture middle
+pub PixelsStayInside-reflected : (ds middle : List Dot) (s : Factors) → IsPicture middle
     → HasWeights (reflection_at (int_lt s.x (pos 0)) (int_lt s.y (pos 0)) ds) middle → PixelsStayInside (scale_by s.x) (scale_by s.y) ds
     → PixelsStayInside (by_size s.x) (by_size s.y) middle
 PixelsStayInside-reflected ds middle s picture reflected inside =
@@ -92,10 +83,3 @@ PixelsStayInside-reflected ds middle s picture reflected inside =
       across = λ k d lt. PlaceStaysInside-size s.x _ (holds_at_weight (λ x y. PlaceStaysInside (scale_by s.x) x) ds _ _ inside.across (nonzero k d lt));
       up = λ k d lt. PlaceStaysInside-size s.y _ (holds_at_weight (λ x y. PlaceStaysInside (scale_by s.y) y) ds _ _ inside.up (nonzero k d lt));
     }
-
-pub PixelsStayInside-scale : (ds middle : List Dot) (s : Factors) (a b : ℤ) (columns rows sized_columns sized_rows : Stretch)
-    → AreMade s.x a columns sized_columns → AreMade s.y b rows sized_rows → IsPicture middle
-    → HasWeights (reflection_at (int_lt a (pos 0)) (int_lt b (pos 0)) ds) middle → PixelsStayInside columns rows ds
-    → PixelsStayInside sized_columns sized_rows middle
-PixelsStayInside-scale ds middle s a b columns rows sized_columns sized_rows x y picture reflected inside =
-    grind (arith, ints, PixelsStayInside-reflected)

@@ -1,5 +1,5 @@
 -- The sides of a contour add its weight times the winding number.
-use Rattle.std.proofs.Common.{◌≡◌, ◌≢◌, ◌&&◌, Bool, not, cond, int_le, int_lt, ℕ, ◌+◌, ◌*◌, ◌<◌, ◌≤◌, ℤ, pos, neg_ℤ, ◌+ℤ◌, ◌-ℤ◌, ◌*ℤ◌}
+use Rattle.std.proofs.Common.{◌≡◌, ◌≢◌, ◌&&◌, Bool, not, cond, int_le, int_lt, ℕ, ◌+◌, ◌*◌, ◌≤◌, ℤ, pos, neg_ℤ, ◌+ℤ◌, ◌-ℤ◌, ◌*ℤ◌}
 use Rattle.std.proofs.Common.{List, [], ◌∷◌, ◌++◌, length, reverse, All, refl, sym, ap, ◌∙◌, inl, inr, arith, length-append, append-nil, append_assoc, add-one}
 use Rattle.std.proofs.lemmas.Int.{ints}
 use Rattle.std.proofs.lemmas.List.Elements.{All-nil, All-cons, All-append}
@@ -13,9 +13,8 @@ use Rattle.mf_geom.specs.Lawful.{IsRectilinearCycle}
 use Rattle.mf_geom.specs.Path.{Segment, point_at, segment_at, across, up, IsInRange, IsRectilinear}
 use Rattle.mf_geom.specs.Sum.{sum_below}
 use Rattle.mf_geom.specs.Winding.{contour}
-use Rattle.mf_geom.proofs.Crossings.{winding-crossings, unit_step-reached, crossings-beside}
+use Rattle.mf_geom.proofs.Crossings.{unit_step-reached, crossings-beside}
 use Rattle.mf_geom.proofs.Products.{mul-add, mul-self}
-use Rattle.mf_geom.proofs.Sums.{next_place-below}
 use Rattle.mf_rows.specs.declared.corner.Corner.{Corner}
 use Rattle.mf_rows.specs.Corners.{IsCorner, IsCornerWeight, AreCorners, added_by, added_by_all, with_corners_at}
 use Rattle.mf_rows.specs.Dots.{Dot, weight_at}
@@ -65,13 +64,10 @@ crossing-horizontal : (x y : ℤ) (e : Segment) → e.to.y ≡ e.from.y → cros
 unfolding crossing
 crossing-horizontal x y e horizontal = rw (horizontal, mul-self (unit_step x e.from.x) (unit_step y e.from.y)) refl
 
-lawful_ends : (w : ℤ) (e : Segment) → IsCornerWeight w → IsInRange e.from → IsInRange e.to → All IsCorner (ends_of w e)
-lawful_ends w e lawful from to = grind (arith, ints, All-cons, All-nil)
-
 -- so a vertical segment is a side with its two ends as corners
 pub HasSide-vertical : (w : ℤ) (e : Segment) (ks : List Corner) → IsCornerWeight w → IsInRange e.from → IsInRange e.to
     → e.to.x ≡ e.from.x → HasSide w e ks (ks ++ ends_of w e)
-HasSide-vertical w e ks lawful from to vertical = grind (arith, ints, lawful_ends, added_by_all-ends)
+HasSide-vertical w e ks lawful from to vertical = grind (arith, ints, All-cons, All-nil, added_by_all-ends)
 
 -- a horizontal segment needs no corners
 pub HasSide-horizontal : (w : ℤ) (e : Segment) (ks : List Corner) → IsRectilinear e → e.to.x ≢ e.from.x → HasSide w e ks ks
@@ -84,10 +80,6 @@ pub record IsSegment (e : Segment) : Type 0 where
   pub rectilinear : IsRectilinear e
   pub from : IsInRange e.from
   pub to : IsInRange e.to
-
-pub IsSegment-at : (ps : List Point) (n : ℕ) → IsRectilinearCycle ps → n < length ps → IsSegment (segment_at ps n)
-unfolding segment_at
-IsSegment-at ps n cycle below = grind (arith, ints, next_place-below)
 
 pub AreSides-none : (ps : List Point) (w : ℤ) → AreSides ps w 0 []
 unfolding added_by_all sum_below
@@ -142,10 +134,6 @@ AreCorners-sides ps w ks cycle sides =
           (λ i below. let point = cycle.range.in_range i below in unit_step-reached greatest_coordinate (point_at ps i).x point.x.greatest) in
           sides.added greatest_coordinate y ∙ ap (λ n. w *ℤ n) balanced ∙ omega (arith, ints);
     }
-
--- together they add the weight times the winding number
-pub AddWinding-sides : (ps : List Point) (w : ℤ) (ks : List Corner) → IsRectilinearCycle ps → AreSides ps w (length ps) ks → AddWinding ps w ks
-AddWinding-sides ps w ks cycle sides = grind (arith, ints, sym, winding-crossings)
 
 -- so a picture to which the sides of a contour were added has the weights of the step with the turning check off
 pub with_corners_at-contour : (ds : List Dot) (ps : List Point) (w : ℤ) (ks : List Corner) → AddWinding ps w ks → (x y : ℤ)

@@ -1,7 +1,6 @@
 -- Pictures that are reflected or turned.
-use Rattle.std.proofs.Common.{◌≡◌, true, false, ℤ, List, ◌∙◌, arith}
+use Rattle.std.proofs.Common.{◌≡◌, true, false, List, ◌∙◌, arith}
 use Rattle.std.proofs.lemmas.Int.{ints}
-use Rattle.mf_geom.specs.Field.{IsInField}
 use Rattle.mf_rows.specs.Dots.{Dot}
 use Rattle.mf_edges.specs.Axes.{opposite}
 use Rattle.mf_rows.specs.Moves.{column_mirror_at, row_mirror_at, quarter_turn_at}
@@ -10,13 +9,6 @@ use Rattle.mf_ops.specs.Reflections.{reflection_at}
 use Rattle.mf_ops.specs.Step.{step_at}
 use Rattle.mf_ops.specs.declared.op.Op.TheVariants as ops
 use Rattle.mf_ops.specs.declared.quarter.Quarter.TheVariants.{Once, Twice, Thrice}
-
--- the place opposite to a column, or row, of the field is in the field
-IsInField-opposite_x : (x y : ℤ) → IsInField x y → IsInField (opposite x) y
-IsInField-opposite_x x y in_field = grind (arith, ints)
-
-IsInField-opposite_y : (x y : ℤ) → IsInField x y → IsInField x (opposite y)
-IsInField-opposite_y x y in_field = grind (arith, ints)
 
 pub HasWeights-reflected_none : (ds new : List Dot) → new ≡ ds → HasWeights (reflection_at false false ds) new
 unfolding reflection_at
@@ -34,7 +26,7 @@ pub HasWeights-reflected_both : (ds middle new : List Dot) → HasWeights (colum
     → HasWeights (row_mirror_at middle) new → HasWeights (reflection_at true true ds) new
 unfolding reflection_at column_mirror_at row_mirror_at
 HasWeights-reflected_both ds middle new first has =
-    record { weights = λ x y in_field. has.weights x y in_field ∙ first.weights x (opposite y) (IsInField-opposite_y x y in_field) }
+    record { weights = λ x y in_field. has.weights x y in_field ∙ first.weights x (opposite y) (grind (arith, ints)) }
 
 pub HasWeights-once : (ds new : List Dot) → HasWeights (quarter_turn_at ds) new → HasWeights (step_at ds (ops.Quarter Once)) new
 unfolding quarter_turn_at
@@ -47,4 +39,4 @@ HasWeights-twice ds new has = record { weights = has.weights }
 pub HasWeights-thrice : (ds middle new : List Dot) → HasWeights (quarter_turn_at ds) middle → HasWeights (reflection_at true true middle) new
     → HasWeights (step_at ds (ops.Quarter Thrice)) new
 unfolding quarter_turn_at reflection_at
-HasWeights-thrice ds middle new first has = grind (arith, ints, IsInField-opposite_x, IsInField-opposite_y)
+HasWeights-thrice ds middle new first has = grind (arith, ints)

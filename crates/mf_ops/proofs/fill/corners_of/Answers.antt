@@ -1,20 +1,23 @@
-use Rattle.std.proofs.Common.{◌≡◌, ◌<◌, ◌++◌, reverse, length, ap, arith, to_z, of_z, to_z-of_z, w32}
+use Rattle.std.proofs.Common.{◌≡◌, ◌<◌, ◌++◌, reverse, length, ap, arith, to_z, of_z, to_z-of_z, w32, sym}
 use Rattle.std.proofs.lemmas.Int.{ints}
 use Rattle.mf_geom.specs.Path.{segment_at}
 use Rattle.mf_ops.specs.Sides.{HasSide}
 use Rattle.mf_ops.proofs.Sides.{AreSides, AreSides-none, AreSides-first, AreSides-second, AreSides-joined}
-use Rattle.mf_ops.proofs.Sides.{IsSegment, IsSegment-at, AreCorners-sides, AddWinding-sides}
+use Rattle.mf_ops.proofs.Sides.{IsSegment, AreCorners-sides}
 use Rattle.mf_ops.proofs.fill.corners_of.Goals.{After-segment_ends, then-from-to+in_ok-push_side, else-from-to+in_ok-push_side-2}
 use Rattle.mf_ops.proofs.fill.corners_of.Goals as goal
+use Rattle.mf_geom.proofs.Sums.{next_place-below}
+use Rattle.mf_geom.proofs.Crossings.{winding-crossings}
 
 pub loop-place-init : goal.loop-place-init
 loop-place-init c = rw (c.in_ok-rising.ensures.items, c.in_ok-falling.ensures.items) (AreSides-none _ _)
 
 -- the segment that leaves the vertex
 segment : (c : After-segment_ends) → IsSegment (record { from = c.segment_ends.result.0; to = c.segment_ends.result.1 })
+unfolding segment_at
 segment c =
     let below : c.loop-place.place < length c.args.cycle.now = omega (arith, ap length c.points-count.ensures.points) in
-    rw (c.segment_ends.ensures.from, c.segment_ends.ensures.to) (IsSegment-at _ _ c.segment_ends.ensures.lawful below)
+    rw (c.segment_ends.ensures.from, c.segment_ends.ensures.to) (grind (arith, ints, next_place-below, c.segment_ends.ensures.lawful))
 
 pub push_side-requires : goal.push_side-requires
 push_side-requires c =
@@ -60,5 +63,5 @@ returns c =
     let sides = AreSides-joined ps w (length ps) rising falling apart in
     rw (c.in_ok-extend_from_slice.ensures.items, c.reverse.ensures.items, c.deref.ensures.value) record {
       lawful = AreCorners-sides ps w (reverse rising ++ falling) rectilinear sides;
-      added = AddWinding-sides ps w (reverse rising ++ falling) rectilinear sides;
+      added = grind (arith, ints, sym, winding-crossings);
     }

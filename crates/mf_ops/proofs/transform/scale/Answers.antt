@@ -6,9 +6,10 @@ use Rattle.mf_ops.specs.declared.op.Op.TheVariants.{Scale}
 use Rattle.mf_ops.specs.declared.op.OpFault.TheVariants.{OutOfField}
 use Rattle.mf_ops.proofs.Faults.{IsForWeights, made-from_weights, op_fault-leaves, not_out}
 use Rattle.mf_ops.proofs.Leaving.{some_leaves, stays_in_field-scale}
-use Rattle.mf_ops.proofs.Scaling.{factor_passed, stretches_made, IsStretch-made, HasWeights-scale, PixelsStayInside-scale}
+use Rattle.mf_ops.proofs.Scaling.{factor_passed, stretches_made, IsStretch-made, HasWeights-scale, PixelsStayInside-reflected}
 use Rattle.mf_ops.proofs.transform.scale.Goals.{After-pixels_stay_inside}
 use Rattle.mf_ops.proofs.transform.scale.Goals as goal
+use Rattle.std.proofs.lemmas.Int.{ints}
 
 pub returns-then-not-pixels_stay_inside-clause-refused : goal.returns-then-not-pixels_stay_inside-clause-refused
 returns-then-not-pixels_stay_inside-clause-refused c other =
@@ -25,8 +26,7 @@ stretch-requires-5 c =
     record {
       columns = IsStretch-made _ _ _ _ x;
       rows = IsStretch-made _ _ _ _ y;
-      inside = PixelsStayInside-scale _ _ c.args.scale _ _ _ _ _ _ x y reflected.lawful reflected.weights
-          (c.pixels_stay_inside.ensures.0 c.if-not-pixels_stay_inside.false);
+      inside = grind (arith, ints, PixelsStayInside-reflected, reflected, c.pixels_stay_inside.ensures.0 c.if-not-pixels_stay_inside.false);
     }
 
 pub returns : goal.returns
