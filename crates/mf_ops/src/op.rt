@@ -70,7 +70,7 @@ impl fmt::Display for OpFault {
         match self {
             OpFault::Cycle(fault) => write!(f, "{fault}"),
             OpFault::OutOfField => write!(f, "OutOfField"),
-            OpFault::WeightTooLarge => write!(f, "WeightTooLarge"),
+            OpFault::WeightTooLarge => write!(f, "{}", AddFault::WeightTooLarge),
             OpFault::OutOfMemory => write!(f, "{OutOfMemory}"),
         }
     }

@@ -3,7 +3,9 @@ ghost use Rattle.std.specs.Prelude.{◌≡◌, IfOk};
 ghost use Rattle.mf_session.specs.Refusals.{refusal_line};
 
 use mf_base::OutOfMemory;
+use mf_gf::GfFault;
 use mf_live::Fault;
+use mf_show::GridFault;
 use mf_text::TextFault;
 use std::alloc::Global;
 use std::error::Error;
@@ -33,8 +35,8 @@ impl fmt::Display for Refusal {
         match self {
             Refusal::Line(fault) => write!(f, "{fault}"),
             Refusal::Operation(fault) => write!(f, "{fault}"),
-            Refusal::FileTooLong => write!(f, "FileTooLong"),
-            Refusal::ProofTooLarge => write!(f, "ProofTooLarge"),
+            Refusal::FileTooLong => write!(f, "{}", GfFault::FileTooLong),
+            Refusal::ProofTooLarge => write!(f, "{}", GridFault::ProofTooLarge),
         }
     }
 }
