@@ -32,12 +32,9 @@ join-assoc a b c = grind (arith, ints, min_assoc, max_assoc)
 
 -- ---- the box of pixels is that of the least one
 
-pixel_box-character_box : (b : Box4) → pixel_box (character_box b) ≡ b
-pixel_box-character_box b = grind (arith, ints)
-
 pub least_box : (d : Dot) (ds : List Dot) → IsLeastBox (d ∷ ds) (pixel_box (box_of_pixels (d ∷ ds)))
 unfolding box_of_pixels
-least_box d ds = subst (IsLeastBox (d ∷ ds)) (sym (pixel_box-character_box (box_of_dots d ds))) (least_box_of_dots d ds)
+least_box d ds = subst (IsLeastBox (d ∷ ds)) (sym (grind (arith, ints))) (least_box_of_dots d ds)
 
 box_from_least : (ds : List Dot) (b : Box4) → IsLeastBox ds b → box_of_pixels ds ≡ character_box b
 unfolding box_of_pixels

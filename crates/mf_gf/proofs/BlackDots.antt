@@ -7,13 +7,12 @@ use Rattle.std.proofs.lemmas.Int.{ints}
 use Rattle.std.proofs.lemmas.List.Elements.{All-nil, All-cons}
 use Rattle.mf_rows.specs.declared.run.Run.{Run}
 use Rattle.mf_rows.specs.Dots.{Dot, IsPicture, AreDotsFrom, place, start_of_field}
-use Rattle.mf_rows.specs.Order.{IsRun, AreRunsFrom}
+use Rattle.mf_rows.specs.Order.{AreRunsFrom}
 use Rattle.mf_rows.specs.Runs.{equal_dots, dots_of, runs_of}
 use Rattle.mf_rows.proofs.DotsLemmas.{dots_from-lower}
 use Rattle.mf_rows.proofs.RunsLemmas.{dots_of-runs_of}
-use Rattle.mf_rows.proofs.PassedRuns.{ordered_runs_of}
 use Rattle.mf_rows.proofs.RunDots.{runs_from-lower}
-use Rattle.mf_gf.specs.Ahead.{black_runs, AreBlackRuns}
+use Rattle.mf_gf.specs.Ahead.{black_runs}
 use Rattle.mf_gf.specs.Pixels.{black}
 
 -- ---- all dots of a run are black, or none is
@@ -53,39 +52,22 @@ black_picture ds picture = record { dots = black-from start_of_field ds picture.
 abbrev pub IsBlack : Run → Type 0
 IsBlack r = r.weight ≡ pos 1
 
-as_black : (r : Run) → IsRun r → IsRun (record { y = r.y; x = r.x; len = r.len; weight = pos 1 })
-as_black r run = omega (arith, ints, run)
-
-black_runs-from : (low : ℤ) (rs : List Run) → AreRunsFrom low rs → AreRunsFrom low (black_runs rs)
+pub black_runs-from : (low : ℤ) (rs : List Run) → AreRunsFrom low rs → AreRunsFrom low (black_runs rs)
 unfolding black_runs place
 black_runs-from low [] runs = tt
 black_runs-from low (r ∷ rs) runs =
     let end = place (r.x +ℤ pos r.len) r.y in
     let others = black_runs-from end rs runs.2 in
     cond_both (int_lt (pos 0) r.weight) (record { y = r.y; x = r.x; len = r.len; weight = pos 1 } ∷ black_runs rs) (black_runs rs) (AreRunsFrom low)
-    (λ yes. (as_black r runs.0, runs.1, others))
+    (λ yes. (omega (arith, ints, runs.0), runs.1, others))
     (λ no. runs_from-lower low end (black_runs rs) (omega (arith, ints, runs.1)) others)
 
-black_runs-ones : (rs : List Run) → All IsBlack (black_runs rs)
+pub black_runs-ones : (rs : List Run) → All IsBlack (black_runs rs)
 unfolding black_runs
 black_runs-ones [] = All-nil IsBlack
 black_runs-ones (r ∷ rs) = grind (arith, ints, cond_both, All-cons, black_runs-ones rs)
 
-pub black_runs_in_order : (ds : List Dot) → IsPicture ds → AreBlackRuns (black_runs (runs_of ds))
-black_runs_in_order ds picture = grind (arith, ints, black_runs-from, ordered_runs_of, black_runs-ones)
-
 -- ---- the runs of an iterator, passed one after another
-
--- a run of positive weight is the next black run
-pub black_taken : (rs others : List Run) (r : Run) → rs ≡ r ∷ others → int_lt (pos 0) r.weight ≡ true
-    → black_runs rs ≡ record { y = r.y; x = r.x; len = r.len; weight = pos 1 } ∷ black_runs others
-unfolding black_runs
-black_taken rs others r first positive = grind (arith, ints, cond-true)
-
--- any other run is skipped
-pub other_passed : (rs others : List Run) (r : Run) → rs ≡ r ∷ others → int_lt (pos 0) r.weight ≡ false → black_runs rs ≡ black_runs others
-unfolding black_runs
-other_passed rs others r first not_positive = grind (arith, ints, cond-false)
 
 pub black_runs-none : (rs : List Run) → rs ≡ [] → black_runs rs ≡ []
 unfolding black_runs

@@ -6,23 +6,11 @@ use Rattle.std.proofs.lemmas.Int.{ints}
 use Rattle.std.proofs.lemmas.List.Elements.{All-head, All-tail}
 use Rattle.mf_geom.specs.Coordinates.{least_coordinate, last_in_field}
 use Rattle.mf_rows.specs.declared.run.Run.{Run}
-use Rattle.mf_rows.specs.Dots.{Dot, IsDot, AreDotsFrom, place}
-use Rattle.mf_rows.specs.Runs.{continues, run_from, with_dot, runs_of, IsFollowedBy}
+use Rattle.mf_rows.specs.Dots.{Dot, AreDotsFrom, place}
+use Rattle.mf_rows.specs.Runs.{continues, run_from, with_dot, runs_of}
 use Rattle.mf_rows.proofs.PlacesLemmas.{place-next}
 use Rattle.mf_rows.proofs.RunsLemmas.{continued}
 use Rattle.mf_gf.proofs.DrawnRows.{IsNext, AreNext}
-
--- a dot of weight 1 at a place or after it is a stretch that the machine can go to
-next_dot : (left row column : ℤ) (d : Dot) → least_coordinate ≤ℤ left → left ≤ℤ column → row ≤ℤ last_in_field → IsDot d
-    → d.weight ≡ pos 1 → left ≤ℤ d.x → place column row ≤ℤ place d.x d.y → IsNext left row column (run_from d 0)
-unfolding run_from place
-next_dot left row column d field_left column_left field_top dot one start after = omega (arith, ints, dot)
-
--- so is the run that this dot lengthens
-next_longer : (left row column : ℤ) (d : Dot) (r : Run) → IsNext left row column (run_from d 0)
-    → IsFollowedBy (run_from d 0) r → IsNext left d.y (d.x +ℤ pos 1) r → IsNext left row column (run_from d r.len)
-unfolding run_from
-next_longer left row column d r first joined next = omega (arith, ints, first, joined, next)
 
 next_with_dot : (left row column : ℤ) (d : Dot) (rs : List Run) → IsNext left row column (run_from d 0)
     → AreNext left d.y (d.x +ℤ pos 1) rs → AreNext left row column (with_dot d rs)
@@ -32,7 +20,7 @@ next_with_dot left row column d (r ∷ rs) first others =
     cond_both (continues d r) (run_from d r.len ∷ rs) (run_from d 0 ∷ r ∷ rs) (AreNext left row column)
     (λ yes.
     let joined = (continued d r).0 yes in (
-      next_longer left row column d r first joined others.0,
+      omega (arith, ints, first, joined, others.0),
       subst₂ (λ y x. AreNext left y x rs) (sym joined.row) (omega (arith, ints, joined.column)) others.1,
     ))
     (λ no. (first, others))
@@ -40,12 +28,12 @@ next_with_dot left row column d (r ∷ rs) first others =
 -- the machine can go from run to run, starting at a place before the first one
 pub next_runs : (left row column : ℤ) (ds : List Dot) → least_coordinate ≤ℤ left → left ≤ℤ column → row ≤ℤ last_in_field
     → AreDotsFrom (place column row) ds → All (λ d. d.weight ≡ pos 1) ds → All (λ d. left ≤ℤ d.x) ds → AreNext left row column (runs_of ds)
-unfolding runs_of
+unfolding runs_of run_from place
 next_runs left row column [] field_left column_left field_top dots ones starts = tt
 next_runs left row column (d ∷ ds) field_left column_left field_top dots ones starts =
     let start : left ≤ℤ d.x = All-head (λ d. left ≤ℤ d.x) d ds starts in
     next_with_dot left row column d (runs_of ds)
-    (next_dot left row column d field_left column_left field_top dots.0 (All-head (λ d. d.weight ≡ pos 1) d ds ones) start dots.1)
+    (omega (arith, ints, dots.0, All-head (λ d. d.weight ≡ pos 1) d ds ones, dots.1))
     (next_runs left d.y (d.x +ℤ pos 1) ds field_left (omega (arith, ints, start)) dots.0.in_field.top
     (subst (λ p. AreDotsFrom p ds) (sym (place-next d.x d.y)) dots.2)
     (All-tail (λ d. d.weight ≡ pos 1) d ds ones) (All-tail (λ d. left ≤ℤ d.x) d ds starts))

@@ -1,6 +1,5 @@
 -- The weights of the black pixels of a picture: 1 where its own weight is positive, else 0.
-use Rattle.std.proofs.Common.{◌≡◌, true, ◌&&◌, ℤ, pos, ◌+ℤ◌, int_lt, if◌then◌else◌, List, [], ◌∷◌, refl, arith}
-use Rattle.std.specs.Ordering.{int_eq}
+use Rattle.std.proofs.Common.{◌≡◌, ℤ, pos, ◌+ℤ◌, int_lt, if◌then◌else◌, List, [], ◌∷◌, refl, arith}
 use Rattle.std.proofs.lemmas.Bool.{and_parts, cases_Bool}
 use Rattle.std.proofs.lemmas.Bool.Decides.{Decides-int_eq}
 use Rattle.std.proofs.lemmas.Int.{ints}
@@ -9,11 +8,6 @@ use Rattle.mf_rows.proofs.DotsLemmas.{weight_at-before}
 use Rattle.mf_gf.specs.Pixels.{black}
 use Rattle.mf_gf.proofs.BlackDots.{black-from}
 
--- after a dot there is no other one at the same pixel
-none_after : (low : ℤ) (d : Dot) (ds : List Dot) (x y : ℤ) → AreDotsFrom low (d ∷ ds)
-    → (int_eq d.x x && int_eq d.y y) ≡ true → weight_at (black ds) x y ≡ pos 0
-none_after low d ds x y dots at = grind (arith, ints, and_parts, Decides-int_eq, weight_at-before, black-from)
-
 -- 1 where a weight is positive, else 0
 abbrev pub is_black : ℤ → ℤ
 is_black w = if int_lt (pos 0) w then pos 1 else pos 0
@@ -21,4 +15,5 @@ is_black w = if int_lt (pos 0) w then pos 1 else pos 0
 pub black_at : (low : ℤ) (ds : List Dot) (x y : ℤ) → AreDotsFrom low ds → weight_at (black ds) x y ≡ is_black (weight_at ds x y)
 unfolding black weight_at
 black_at low [] x y dots = refl
-black_at low (d ∷ ds) x y dots = grind (arith, ints, cases_Bool, none_after, black_at (place d.x d.y +ℤ pos 1) ds x y dots.2)
+black_at low (d ∷ ds) x y dots =
+    grind (arith, ints, cases_Bool, and_parts, Decides-int_eq, weight_at-before, black-from, black_at (place d.x d.y +ℤ pos 1) ds x y dots.2)

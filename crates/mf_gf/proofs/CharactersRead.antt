@@ -1,5 +1,5 @@
 -- The characters of a file, read back from p to p.
-use Rattle.std.proofs.Common.{◌≡◌, ◌<◌, ◌≤◌, ◌==◌, ◌||◌, ℕ, Bool, false, ℤ, pos, if◌then◌else◌, List, [], ◌∷◌, ◌++◌, map, reverse, length, take}
+use Rattle.std.proofs.Common.{◌≡◌, ◌<◌, ◌≤◌, ◌==◌, ◌||◌, ℕ, Bool, ℤ, pos, if◌then◌else◌, List, [], ◌∷◌, ◌++◌, map, reverse, length, take}
 use Rattle.std.proofs.Common.{drop, Some, option_map, is_some, refl, ap, sym, subst, ◌∙◌, append_assoc, append-nil, length-append, eqb-true, arith}
 use Rattle.std.specs.List.{All, filter, list_any}
 use Rattle.std.proofs.Math.Seq.{drop-append_seam, take-append_seam}
@@ -74,17 +74,13 @@ pub all_before : (bytes more : List ℕ) (shipped : List Shipment) → AllStand 
 all_before bytes more [] stand = tt
 all_before bytes more (s ∷ shipped) stand = (stands_before bytes more s _ stand.0, all_before bytes more shipped stand.1)
 
-one_stands : (f : FileSoFar) (c : Character) → IsShippable c
-    → StandsAt (f.bytes ++ spell_after f c) (shipment_after f.bytes c) (pointer (last_place c.code f.shipped))
-one_stands f c shippable = grind (arith, ints, length-append, drop-append_seam, append-nil)
-
 stand_from : (f : FileSoFar) (cs : List Character) → All IsShippable cs → AllStand f.bytes f.shipped
     → AllStand (with_characters f cs).bytes (with_characters f cs).shipped
 unfolding with_characters
 stand_from f [] shippable stand = stand
 stand_from f (c ∷ cs) shippable stand =
     stand_from (with_character f c) cs (All-tail IsShippable c cs shippable)
-    (one_stands f c (All-head IsShippable c cs shippable), all_before f.bytes (spell_after f c) f.shipped stand)
+    (grind (arith, length-append, drop-append_seam, append-nil, All-head IsShippable c cs shippable), all_before f.bytes (spell_after f c) f.shipped stand)
 
 pub all_stand : (comment : List ℕ) (cs : List Character) → All IsShippable cs → AllStand (bytes_so_far comment cs) (shipments comment cs)
 all_stand comment cs shippable = stand_from _ cs shippable tt
@@ -174,21 +170,11 @@ characters_shipped comment cs = characters_with _ cs ∙ append-nil (reverse cs)
 abbrev pub has_last : ℕ → List Shipment → Bool
 has_last code shipped = is_some (last_shipment code shipped)
 
-has_last-cons : (code : ℕ) (s : Shipment) (shipped : List Shipment) → has_last code (s ∷ shipped) ≡ ((s.character.code == code) || has_last code shipped)
-unfolding last_shipment
-has_last-cons code s shipped = grind (arith, ints, split)
-
-or_swap : (a b c : Bool) → ((a || b) || c) ≡ (b || (a || c))
-or_swap a b c = grind arith
-
-or_none : (a : Bool) → a ≡ (a || false)
-or_none a = grind arith
-
 has_last-with : (code : ℕ) (f : FileSoFar) (cs : List Character)
     → has_last code (with_characters f cs).shipped ≡ (has_last code f.shipped || list_any (λ (c : Character). c.code == code) cs)
-unfolding with_characters
-has_last-with code f [] = or_none (has_last code f.shipped)
-has_last-with code f (c ∷ cs) = grind (arith, ints, has_last-cons, shipment_after, or_swap, has_last-with code (with_character f c) cs)
+unfolding with_characters last_shipment
+has_last-with code f [] = grind arith
+has_last-with code f (c ∷ cs) = grind (arith, ints, split, shipment_after, has_last-with code (with_character f c) cs)
 
 pub has_last-shipped : (code : ℕ) (comment : List ℕ) (cs : List Character)
     → has_last code (shipments comment cs) ≡ list_any (λ (c : Character). c.code == code) cs

@@ -1,8 +1,8 @@
 -- The pixels that stretches of black pixels, painted one after another, make black.
-use Rattle.std.proofs.Common.{◌≡◌, ℕ, ◌+◌, ◌-◌, ◌≤◌, true, false, ℤ, pos, ◌+ℤ◌, ◌-ℤ◌}
+use Rattle.std.proofs.Common.{◌≡◌, ℕ, ◌+◌, ◌-◌, ◌≤◌, true, false, ℤ, pos, ◌+ℤ◌, ◌-ℤ◌, ne_eqb, le-leb}
 use Rattle.std.proofs.Common.{◌≤ℤ◌, List, [], ◌∷◌, ◌++◌, Some, refl, sym, ap, ◌∙◌, append_assoc, arith}
 use Rattle.std.specs.List.{flat_map}
-use Rattle.std.proofs.lemmas.Bool.{cond_both, and_parts, leb-true, eqb-true}
+use Rattle.std.proofs.lemmas.Bool.{cond_both, and_parts, leb-true, eqb-true, lt-leb}
 use Rattle.std.proofs.lemmas.Bool.Decides.{Decides-int_eq}
 use Rattle.std.proofs.lemmas.Int.{ints}
 use Rattle.mf_geom.specs.Coordinates.{least_coordinate, greatest_coordinate, last_in_field}
@@ -10,9 +10,11 @@ use Rattle.mf_rows.specs.declared.run.Run.{Run}
 use Rattle.mf_rows.specs.Dots.{Dot}
 use Rattle.mf_rows.specs.Runs.{dots_of}
 use Rattle.mf_gf.specs.Format as gf
-use Rattle.mf_gf.specs.Painting.{Stroke, Paint, Skip, NewRow, Machine, pixels_of_strokes, pixels_from}
+use Rattle.mf_gf.specs.Painting.{Stroke, Paint, Skip, NewRow, Machine, pixels_of_strokes, pixels_from, read_stroke}
 use Rattle.mf_gf.specs.Spelling.{paint, skip, new_row, distance, approach, stretches_text}
-use Rattle.mf_gf.proofs.ReadBack.{Spells, spells_none, spells_one, spells_both, strokes-spelled, writes_paint, writes_skip, writes_new_row}
+use Rattle.mf_gf.proofs.ReadBack.{Spells, spells_one, spells_both, strokes-spelled, writes_paint}
+use Rattle.byteorder.specs.Numbers.{big_number-reads_back}
+use Rattle.std.proofs.lemmas.Iterator.Adapters.{option_map_id}
 
 -- a stretch of black pixels to which the machine can go from a position in the same row or above it
 pub record IsNext (left row column : ℤ) (r : Run) : Type 0 where
@@ -64,25 +66,25 @@ in_row left row column r next same =
 
 in_next_row : (left row column : ℤ) (r : Run) → IsNext left row column r → distance row r.y ≡ 1
     → distance r.x left ≤ gf.most_new_row → Approaches (white_at left row column) r (new_row (distance r.x left))
-unfolding pixels_of_strokes
+unfolding pixels_of_strokes read_stroke
 in_next_row left row column r next one few =
     let n = distance r.x left in
     record {
       commands = NewRow n ∷ [];
-      spelled = spells_one (new_row n) (NewRow n) (writes_new_row n few);
+      spelled = spells_one (new_row n) (NewRow n) (grind (arith, ints, lt-leb, ne_eqb, le-leb));
       drawn = λ others. drawn_run left (row -ℤ pos 1) (left +ℤ pos n) r others (omega (arith, ints, next, one)) (omega (arith, ints, next)) next.weight;
     }
 
 in_lower_row : (left row column : ℤ) (r : Run) → IsNext left row column r → (r.y ≡ row → ⊥)
     → Approaches (white_at left row column) r (skip (distance row r.y - 1) ++ paint (distance r.x left))
-unfolding pixels_of_strokes
+unfolding pixels_of_strokes skip read_stroke
 in_lower_row left row column r next other =
     let m = distance row r.y - 1 in
     let n = distance r.x left in
     record {
       commands = Skip m ∷ Paint n ∷ [];
       spelled = spells_both (skip m) (paint n) (Skip m ∷ []) (Paint n ∷ [])
-          (spells_one (skip m) (Skip m) (writes_skip m (omega (arith, ints, next))))
+          (spells_one (skip m) (Skip m) (grind (arith, ints, cond_both, eqb-true, big_number-reads_back)))
           (spells_one (paint n) (Paint n) (writes_paint n (omega (arith, ints, next))));
       drawn = λ others. drawn_run left (row -ℤ pos (m + 1)) (left +ℤ pos n) r others (omega (arith, ints, next, other)) (omega (arith, ints, next)) next.weight;
     }
@@ -99,7 +101,7 @@ record Draws (machine : Machine) (bytes : List ℕ) (ds : List Dot) : Type 0 whe
 draws_rows : (left row column : ℤ) (rs : List Run) → AreNext left row column rs
     → Draws (white_at left row column) (stretches_text left row column rs) (flat_map dots_of rs)
 unfolding stretches_text pixels_of_strokes
-draws_rows left row column [] next = record { commands = []; spelled = spells_none; drawn = refl }
+draws_rows left row column [] next = record { commands = []; spelled = grind (arith, ints, option_map_id); drawn = refl }
 draws_rows left row column (r ∷ rs) next =
     let first = approaches left row column r next.0 in
     let others = draws_rows left r.y (r.x +ℤ pos r.len) rs next.1 in

@@ -1,5 +1,5 @@
 -- Escapements that are a whole number of pixels.
-use Rattle.std.proofs.Common.{◌≡◌, ◌/◌, ◌%◌, ◌≤◌, Bool, true, false, ℕ, ℤ, pos, negsuc, Some, None, if◌then◌else◌, int_le, refl, ap, arith}
+use Rattle.std.proofs.Common.{◌≡◌, ◌/◌, ◌%◌, Bool, true, false, ℕ, ℤ, pos, negsuc, Some, None, if◌then◌else◌, int_le, refl, ap, arith}
 use Rattle.std.specs.Ordering.{int_eq}
 use Rattle.std.proofs.lemmas.Bool.{and_parts, cond-true}
 use Rattle.std.proofs.lemmas.Int.{ints}
@@ -19,22 +19,13 @@ is_whole n = int_eq (pos (n % unity)) (pos 0)
 abbrev is_small : ℕ → Bool
 is_small n = int_le (pos (n / unity)) (pos greatest_byte)
 
-whole_rest : (n : ℕ) → is_whole n ≡ true → n % unity ≡ 0
-whole_rest n test = grind (arith, ints)
-
-small_quotient : (n : ℕ) → is_small n ≡ true → n / unity ≤ greatest_byte
-small_quotient n test = grind (arith, ints)
-
 pub short_dx-is : (dx : ℤ) (pixels : ℕ) → short_dx dx ≡ Some pixels → IsShortDx dx pixels
-short_dx-is (pos n) pixels short = grind (arith, ints, some_from_test, and_parts, whole_rest, small_quotient)
+short_dx-is (pos n) pixels short = grind (arith, ints, some_from_test, and_parts)
 short_dx-is (negsuc n) pixels short = absurd (cc)
 
 passes_whole : (n : ℕ) → n % unity ≡ 0 → is_whole n ≡ true
 passes_whole n rest = ap (λ r. int_eq (pos r) (pos 0)) rest
 
-passes_small : (n : ℕ) → n / unity ≤ greatest_byte → is_small n ≡ true
-passes_small n fits = grind (arith, ints)
-
 pub is_short_dx : (dx : ℤ) (pixels : ℕ) → IsShortDx dx pixels → short_dx dx ≡ Some pixels
-is_short_dx (pos n) pixels short = grind (arith, ints, passes_whole, passes_small, cond-true)
+is_short_dx (pos n) pixels short = grind (arith, ints, passes_whole, cond-true)
 is_short_dx (negsuc n) pixels short = absurd (omega (arith, ints, short.whole))

@@ -25,15 +25,11 @@ box_fits c shippable =
     let range = box_in_range c.black shippable.black.picture in
     omega (arith, ints, range.columns.0, range.columns.1, range.rows.0, range.rows.1)
 
-join_fits : (a b : CharacterBox) → FitsWords a → FitsWords b → FitsWords (join a b)
-join_fits a b first second = grind (arith, ints, either_min, either_max)
-
 pub all_fit : (c : Character) (cs : List Character) → All IsShippable (c ∷ cs) → FitsWords (box_of_all (c ∷ cs))
 unfolding box_of_all
 all_fit c [] each = box_fits c (All-head IsShippable c [] each)
 all_fit c (d ∷ cs) each =
-    join_fits (box_of_character c) (box_of_all (d ∷ cs)) (box_fits c (All-head IsShippable c (d ∷ cs) each))
-    (all_fit d cs (All-tail IsShippable c (d ∷ cs) each))
+    grind (arith, ints, either_min, either_max, box_fits c (All-head IsShippable c (d ∷ cs) each), all_fit d cs (All-tail IsShippable c (d ∷ cs) each))
 
 -- ---- it is the least one around the boxes
 
@@ -45,15 +41,6 @@ any_later P c cs some =
 any_first : (P : Character → Type 0) (c : Character) (cs : List Character) → P c → Any P (c ∷ cs)
 any_first P c cs this = (0, c, omega arith, refl, this)
 
-within_itself : (b : CharacterBox) → IsWithin b b
-within_itself b = omega (arith, ints)
-
-within_first : (a b : CharacterBox) → IsWithin (join a b) a
-within_first a b = omega (arith, ints, clamps)
-
-within_second : (a b inner : CharacterBox) → IsWithin b inner → IsWithin (join a b) inner
-within_second a b inner inside = omega (arith, ints, clamps, inside)
-
 least_of_more : (c : Character) (cs : List Character) (b : CharacterBox) → IsLeastAround cs b → IsLeastAround (c ∷ cs) (join (box_of_character c) b)
 least_of_more c cs b least =
     let own = box_of_character c in
@@ -64,19 +51,16 @@ least_of_more c cs b least =
     let min_n = At (λ it. it.min_n) in
     let max_n = At (λ it. it.max_n) in
     record {
-      within = All-cons (λ (d : Character). IsWithin (join own b) (box_of_character d)) c cs (within_first own b)
+      within = All-cons (λ (d : Character). IsWithin (join own b) (box_of_character d)) c cs (omega (arith, ints, clamps))
           (All-weaker (λ (d : Character). IsWithin b (box_of_character d)) (λ (d : Character). IsWithin (join own b) (box_of_character d))
-          (λ d. within_second own b (box_of_character d)) cs least.within);
+          (λ d inside. omega (arith, ints, clamps, inside)) cs least.within);
       left = either_min (λ m. Any (min_m m) all) own.min_m b.min_m (any_first (min_m own.min_m) c cs refl) (any_later (min_m b.min_m) c cs least.left);
       right = either_max (λ m. Any (max_m m) all) own.max_m b.max_m (any_first (max_m own.max_m) c cs refl) (any_later (max_m b.max_m) c cs least.right);
       bottom = either_min (λ n. Any (min_n n) all) own.min_n b.min_n (any_first (min_n own.min_n) c cs refl) (any_later (min_n b.min_n) c cs least.bottom);
       top = either_max (λ n. Any (max_n n) all) own.max_n b.max_n (any_first (max_n own.max_n) c cs refl) (any_later (max_n b.max_n) c cs least.top);
     }
 
-least_of_one : (c : Character) → IsLeastAround (c ∷ []) (box_of_character c)
-least_of_one c = grind (arith, ints, All-cons, within_itself, All-nil, any_first)
-
 pub least_of_all : (c : Character) (cs : List Character) → IsLeastAround (c ∷ cs) (box_of_all (c ∷ cs))
 unfolding box_of_all
-least_of_all c [] = least_of_one c
+least_of_all c [] = grind (arith, ints, All-cons, All-nil, any_first)
 least_of_all c (d ∷ cs) = least_of_more c (d ∷ cs) (box_of_all (d ∷ cs)) (least_of_all d cs)

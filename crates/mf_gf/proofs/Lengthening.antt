@@ -48,9 +48,6 @@ dots_of-joined : (r s : Run) → r.weight ≡ s.weight → IsAdjacent r s → do
 unfolding dots_of
 dots_of-joined r s weight next = rw (weight, next.row, next.column) (equal_dots-joined r.y r.x s.weight r.len s.len)
 
-lengthened_run : (r s : Run) → IsRun r → IsRun s → IsAdjacent r s → IsRun (with_more r s)
-lengthened_run r s run further next = omega (arith, ints, run, further, next)
-
 -- such a run lengthens the stretch
 pub lengthened : (all : List Run) (r s : Run) (rs : List Run) → IsAdjacent r s → IsBegun all r (s ∷ rs) → IsBegun all (with_more r s) rs
 unfolding place
@@ -65,7 +62,7 @@ lengthened all r s rs next so_far =
     let others = subst (λ low. AreRunsFrom low rs) end runs.2.2 in
     record {
       blacks = record {
-        order = record { runs = (lengthened_run r s runs.0 runs.2.0 next, runs.1, others) };
+        order = record { runs = (omega (arith, ints, runs.0, runs.2.0, next), runs.1, others) };
         ones = All-cons IsBlack (with_more r s) rs one (All-tail IsBlack s rs ones);
       };
       same = dots ∙ so_far.same;
@@ -83,15 +80,11 @@ stretch_first all r rs maximal so_far =
     ap runs_of (sym so_far.same ∙ ap (λ others. dots_of r ++ others) (sym (dots_of-runs_of dots)))
     ∙ runs_of-dots_of (r ∷ runs_of dots) some maximal
 
-maximal_before : (r : Run) (d : Dot) (ds : List Dot) → (IsFollowedBy r (run_from d 0) → ⊥) → AreMaximal (r ∷ runs_of (d ∷ ds))
-unfolding run_from
-maximal_before r d ds apart = grind (arith, ints, runs_of-first, maximal_runs_of)
-
 maximal_apart : (r : Run) (y x w : ℤ) (n : ℕ) (ds : List Dot) → 1 ≤ n → (IsFollowedBy r (record { y = y; x = x; len = n; weight = w }) → ⊥)
     → AreMaximal (r ∷ runs_of (equal_dots y x w n ++ ds))
 unfolding equal_dots run_from
 maximal_apart r y x w zero ds some apart = absurd (omega arith)
-maximal_apart r y x w (suc n) ds some apart = grind (arith, ints, maximal_before)
+maximal_apart r y x w (suc n) ds some apart = grind (arith, ints, runs_of-first, maximal_runs_of)
 
 ended_before : (all : List Run) (r s : Run) (rs : List Run) → (IsAdjacent r s → ⊥) → IsBegun all r (s ∷ rs)
     → runs_of (flat_map dots_of all) ≡ r ∷ runs_of (flat_map dots_of (s ∷ rs))

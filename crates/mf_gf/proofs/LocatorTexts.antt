@@ -1,11 +1,9 @@
 -- The bytes of locators, one code more at a time.
-use Rattle.std.proofs.Common.{◌≡◌, ◌+◌, ◌<◌, ℕ, zero, suc, List, [], ◌∷◌, ◌++◌, Option, None, Some, option_map, length}
-use Rattle.std.proofs.Common.{slice_index_or, set, take, refl, ap, ap₂, sym, subst, ◌∙◌, append_assoc, eq-eqb, arith}
-use Rattle.std.proofs.lemmas.Int.{ints}
+use Rattle.std.proofs.Common.{◌≡◌, ◌+◌, ◌<◌, ℕ, zero, suc, List, [], ◌∷◌, ◌++◌, Option, None, option_map, length}
+use Rattle.std.proofs.Common.{slice_index_or, take, refl, ap, ap₂, sym, subst, ◌∙◌, append_assoc, arith}
 use Rattle.std.specs.List.{flat_map}
-use Rattle.std.proofs.lemmas.Bool.{cond_both, eqb-true}
 use Rattle.std.proofs.lemmas.Grind.{flat_map-append}
-use Rattle.std.proofs.lemmas.List.{append-nil, take_more, get_or-set_same, get_or-set_other}
+use Rattle.std.proofs.lemmas.List.{append-nil, take_more}
 use Rattle.mf_gf.specs.declared.locator.Locator.{Locator}
 use Rattle.mf_gf.specs.declared.locators.Locators.{Locators}
 use Rattle.mf_gf.specs.declared.spelling.Spelling.{Spelling}
@@ -51,10 +49,3 @@ lasts_text shipped (last ∷ items) code (suc n) same lasts =
 pub table_text-is : (table : Locators) (shipped : List Shipment) → HasLastLocators table shipped → table_text table ≡ locators_from 0 code_count shipped
 table_text-is table shipped lasts =
     lasts_text shipped table.by_code.items 0 code_count table.all (λ i within. lasts.last i within ∙ ap (λ c. last_locator c shipped) (omega arith))
-
--- one more character is the last one with its code
-pub lasts-set : (items : List (Option Locator)) (s : Shipment) (shipped : List Shipment) → length items ≡ code_count → s.character.code < code_count
-    → ((code : ℕ) → code < code_count → slice_index_or items code None ≡ last_locator code shipped)
-    → (code : ℕ) → code < code_count → slice_index_or (set items s.character.code (Some (locator_of s))) code None ≡ last_locator code (s ∷ shipped)
-unfolding last_shipment
-lasts-set items s shipped same fits lasts code code_fits = grind (arith, ints, cond_both, eqb-true, get_or-set_same, get_or-set_other, eq-eqb)

@@ -108,18 +108,12 @@ pub record IsLastFrom (shipped : List Shipment) (code : ℕ) (l : Locator) : Typ
   pub is : l ≡ locator_of shipment
   pub last : last_shipment l.code shipped ≡ Some shipment
 
-one_last : (shipped : List Shipment) (code : ℕ) (s : Shipment) → last_shipment code shipped ≡ Some s → IsLastFrom shipped code (locator_of s)
-one_last shipped code s is = grind (arith, ints, last_shipment-code)
-
-later_too : (shipped : List Shipment) (code : ℕ) (others : List Locator) → All (IsLastFrom shipped (code + 1)) others → All (IsLastFrom shipped code) others
-later_too shipped code others = grind (arith, ints, All-weaker)
-
 with_one : (shipped : List Shipment) (code : ℕ) (last : Option Shipment) (others : List Locator)
     → last_shipment code shipped ≡ last → All (IsLastFrom shipped (code + 1)) others
     → All (IsLastFrom shipped code) (with_last last others)
-with_one shipped code None others is later = later_too shipped code others later
+with_one shipped code None others is later = grind (arith, ints, All-weaker)
 with_one shipped code (Some s) others is later =
-    All-cons (IsLastFrom shipped code) (locator_of s) others (one_last shipped code s is) (later_too shipped code others later)
+    All-cons (IsLastFrom shipped code) (locator_of s) others (grind (arith, ints, last_shipment-code)) (grind (arith, ints, All-weaker))
 
 pub lasts_are_last : (shipped : List Shipment) (code n : ℕ) → All (IsLastFrom shipped code) (lasts_from code n shipped)
 unfolding lasts_from

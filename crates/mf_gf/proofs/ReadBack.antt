@@ -1,14 +1,13 @@
 -- The bytes of painting commands, read back.
 use Rattle.std.proofs.Common.{◌≡◌, ℕ, zero, suc, ◌+◌, ◌-◌, ◌≤◌, List, [], ◌∷◌, ◌++◌, length, Option, None, Some}
-use Rattle.std.proofs.Common.{option_map, refl, sym, ap, ◌∙◌, append_assoc, append-nil, length-append, arith, le-leb, ne_eqb}
+use Rattle.std.proofs.Common.{option_map, refl, sym, ap, ◌∙◌, append_assoc, append-nil, length-append, arith}
 use Rattle.std.proofs.lemmas.Int.{ints}
-use Rattle.std.proofs.lemmas.Bool.{cond-true, cond_both, lt-leb, eqb-true}
-use Rattle.std.proofs.lemmas.Iterator.Adapters.{option_map_id}
+use Rattle.std.proofs.lemmas.Bool.{cond-true, cond_both}
 use Rattle.byteorder.specs.Numbers.{big_number-reads_back}
 use Rattle.mf_gf.specs.Format as gf
 use Rattle.mf_gf.specs.Numbers.{greatest_halfword}
-use Rattle.mf_gf.specs.Painting.{Stroke, Paint, Skip, NewRow, Read, with_bytes, read_stroke, strokes_at_end, strokes_within, strokes}
-use Rattle.mf_gf.specs.Spelling.{with_parameter, paint, skip, new_row}
+use Rattle.mf_gf.specs.Painting.{Stroke, Paint, Read, read_stroke, strokes_at_end, strokes_within, strokes}
+use Rattle.mf_gf.specs.Spelling.{paint}
 
 -- what is read where these bytes begin with a command
 abbrev read_as : Stroke → List ℕ → Option Read
@@ -19,33 +18,15 @@ pub record IsCommand (bytes : List ℕ) (stroke : Stroke) : Type 0 where
   pub some : 1 ≤ length bytes
   pub read : (rest : List ℕ) → read_stroke (bytes ++ rest) ≡ read_as stroke rest
 
--- a parameter of one or two bytes after the opcodes of a command is read back
-writes_parameter : (command : ℕ → Stroke) (opcode n : ℕ) → n ≤ greatest_halfword
-    → ((bytes : List ℕ) → read_stroke (opcode ∷ bytes) ≡ Some (with_bytes command 1 bytes))
-    → ((bytes : List ℕ) → read_stroke ((opcode + 1) ∷ bytes) ≡ Some (with_bytes command 2 bytes))
-    → IsCommand (with_parameter opcode n) (command n)
-writes_parameter command opcode n fits one two = grind (arith, ints, cond_both, big_number-reads_back)
-
 pub writes_paint : (n : ℕ) → n ≤ greatest_halfword → IsCommand (paint n) (Paint n)
 unfolding paint read_stroke
-writes_paint n fits = grind (arith, ints, cond_both, cond-true, writes_parameter)
-
-pub writes_skip : (n : ℕ) → n ≤ greatest_halfword → IsCommand (skip n) (Skip n)
-unfolding skip read_stroke
-writes_skip n fits = grind (arith, ints, cond_both, eqb-true, writes_parameter)
-
-pub writes_new_row : (n : ℕ) → n ≤ gf.most_new_row → IsCommand (new_row n) (NewRow n)
-unfolding read_stroke
-writes_new_row n fits = grind (arith, ints, lt-leb, ne_eqb, le-leb)
+writes_paint n fits = grind (arith, ints, cond_both, cond-true, big_number-reads_back)
 
 -- these bytes are read as these commands, whatever comes after them
 pub record Spells (bytes : List ℕ) (commands : List Stroke) : Type 0 where
   pub few : length commands ≤ length bytes
   pub read : (m n : ℕ) (rest : List ℕ) → m ≡ length commands + n
       → strokes_within m (bytes ++ rest) ≡ option_map (λ others. commands ++ others) (strokes_within n rest)
-
-pub spells_none : Spells [] []
-spells_none = grind (arith, ints, option_map_id)
 
 -- the commands from one on, where n more of them may be read
 abbrev from_read : ℕ → Option Read → Option (List Stroke)

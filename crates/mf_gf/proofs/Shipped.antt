@@ -1,15 +1,15 @@
 -- The characters of a file, with one more at the end.
-use Rattle.std.proofs.Common.{◌≡◌, ◌≤◌, ℕ, ℤ, List, [], ◌∷◌, ◌++◌, Option, Some, length, refl, ap, ◌∙◌, append_assoc, length-append, arith}
+use Rattle.std.proofs.Common.{◌≡◌, ◌≤◌, ℕ, ℤ, List, [], ◌∷◌, ◌++◌, Some, length, refl, ap, ◌∙◌, append_assoc, length-append, arith}
 use Rattle.std.proofs.lemmas.Int.{ints}
 use Rattle.mf_rows.specs.Dots.{Dot}
 use Rattle.mf_gf.specs.declared.file.FontWords.{FontWords}
 use Rattle.mf_gf.specs.declared.file.GfFile.{GfFile}
 use Rattle.mf_gf.specs.Boxes.{box_of_pixels, join, widen}
 use Rattle.mf_gf.specs.Files.{Character, FileSoFar, Shipment, body, box_of_all, bytes_so_far, ending, file_of, file_so_far}
-use Rattle.mf_gf.specs.Files.{last_place, locator_of, locators_from, post_text, shipments, spell_after, with_character, with_characters}
+use Rattle.mf_gf.specs.Files.{locator_of, locators_from, post_text, shipments, spell_after, with_character, with_characters}
 use Rattle.mf_gf.specs.Keeping.{IsAppended, Keeps, bounds_of}
 use Rattle.mf_gf.specs.Numbers.{code_count}
-use Rattle.mf_gf.specs.Spelling.{pointer, spell}
+use Rattle.mf_gf.specs.Spelling.{spell}
 use Rattle.mf_gf.proofs.BlackBoxes.{join-assoc}
 
 -- the bytes of a character are not empty
@@ -28,11 +28,6 @@ file_so_far-more comment cs c = with_characters-more _ cs c
 pub bytes_so_far-more : (comment : List ℕ) (cs : List Character) (c : Character)
     → bytes_so_far comment (cs ++ c ∷ []) ≡ bytes_so_far comment cs ++ spell_after (file_so_far comment cs) c
 bytes_so_far-more comment cs c = ap (λ (f : FileSoFar). f.bytes) (file_so_far-more comment cs c)
-
--- the bytes kept, with those of one more character, whose p is this earlier place
-pub bytes_so_far-kept : (file : GfFile) (comment : List ℕ) (cs : List Character) (c : Character) (earlier : Option ℕ) → Keeps file comment cs
-    → earlier ≡ last_place c.code (shipments comment cs) → bytes_so_far comment (cs ++ c ∷ []) ≡ file.bytes.items ++ spell c.code (pointer earlier) c.black
-bytes_so_far-kept file comment cs c earlier keeps is = grind (arith, ints, bytes_so_far-more)
 
 -- the shipment of a character after these bytes
 abbrev pub shipment_after : List ℕ → Character → Shipment

@@ -1,12 +1,12 @@
 -- Boxes that fit into one-byte fields.
-use Rattle.std.proofs.Common.{◌≡◌, ◌&&◌, Bool, true, false, ℤ, pos, negsuc, ◌-ℤ◌, ◌≤ℤ◌, int_le, nat_abs, Fits, w8, arith}
+use Rattle.std.proofs.Common.{◌≡◌, ◌&&◌, Bool, true, false, ℤ, pos, negsuc, ◌-ℤ◌, ◌≤ℤ◌, nat_abs, Fits, w8, arith}
 use Rattle.std.specs.Prelude.{T}
 use lib.Signed.{non_neg}
 use Rattle.std.proofs.lemmas.Bool.{and_parts}
 use Rattle.std.proofs.lemmas.Int.{ints}
 use Rattle.mf_gf.specs.declared.boxes.CharacterBox.{CharacterBox}
 use Rattle.mf_gf.specs.Numbers.{greatest_byte}
-use Rattle.mf_gf.specs.Spelling.{is_byte, is_short}
+use Rattle.mf_gf.specs.Spelling.{is_short}
 
 -- what the tests `is_byte` and `is_short` find, as the bounds that a proof by `omega` takes
 pub record IsByte (z : ℤ) : Type 0 where
@@ -19,14 +19,8 @@ pub record IsShortBox (b : CharacterBox) : Type 0 where
   pub height : IsByte (b.max_n -ℤ b.min_n)
   pub top : IsByte b.max_n
 
-le_from_test : (a b : ℤ) → int_le a b ≡ true → a ≤ℤ b
-le_from_test a b test = grind (arith, ints)
-
-byte_from_test : (z : ℤ) → is_byte z ≡ true → IsByte z
-byte_from_test z test = grind (arith, ints, and_parts, le_from_test)
-
 pub short_box : (b : CharacterBox) → is_short b ≡ true → IsShortBox b
-short_box b test = grind (arith, ints, and_parts, byte_from_test)
+short_box b test = grind (arith, ints, and_parts)
 
 -- the value of `x && y`, where y is evaluated only if x is true
 pub and_then : (x y a b : Bool) → x ≡ true → x ≡ a → y ≡ b → y ≡ (a && b)

@@ -36,10 +36,6 @@ pub record AreSpelled (before out : Spelling) (text : List ℕ) (c : Coming) : T
   pub row_in_range : IsCoordinate c.row
   pub column_in_range : IsCoordinate c.column
 
-pub none_spelled : (before : Spelling) (c : Coming) → All IsRun c.runs → IsCoordinate c.row → IsCoordinate c.column
-    → AreSpelled before before (text_of c) c
-none_spelled before c runs row_in_range column_in_range = grind (arith, ints, append-nil)
-
 module _ (before out : Spelling) (text : List ℕ) (c : Coming) where
   pub next_is_run : (r : Run) (others : List Run) → c.runs ≡ r ∷ others → AreSpelled before out text c → IsRun r
   next_is_run r others first so_far = All-head IsRun r others (All-same IsRun (r ∷ others) c.runs (sym first) so_far.runs)

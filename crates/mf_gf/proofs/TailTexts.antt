@@ -29,19 +29,12 @@ pub too_long_after : {P : Type 0} (room max_bytes : ℕ) (before text : List ℕ
     → (room < length text) ↔ P → (max_bytes < length (before ++ text)) ↔ P
 too_long_after room max_bytes before text is fits = grind (arith, ints, length-append)
 
--- a file, split after its characters
-split_file : (characters post locators : List ℕ) (last : ℕ → List ℕ)
-    → characters ++ post ++ locators ++ last (length (characters ++ post ++ locators))
-    ≡ characters ++ (post ++ locators ++ last (length characters + length (post ++ locators)))
-split_file characters post locators last = grind (arith, ints, append_assoc, length-append)
-
 file_of-tail : (words : FontWords) (comment : List ℕ) (cs : List Character)
     → file_of words comment cs
     ≡ bytes_so_far comment cs ++ tail_of words (box_of_all cs) (bytes_so_far comment cs) (locators_from 0 code_count (shipments comment cs))
 unfolding file_of tail_of
 file_of-tail words comment cs =
-    split_file (bytes_so_far comment cs) (post_text words (box_of_all cs) (length (bytes_so_far comment cs)))
-    (locators_from 0 code_count (shipments comment cs)) (ending (length (bytes_so_far comment cs)))
+    grind (arith, ints, append_assoc, length-append)
 
 box_of_all-some : (cs : List Character) (b : CharacterBox) → bounds_of cs ≡ Some b → box_of_all cs ≡ b
 box_of_all-some [] b is = absurd (cc)

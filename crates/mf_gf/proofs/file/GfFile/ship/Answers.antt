@@ -4,7 +4,7 @@ use Rattle.mf_gf.specs.Files.{Character, bytes_so_far, shipments}
 use Rattle.mf_gf.specs.Keeping.{Keeps, character}
 use Rattle.mf_gf.specs.Pixels.{black}
 use Rattle.mf_gf.specs.Spelling.{pointer, spell}
-use Rattle.mf_gf.proofs.Shipped.{bytes_so_far-kept, keeps-more, spell_some}
+use Rattle.mf_gf.proofs.Shipped.{keeps-more, spell_some, bytes_so_far-more}
 use Rattle.mf_gf.proofs.file.GfFile.ship.Goals.{After-last_place-earlier}
 use Rattle.mf_gf.proofs.file.GfFile.ship.Goals as goal
 
@@ -25,8 +25,7 @@ whole : (c : After-last_place-earlier) (comment : List ℕ) (characters : List C
     → bytes_so_far comment (characters ++ character c.args.code c.args.dx c.args.width c.args.picture.now ∷ [])
     ≡ c.args.self.now.bytes.items ++ spell c.args.code (pointer c.last_place-earlier.result) (black c.args.picture.now)
 whole c comment characters keeps =
-    bytes_so_far-kept c.args.self.now comment characters (character c.args.code c.args.dx c.args.width c.args.picture.now) c.last_place-earlier.result
-    keeps (c.last_place-earlier.ensures (shipments comment characters) keeps.locators)
+    grind (arith, ints, bytes_so_far-more, c.last_place-earlier.ensures (shipments comment characters) keeps.locators)
 
 pub returns-in_err-spelled-clause-too_long : goal.returns-in_err-spelled-clause-too_long
 returns-in_err-spelled-clause-too_long c = λ comment characters keeps.
