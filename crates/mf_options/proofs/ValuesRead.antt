@@ -22,7 +22,7 @@ use Rattle.clap.specs.declared.builder.value_parser.ValueParser.{ValueParser}
 use Rattle.clap.specs.declared.builder.value_parser.ValueParser.TheVariants as parser
 use Rattle.clap.specs.declared.parser.matches.ArgMatches.{ArgMatches}
 use Rattle.clap.specs.declared.parser.matches.MatchedArg.{MatchedArg}
-use Rattle.mf_options.proofs.ValuesTyped.{flag_text, in_range}
+use Rattle.mf_options.proofs.ValuesTyped.{in_range}
 use Rattle.mf_options.specs.Values.{AreValuesOf, IsFlagText, IsNumberIn, IsValueOf, have_parser, is_option, is_parser}
 
 is_parser-same : (q : ValueParser) (o : Option ValueParser) → is_parser q o ≡ true → o ≡ Some q
@@ -34,9 +34,6 @@ parts_of : (rules : List Rule) (id : Text) (q : ValueParser) → is_option rules
     → (have_parser id q rules ≡ true) × (not (bytes_eq id (codes "help")) ≡ true) × (not (bytes_eq id (codes "version")) ≡ true)
     × (not (bytes_eq id []) ≡ true)
 parts_of rules id q ok = grind (arith, both)
-
-differs : (a b : Text) → not (bytes_eq a b) ≡ true → bytes_eq b b ≡ true → a ≡ b → ⊥
-differs a b other self same = grind (arith)
 
 found_at : (id : Text) (q : ValueParser) (xs : List Arg) → have_parser id q (map rule_of xs) ≡ true
     → (j : ℕ) (e : Arg) → j < length xs → bytes_eq (slice_index_or xs j e).id.now id ≡ true
@@ -58,7 +55,7 @@ IsAccepted q t = (raw : Text) × (t ≡ read_as (reading_of q) raw) × (any_case
 
 accepted-value : (q : ValueParser) (t : Text) → IsAccepted q t → IsValueOf q t
 accepted-value (parser.Signed (pos low) (pos high)) t got = subst (IsNumberIn low high) (sym got.1) (in_range low high got.0 got.3)
-accepted-value parser.Bool t got = subst IsFlagText (sym got.1) (flag_text got.0 got.3)
+accepted-value parser.Bool t got = subst IsFlagText (sym got.1) (grind (arith, bytes_eq-Decides, got.3))
 accepted-value _ t got = tt
 
 module _ (c : Command) (m : ArgMatches) (p : IsParsedFrom c m) (plain : (shape_of c).is_plain ≡ true) (simple : all_simple (shape_of c).rules ≡ true) where
@@ -85,13 +82,13 @@ module _ (c : Command) (m : ArgMatches) (p : IsParsedFrom c m) (plain : (shape_o
           | inr over ↦
               let auto : IsAuto a = subst IsAuto at (p.from.extra j a over lt) in
               elim auto [
-                | inl help ↦ absurd (differs id (codes "help") parts.1 refl (sym is ∙ help))
-                | inr version ↦ absurd (differs id (codes "version") parts.2 refl (sym is ∙ version))
+                | inl help ↦ absurd (grind (arith, parts.1, sym is ∙ help))
+                | inr version ↦ absurd (grind (arith, parts.2, sym is ∙ version))
               ]
         ]
 
     named : id ≡ [] → ⊥
-    named empty = differs id [] (parts_of (shape_of c).rules id q ok).3 refl empty
+    named empty = grind (arith, (parts_of (shape_of c).rules id q ok).3)
 
     of_value : (how : Reading) → how ≡ reading_of q → (t : Text)
         → (v : Bor Text) × (t ≡ read_as how v.now) × PassesArg p.built id v.now → IsAccepted q t

@@ -1,9 +1,8 @@
 -- From the texts that clap's parsers accept to numbers and flags, and from these to what the typed getters give.
-use Rattle.std.proofs.Common.{◌≡◌, ◌∙◌, ◌<◌, ◌≤◌, ◌||◌, ◌^◌, ℕ, Bool, cond, IfSome, List, [], ◌∷◌, None, Ok, Err, Option}
-use Rattle.std.proofs.Common.{Result, Some, arith, bytes_eq, codes, drop, false, pos, refl, subst, sym, true, unwrap_or}
+use Rattle.std.proofs.Common.{◌≡◌, ◌∙◌, ◌<◌, ◌≤◌, ◌^◌, ℕ, Bool, cond, IfSome, List, [], ◌∷◌, None, Ok, Err, Option}
+use Rattle.std.proofs.Common.{Result, Some, arith, drop, false, pos, refl, subst, sym, true, unwrap_or}
 use Rattle.std.proofs.lemmas.Bool.{ne_eqb}
 use Rattle.std.proofs.lemmas.Int.{ints}
-use Rattle.std.proofs.lemmas.Slice.Eq.{bytes_eq-Decides}
 use Rattle.std.proofs.lemmas.Str.Parse.{digit_from_value}
 use Rattle.std.specs.Str.Parse.{IsNumeral, ParsesUnsigned, starts_with_minus, without_leading_plus}
 use Rattle.clap.proofs.WalkLemmas.{one_text-rows}
@@ -11,7 +10,7 @@ use Rattle.clap.specs.Matches.{ReadsOne}
 use Rattle.clap.specs.Values.{IsSignedIn}
 use Rattle.clap.specs.Words.{Row, Text, one_of, one_text, rows_of, without_minus}
 use Rattle.clap.specs.declared.parser.matches.Found.{Found}
-use Rattle.mf_options.specs.Values.{IsFlagText, IsNumber, IsNumberIn, has_flag, number_in, written_number}
+use Rattle.mf_options.specs.Values.{IsNumber, IsNumberIn, number_in, written_number}
 
 without_minus_is : (t : Text) → without_minus t ≡ cond (starts_with_minus t) (drop 1 t) t
 without_minus_is [] = refl
@@ -38,9 +37,6 @@ in_range low high raw passed = subst (IsNumberIn low high) (sym (without_minus_i
         let numeral : IsNumeral 10 (without_leading_plus raw) = rw minus at passed.0 in
         rw minus (numeral, omega (arith, ints), omega (arith, ints))
 
-pub flag_text : (raw : Text) → (bytes_eq raw (codes "true") || bytes_eq raw (codes "false")) ≡ true → IsFlagText raw
-flag_text raw passed = grind (arith, ints, bytes_eq-Decides)
-
 -- a number in a range of 32 bits is a number of 32 bits
 pub is_number : (low high : ℕ) (o : Option Text) → high < 2 ^ 32 → IfSome o (IsNumberIn low high) → IfSome o IsNumber
 is_number low high None fits given = given
@@ -65,9 +61,3 @@ number_read E G f id default r none some only given = go (one_of id (rows_of f))
     go : (o : Option Text) → one_of id (rows_of f) ≡ o → IfSome o IsNumber → unwrap_or r default ≡ number_in (rows_of f) id default
     go None e has = rw (e, none (one_text-rows f id ∙ e)) refl
     go (Some t) e has = rw e (of_text t r has (some t (one_text-rows f id ∙ e)))
-
--- what `get_flag` reads
-pub flag_read : (f : Found) (id : Text) (r : Bool) → (one_text f id ≡ None → r ≡ false) → (one_text f id ≡ Some (codes "true") → r ≡ true)
-    → (one_text f id ≡ Some (codes "false") → r ≡ false)
-    → IfSome (one_of id (rows_of f)) IsFlagText → r ≡ has_flag (rows_of f) id
-flag_read f id r none set unset given = grind (arith, ints, one_text-rows)

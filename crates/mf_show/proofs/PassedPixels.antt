@@ -10,13 +10,12 @@ use Rattle.mf_rows.specs.Boxes.{IsBoxOfField}
 use Rattle.mf_rows.specs.Dots.{Dot, IsPicture, place, weight_at}
 use Rattle.mf_rows.specs.Order.{AreRuns, IsRun}
 use Rattle.mf_rows.specs.Runs.{dots_of, runs_of, with_next}
-use Rattle.mf_rows.proofs.DotsLemmas.{weight_at-before}
-use Rattle.mf_rows.proofs.RunDots.{IsOnRun, before_equal_dots-end, dots_from-runs, runs-rest}
-use Rattle.mf_rows.proofs.RunDots.{weight_at-on_run, weight_at-off_run, weight_at-append_after, weight_at-append_none}
+use Rattle.mf_rows.proofs.RunDots.{IsOnRun, before_equal_dots-end, runs-rest}
+use Rattle.mf_rows.proofs.RunDots.{weight_at-on_run, weight_at-off_run, weight_at-append_after}
 use Rattle.mf_rows.proofs.RunsLemmas.{dots_of-runs_of, with_next-some}
 use Rattle.mf_rows.proofs.PassedRuns.{ordered_runs_of}
 use Rattle.mf_show.specs.Grid.{shown_at, shown_row}
-use Rattle.mf_show.specs.RunsAhead.{AreSameFrom, IsNotBefore}
+use Rattle.mf_show.specs.RunsAhead.{AreSameFrom}
 
 -- ---- the weight that a run gives to a pixel
 
@@ -33,11 +32,6 @@ weight_off r x y off = sym (weight_at-off_run [] r x y off)
 same_after : (r : Run) (rs : List Run) (p : ℤ) → place (r.x +ℤ pos r.len) r.y ≤ℤ p → AreSameFrom p (flat_map dots_of (r ∷ rs)) (flat_map dots_of rs)
 unfolding dots_of
 same_after r rs p end = grind (arith, ints, before_equal_dots-end, weight_at-append_after)
-
--- a pixel that the first run does not end before has the weight that this run gives to it
-weight_reached : (r : Run) (rs : List Run) (x y : ℤ) → AreRuns (r ∷ rs) → IsNotBefore x y r
-    → weight_at (dots_of r) x y ≡ weight_at (flat_map dots_of (r ∷ rs)) x y
-weight_reached r rs x y ordered reached = grind (arith, ints, weight_at-before, dots_from-runs, sym, weight_at-append_none)
 
 -- ---- what a walk has ahead
 
@@ -112,11 +106,6 @@ ahead_below b y ds rs others box =
     (omega (arith, ints)) (omega (arith, ints, box.left, box.right))
 
 -- ---- the weight of the pixel (x, y), where the first run ahead reaches it
-
-pub weight_of_taken : (x y : ℤ) (all : List Run) (o : Option Run) (r : Run) (rs : List Run) → o ≡ Some r → AreRuns (with_next o rs)
-    → IsNotBefore x y r → AreSameFrom (place x y) (flat_map dots_of all) (flat_map dots_of (with_next o rs))
-    → weight_at (dots_of r) x y ≡ weight_at (flat_map dots_of all) x y
-weight_of_taken x y all o r rs some ordered reached so_far = grind (arith, ints, weight_reached, with_next-some, sym)
 
 pub weight_of_none : (x y : ℤ) (all : List Run) (o : Option Run) (rs : List Run) → o ≡ None
     → AreSameFrom (place x y) (flat_map dots_of all) (flat_map dots_of (with_next o rs)) → pos 0 ≡ weight_at (flat_map dots_of all) x y

@@ -1,6 +1,5 @@
 -- The lines of a picture's runs, written one after another.
-use Rattle.std.proofs.Common.{◌≡◌, ℕ, List, [], ◌∷◌, ◌++◌, codes, length, refl, sym, ap, ◌∙◌, length-append, arith}
-use Rattle.std.proofs.lemmas.Int.{ints}
+use Rattle.std.proofs.Common.{◌≡◌, ℕ, List, [], ◌∷◌, ◌++◌, length, refl, sym, ap, ◌∙◌, length-append, arith}
 use Rattle.std.specs.List.{All, flat_map}
 use Rattle.std.proofs.lemmas.List.Elements.{All-head, All-rest, All-same}
 use Rattle.mf_rows.specs.declared.run.Run.{Run}
@@ -36,16 +35,13 @@ all_written line whole rs text none so_far = pieces_all text _ whole (ap (flat_m
 -- ---- the run text
 
 -- a line is not empty, so the text is empty only where there is no run
-some_written : (rs : List Run) → flat_map run_line rs ≡ [] → rs ≡ []
+pub some_written : (rs : List Run) → flat_map run_line rs ≡ [] → rs ≡ []
 some_written [] empty = refl
 some_written (r ∷ rs) empty = absurd (omega (arith, simp length-append at (ap length empty)))
 
 run_text-some : (rs : List Run) (ds : List Dot) → runs_of ds ≡ rs → (rs ≡ [] → ⊥) → run_text ds ≡ flat_map run_line (runs_of ds)
 run_text-some [] ds same some = absurd (some refl)
 run_text-some (r ∷ rs) ds same some = rw same refl
-
-pub blank_text : (ds : List Dot) (text : List ℕ) → text ≡ flat_map run_line (runs_of ds) → text ≡ [] → codes "blank\n" ≡ run_text ds
-blank_text ds text lines empty = grind (arith, ints, some_written)
 
 pub lines_text : (ds : List Dot) (text : List ℕ) → text ≡ flat_map run_line (runs_of ds) → (text ≡ [] → ⊥) → text ≡ run_text ds
 lines_text ds text lines some = lines ∙ sym (run_text-some (runs_of ds) ds refl (λ blank. some (lines ∙ ap (λ all. flat_map run_line all) blank)))

@@ -1,7 +1,6 @@
-use Rattle.clap.specs.Words.{found_of}
-use Rattle.mf_options.proofs.ValuesTyped.{flag_read}
+use Rattle.std.proofs.Common.{arith}
+use Rattle.clap.proofs.WalkLemmas.{one_text-rows}
 use Rattle.mf_options.proofs.values.flag.Goals as goal
 
 pub returns : goal.returns
-returns c = flag_read (found_of c.args.matches.now) c.args.id.now c.get_flag.result
-    c.get_flag.ensures.none c.get_flag.ensures.value c.get_flag.ensures.other c.requires.readable
+returns c = grind (arith, one_text-rows)

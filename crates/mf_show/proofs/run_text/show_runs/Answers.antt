@@ -1,10 +1,11 @@
 use Rattle.std.proofs.Common.{◌≡◌, [], ap, ◌∙◌, refl, arith}
 use Rattle.std.proofs.lemmas.Bool.{false≢true}
 use Rattle.std.proofs.lemmas.List.{nil_from_length}
-use Rattle.mf_show.proofs.WrittenRuns.{all_written, blank_text, first_is_lawful, lines_text, none_written, one_more_written}
+use Rattle.mf_show.proofs.WrittenRuns.{all_written, first_is_lawful, lines_text, none_written, one_more_written, some_written}
 use Rattle.mf_show.specs.RunText.{run_line}
 use Rattle.mf_show.proofs.run_text.show_runs.Goals as goal
 use Rattle.mf_show.proofs.run_text.show_runs.Goals.{then-is_empty+in_ok-extend_from_slice, else-is_empty}
+use Rattle.std.proofs.lemmas.Int.{ints}
 
 pub loop-run-init : goal.loop-run-init
 loop-run-init c =
@@ -24,7 +25,7 @@ returns c =
     elim c.if-is_empty.branch [
       | then-is_empty+in_ok-extend_from_slice w ↦
           (let empty : c.loop-run.text.items ≡ [] = nil_from_length c.loop-run.text.items (grind (arith, w.if-is_empty.ensures, count)) in
-          ap (λ v. v.items) w.text-is ∙ w.in_ok-extend_from_slice.ensures.items ∙ rw empty (blank_text _ _ lines empty))
+          ap (λ v. v.items) w.text-is ∙ w.in_ok-extend_from_slice.ensures.items ∙ rw empty (grind (arith, ints, some_written)))
       | else-is_empty w ↦
           ap (λ v. v.items) w.text-is ∙ lines_text _ _ lines (λ empty. false≢true (w.if-is_empty.ensures ∙ rw (count, empty) refl))
     ]
