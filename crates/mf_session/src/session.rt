@@ -97,6 +97,7 @@ impl Session {
     /// happens to a line with no command, to one that sets the turning check, or to a clear that is accepted.
     // As a function of its own, it costs each line some thirty instructions more.
     #[inline(always)]
+    #[tactic(auto, using(crate::proofs::WithoutContour::is_not_refused, mf_text::proofs::OneAnswer::gives_one))]
     pub fn command<R: Wait>(
         &mut self,
         rt: &R,

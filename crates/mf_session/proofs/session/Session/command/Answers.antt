@@ -7,29 +7,9 @@ use Rattle.mf_session.proofs.session.Session.command.Goals as goal
 pub perform-requires : goal.perform-requires
 perform-requires g c = names_given c.args.line.now c.in-Ok.command c.in-Ok.ensures.given
 
-pub returns-in-Ok-clause-nothing : goal.returns-in-Ok-clause-nothing
-returns-in-Ok-clause-nothing g c given =
-    c.perform.ensures.nothing (gives_one c.args.line.now c.in-Ok.command Nothing c.in-Ok.ensures.given given)
-
-pub returns-in-Ok-clause-turning : goal.returns-in-Ok-clause-turning
-returns-in-Ok-clause-turning g c check given =
-    c.perform.ensures.turning check (gives_one c.args.line.now c.in-Ok.command (Turning check) c.in-Ok.ensures.given given)
-
 pub returns-in-Ok-clause-clears : goal.returns-in-Ok-clause-clears
 returns-in-Ok-clause-clears g c s name stands given =
     c.perform.ensures.clears s name stands (gives_one c.args.line.now c.in-Ok.command (Clear name) c.in-Ok.ensures.given given)
-
-pub returns-in-Err-OutOfMemory-clause-nothing : goal.returns-in-Err-OutOfMemory-clause-nothing
-returns-in-Err-OutOfMemory-clause-nothing g c given =
-    absurd (is_not_refused c.args.line.now Nothing c.in-Err-OutOfMemory.field-0 tt given c.in-Err-OutOfMemory.ensures.refused)
-
-pub returns-in-Err-OutOfMemory-clause-turning : goal.returns-in-Err-OutOfMemory-clause-turning
-returns-in-Err-OutOfMemory-clause-turning g c check given =
-    absurd (is_not_refused c.args.line.now (Turning check) c.in-Err-OutOfMemory.field-0 tt given c.in-Err-OutOfMemory.ensures.refused)
-
-pub returns-in-Err-OutOfMemory-clause-clears : goal.returns-in-Err-OutOfMemory-clause-clears
-returns-in-Err-OutOfMemory-clause-clears g c s name stands given =
-    absurd (is_not_refused c.args.line.now (Clear name) c.in-Err-OutOfMemory.field-0 tt given c.in-Err-OutOfMemory.ensures.refused)
 
 pub returns-in-Err-clause-nothing : goal.returns-in-Err-clause-nothing
 returns-in-Err-clause-nothing g c given = absurd (is_not_refused c.args.line.now Nothing c.in-Err.fault tt given c.in-Err.ensures.refused)
