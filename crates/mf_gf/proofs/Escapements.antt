@@ -1,11 +1,10 @@
 -- Escapements that are a whole number of pixels.
-use Rattle.std.proofs.Common.{◌≡◌, ◌/◌, ◌%◌, Bool, true, false, ℕ, ℤ, pos, negsuc, Some, None, if◌then◌else◌, int_le, refl, ap, arith}
+use Rattle.std.proofs.Common.{◌≡◌, ◌%◌, Bool, true, false, ℕ, ℤ, pos, negsuc, Some, None, if◌then◌else◌, refl, ap, arith}
 use Rattle.std.specs.Ordering.{int_eq}
 use Rattle.std.proofs.lemmas.Bool.{and_parts, cond-true}
 use Rattle.std.proofs.lemmas.Int.{ints}
 use Rattle.mf_gf.specs.Files.{IsShortDx, short_dx}
 use Rattle.mf_gf.specs.Format.{unity}
-use Rattle.mf_gf.specs.Numbers.{greatest_byte}
 
 -- where `Some b` is the answer, the test holds and a is b
 some_from_test : (test : Bool) (a b : ℕ) → (if test then Some a else None) ≡ Some b → (test ≡ true) × (a ≡ b)
@@ -15,9 +14,6 @@ some_from_test false a b is = absurd (cc)
 -- the tests of an escapement that is not negative
 abbrev is_whole : ℕ → Bool
 is_whole n = int_eq (pos (n % unity)) (pos 0)
-
-abbrev is_small : ℕ → Bool
-is_small n = int_le (pos (n / unity)) (pos greatest_byte)
 
 pub short_dx-is : (dx : ℤ) (pixels : ℕ) → short_dx dx ≡ Some pixels → IsShortDx dx pixels
 short_dx-is (pos n) pixels short = grind (arith, ints, some_from_test, and_parts)
