@@ -164,9 +164,9 @@ to_columns n source IsKept g p move kept_or_zero =
 
 -- Where the columns that leave the field have value 0, a move multiplies the sum by the number of columns to which it takes each
 -- one. Both sums add the same parts, one grouped by source and the other by place.
-axis_sum-moved : (n : ℕ) (source : ℤ → ℤ) (IsKept : ℤ → Type 0) (g : ℤ → ℤ) → IsMove n source IsKept → ((p : ℤ) → IsKept p ⊎ (g p ≡ pos 0))
+axis_sum-move : (n : ℕ) (source : ℤ → ℤ) (IsKept : ℤ → Type 0) (g : ℤ → ℤ) → IsMove n source IsKept → ((p : ℤ) → IsKept p ⊎ (g p ≡ pos 0))
     → axis_sum (λ q. g (source q)) ≡ pos n *ℤ axis_sum g
-axis_sum-moved n source IsKept g move kept_or_zero =
+axis_sum-move n source IsKept g move kept_or_zero =
     let parts : ℤ → ℤ → ℤ = λ q p. part n (move.first p) g q p in
     axis_sum-same (λ q. g (source q)) (λ q. axis_sum (parts q)) (λ q. sym (from_source n source IsKept g q move kept_or_zero))
     ∙ axis_sum-swap parts
@@ -187,16 +187,16 @@ holds_or_none (suc n) f holds_or_zero =
     ]
 
 -- the same for the field: the rows move, and within each row the columns
-pub sum_over_field-moved : (m n : ℕ) (column row : ℤ → ℤ) (IsKeptColumn IsKeptRow : ℤ → Type 0) (f : ℤ → ℤ → ℤ) → IsMove m column IsKeptColumn
+pub sum_over_field-move : (m n : ℕ) (column row : ℤ → ℤ) (IsKeptColumn IsKeptRow : ℤ → Type 0) (f : ℤ → ℤ → ℤ) → IsMove m column IsKeptColumn
     → IsMove n row IsKeptRow → ((x y : ℤ) → IsKeptColumn x ⊎ (f x y ≡ pos 0)) → ((x y : ℤ) → IsKeptRow y ⊎ (f x y ≡ pos 0))
     → sum_over_field (λ x y. f (column x) (row y)) ≡ pos (m * n) *ℤ sum_over_field f
-sum_over_field-moved m n column row IsKeptColumn IsKeptRow f columns rows column_or_zero row_or_zero =
+sum_over_field-move m n column row IsKeptColumn IsKeptRow f columns rows column_or_zero row_or_zero =
     let moved_row : ℤ → ℤ = λ y. axis_sum (λ x. f (column x) y) in
     let whole_row : ℤ → ℤ = λ y. axis_sum (λ x. f x y) in
     let times : (y : ℤ) → moved_row y ≡ pos m *ℤ whole_row y =
-    λ y. axis_sum-moved m column IsKeptColumn (λ x. f x y) columns (λ x. column_or_zero x y) in
+    λ y. axis_sum-move m column IsKeptColumn (λ x. f x y) columns (λ x. column_or_zero x y) in
     sum_over_field-axes (λ x y. f (column x) (row y))
-    ∙ axis_sum-moved n row IsKeptRow moved_row rows (λ y. holds_or_none field_size _ (λ i. row_or_zero (column (least_coordinate +ℤ pos i)) y))
+    ∙ axis_sum-move n row IsKeptRow moved_row rows (λ y. holds_or_none field_size _ (λ i. row_or_zero (column (least_coordinate +ℤ pos i)) y))
     ∙ ap (λ s. pos n *ℤ s) (axis_sum-same moved_row (λ y. pos m *ℤ whole_row y) times ∙ axis_sum-mul (pos m) whole_row)
     ∙ times_twice m n (axis_sum whole_row)
     ∙ ap (λ s. pos (m * n) *ℤ s) (sym (sum_over_field-axes f))

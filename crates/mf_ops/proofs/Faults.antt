@@ -165,6 +165,10 @@ stays_everywhere ds op turns none = record { turns = turns; stays = record { non
 pub stays_anyway : (ds : List Dot) (op : Op) → cycle_fault op ≡ None → (leaves op ≡ (λ d. false)) → IsForWeights ds op
 stays_anyway ds op none leaves_none = stays_everywhere ds op (record { none = none }) (ap (λ test. list_any test ds) leaves_none ∙ never ds)
 
+pub made_anyway : (ds : List Dot) (op : Op) (new : List Dot) → cycle_fault op ≡ None → (leaves op ≡ (λ d. false)) → IsPicture new
+    → HasWeights (step_at ds op) new → (new ≡ next_picture ds op) × (op_fault ds op ≡ None)
+made_anyway ds op new none leaves_none = made-from_weights ds op new (stays_anyway ds op none leaves_none)
+
 -- so they are not refused with OutOfField
 weight_fault-not_out : (large : Bool) → cond large (Some WeightTooLarge) None ≢ Some OutOfField
 weight_fault-not_out true same = cc

@@ -20,7 +20,7 @@ use Rattle.mf_ops.specs.declared.op.Op.TheVariants as ops
 use Rattle.mf_ops.specs.declared.op.Op.TheVariants.{Scale, Shift}
 use Rattle.mf_ops.specs.declared.quarter.Quarter.{Quarter}
 use Rattle.mf_ops.specs.declared.quarter.Quarter.TheVariants.{Once, Twice, Thrice}
-use Rattle.mf_ops.proofs.AxisSums.{IsMove, sum_over_field-moved, sum_over_field-turn_once}
+use Rattle.mf_ops.proofs.AxisSums.{IsMove, sum_over_field-move, sum_over_field-turn_once}
 use Rattle.mf_ops.proofs.Faults.{stays-accepted}
 use Rattle.mf_ops.proofs.Leaving.{PixelsStayInside-none_leaves, column_inside, leaves_by, row_inside}
 use Rattle.mf_ops.proofs.Places.{IsStretch-size, end-negative, opposite-opposite, scale_source-negative}
@@ -95,29 +95,29 @@ holds_or_blank P ds all x y =
       | no nonzero ↦ inl (holds_at_weight P ds x y all nonzero)
     ]
 
-total_of-moved : (m n : ℕ) (column row : ℤ → ℤ) (columns rows : Stretch) (ds : List Dot) → IsMove m column (Stays columns)
+total_of-move : (m n : ℕ) (column row : ℤ → ℤ) (columns rows : Stretch) (ds : List Dot) → IsMove m column (Stays columns)
     → IsMove n row (Stays rows) → IsPicture ds → list_any (leaves_by columns rows) ds ≡ false
     → total_of (picture_of (λ x y. weight_at ds (column x) (row y))) ≡ pos (m * n) *ℤ total_of ds
-total_of-moved m n column row columns rows ds moved_columns moved_rows picture none =
+total_of-move m n column row columns rows ds moved_columns moved_rows picture none =
     let dots = dots_from-lawful start_of_field ds picture.dots in
     let inside = PixelsStayInside-none_leaves columns rows ds none in
     total_of-picture_of (λ x y. weight_at ds (column x) (row y))
-    ∙ sum_over_field-moved m n column row (Stays columns) (Stays rows) (weight_at ds) moved_columns moved_rows
+    ∙ sum_over_field-move m n column row (Stays columns) (Stays rows) (weight_at ds) moved_columns moved_rows
     (holds_or_blank (λ x y. Stays columns x) ds (λ k d lt. (column_inside _ _ (dots k d lt).in_field, inside.across k d lt)))
     (holds_or_blank (λ x y. Stays rows y) ds (λ k d lt. (row_inside _ _ (dots k d lt).in_field, inside.up k d lt)))
     ∙ ap (λ s. pos (m * n) *ℤ s) (sym (total_of-picture ds picture))
 
-pub total_of-shifted : (ds : List Dot) (dx dy : ℤ) → IsPicture ds → op_fault ds (Shift dx dy) ≡ None → total_of (next_picture ds (Shift dx dy)) ≡ total_of ds
+pub total_of-shift : (ds : List Dot) (dx dy : ℤ) → IsPicture ds → op_fault ds (Shift dx dy) ≡ None → total_of (next_picture ds (Shift dx dy)) ≡ total_of ds
 unfolding next_picture
-total_of-shifted ds dx dy picture none =
-    total_of-moved 1 1 (λ q. q -ℤ dx) (λ q. q -ℤ dy) (shift_by dx) (shift_by dy) ds
+total_of-shift ds dx dy picture none =
+    total_of-move 1 1 (λ q. q -ℤ dx) (λ q. q -ℤ dy) (shift_by dx) (shift_by dy) ds
     (shift_move dx) (shift_move dy) picture (stays-accepted ds (Shift dx dy) none).none_leaves
     ∙ omega (arith, ints)
 
-pub total_of-scaled : (ds : List Dot) (s : Factors) → IsPicture ds → AreFactors s → op_fault ds (Scale s) ≡ None
+pub total_of-scale : (ds : List Dot) (s : Factors) → IsPicture ds → AreFactors s → op_fault ds (Scale s) ≡ None
     → total_of (next_picture ds (Scale s)) ≡ pos (unsigned_abs (s.x *ℤ s.y)) *ℤ total_of ds
 unfolding next_picture
-total_of-scaled ds s picture factors none =
-    total_of-moved (nat_abs s.x) (nat_abs s.y) (scale_source s.x) (scale_source s.y) (scale_by s.x) (scale_by s.y) ds
+total_of-scale ds s picture factors none =
+    total_of-move (nat_abs s.x) (nat_abs s.y) (scale_source s.x) (scale_source s.y) (scale_by s.x) (scale_by s.y) ds
     (scale_move s.x factors.columns) (scale_move s.y factors.rows) picture (stays-accepted ds (Scale s) none).none_leaves
     ∙ ap (λ k. pos k *ℤ total_of ds) (sym (unsigned_abs-mul s.x s.y))

@@ -68,8 +68,8 @@ some_dot_leaves ds op picture refused =
 in_field : (x y : ℤ) → IsColumnOrRow x → IsColumnOrRow y → IsInField x y
 in_field x y column row = record { left = column.least; right = column.greatest; bottom = row.least; top = row.greatest }
 
-shifted_inside : (d p : ℤ) → stays_inside (shift_by d) p ≡ true → IsColumnOrRow (p +ℤ d)
-shifted_inside d p stays = grind (arith, ints, stays_inside-true)
+shift_inside : (d p : ℤ) → stays_inside (shift_by d) p ≡ true → IsColumnOrRow (p +ℤ d)
+shift_inside d p stays = grind (arith, ints, stays_inside-true)
 
 stays-inside : (d p : ℤ) → IsColumnOrRow (p +ℤ d) → stays_inside (shift_by d) p ≡ true
 stays-inside d p inside = grind (arith, ints, stays_inside-true)
@@ -123,7 +123,7 @@ shift-outside ds dx dy at =
     let tests = and_parts (stays_inside (shift_by dx) d.x) (stays_inside (shift_by dy) d.y) stays in
     let place_x : d.x +ℤ dx ≡ at.x = let column = here.column in omega (arith, ints) in
     let place_y : d.y +ℤ dy ≡ at.y = let row = here.row in omega (arith, ints) in
-    at.outside (in_field at.x at.y (rw place_x at (shifted_inside dx d.x tests.0)) (rw place_y at (shifted_inside dy d.y tests.1))))))
+    at.outside (in_field at.x at.y (rw place_x at (shift_inside dx d.x tests.0)) (rw place_y at (shift_inside dy d.y tests.1))))))
 
 -- ---- scales
 
@@ -170,21 +170,21 @@ scale-outside ds s factors at =
 -- ---- turns
 
 -- where the turned place of a pixel lies in the field, so does the pixel
-turned_in_field : (x y : ℤ) → IsInField y (opposite x) → IsInField x y
-turned_in_field x y field = in_field x y (grind (arith, ints, row_inside y (opposite x) field)) (column_inside y (opposite x) field)
+turn_in_field : (x y : ℤ) → IsInField y (opposite x) → IsInField x y
+turn_in_field x y field = in_field x y (grind (arith, ints, row_inside y (opposite x) field)) (column_inside y (opposite x) field)
 
 -- weights that are 0 outside the field stay so under a turn
 ZeroOutside : (ℤ → ℤ → ℤ) → Type 0
 ZeroOutside f = (x y : ℤ) → (IsInField x y → ⊥) → f x y ≡ pos 0
 
-turned_outside : (f : ℤ → ℤ → ℤ) → ZeroOutside f → ZeroOutside (turn_once f)
+turn_outside : (f : ℤ → ℤ → ℤ) → ZeroOutside f → ZeroOutside (turn_once f)
 unfolding ZeroOutside
-turned_outside f zero x y outside = zero y (opposite x) (λ field. outside (turned_in_field x y field))
+turn_outside f zero x y outside = zero y (opposite x) (λ field. outside (turn_in_field x y field))
 
 turn_by-outside : (q : Quarter) (f : ℤ → ℤ → ℤ) → ZeroOutside f → ZeroOutside (turn_by q f)
-turn_by-outside Once f zero = turned_outside f zero
-turn_by-outside Twice f zero = turned_outside (turn_once f) (turned_outside f zero)
-turn_by-outside Thrice f zero = turned_outside (turn_once (turn_once f)) (turned_outside (turn_once f) (turned_outside f zero))
+turn_by-outside Once f zero = turn_outside f zero
+turn_by-outside Twice f zero = turn_outside (turn_once f) (turn_outside f zero)
+turn_by-outside Thrice f zero = turn_outside (turn_once (turn_once f)) (turn_outside (turn_once f) (turn_outside f zero))
 
 pub turn-inside : (ds : List Dot) (q : Quarter) → IsPicture ds → LiesOutside (step_at ds (ops.Quarter q)) → ⊥
 unfolding ZeroOutside

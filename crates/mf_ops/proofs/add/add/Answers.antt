@@ -4,7 +4,7 @@ use Rattle.mf_rows.specs.declared.sign.Sign.TheVariants.{Plus, Minus}
 use Rattle.mf_rows.proofs.PictureRows.{unlawful_as}
 use Rattle.mf_ops.specs.declared.op.Op.TheVariants.{Also}
 use Rattle.mf_ops.proofs.Adding.{difference_at-minus, sum_at-plus}
-use Rattle.mf_ops.proofs.Faults.{HasWeights-same, made-from_weights, op_fault-sum_fault, stays_anyway}
+use Rattle.mf_ops.proofs.Faults.{HasWeights-same, made_anyway, op_fault-sum_fault, stays_anyway}
 use Rattle.mf_ops.proofs.add.add.Goals as goal
 
 pub returns-in_err-add-in-Plus-clause-refused : goal.returns-in_err-add-in-Plus-clause-refused
@@ -28,8 +28,7 @@ returns-in_ok-add-in-Plus c =
     let ds = c.args.picture.now in
     let es = c.args.other.now in
     let has = HasWeights-same _ _ _ (sum_at-plus ds es) c.in_ok-add-in-Plus.ensures.weights in
-    let picture = c.in_ok-add-in-Plus.ensures.lawful in
-    let made = made-from_weights ds (Also es Plus) _ (stays_anyway ds (Also es Plus) refl refl) picture has in
+    let made = made_anyway ds (Also es Plus) _ refl refl c.in_ok-add-in-Plus.ensures.lawful has in
     rw c.in-Plus.is record { step = made.0; accepted = made.1; unchanged = tt; refused = tt; blank = λ blank. refl }
 
 pub returns-in_ok-subtract-in-Minus : goal.returns-in_ok-subtract-in-Minus
@@ -37,6 +36,5 @@ returns-in_ok-subtract-in-Minus c =
     let ds = c.args.picture.now in
     let es = c.args.other.now in
     let has = HasWeights-same _ _ _ (difference_at-minus ds es) c.in_ok-subtract-in-Minus.ensures.weights in
-    let picture = c.in_ok-subtract-in-Minus.ensures.lawful in
-    let made = made-from_weights ds (Also es Minus) _ (stays_anyway ds (Also es Minus) refl refl) picture has in
+    let made = made_anyway ds (Also es Minus) _ refl refl c.in_ok-subtract-in-Minus.ensures.lawful has in
     rw c.in-Minus.is record { step = made.0; accepted = made.1; unchanged = tt; refused = tt; blank = λ blank. refl }

@@ -18,15 +18,15 @@ use Rattle.mf_ops.proofs.laws.never_refused.Goals as goal
 lawful_at : (ds : List Dot) → IsPicture ds → (x y : ℤ) → IsLawfulWeight (weight_at ds x y)
 lawful_at ds picture x y = lawful_weight_at ds x y (dots_from-lawful start_of_field ds picture.dots)
 
-lawful_turned : (q : Quarter) (ds : List Dot) → IsPicture ds → (x y : ℤ) → IsLawfulWeight (turn_by q (weight_at ds) x y)
-lawful_turned Once ds picture x y = lawful_at ds picture _ _
-lawful_turned Twice ds picture x y = lawful_at ds picture _ _
-lawful_turned Thrice ds picture x y = lawful_at ds picture _ _
+lawful_turn : (q : Quarter) (ds : List Dot) → IsPicture ds → (x y : ℤ) → IsLawfulWeight (turn_by q (weight_at ds) x y)
+lawful_turn Once ds picture x y = lawful_at ds picture _ _
+lawful_turn Twice ds picture x y = lawful_at ds picture _ _
+lawful_turn Thrice ds picture x y = lawful_at ds picture _ _
 
 pub returns : goal.returns
 returns c = record {
   clear = λ ds. accepted-lawful ds ops.Clear (stays_anyway ds ops.Clear refl refl) (λ x y. zero_lawful);
-  turn = λ ds q picture. accepted-lawful ds (ops.Quarter q) (stays_anyway ds (ops.Quarter q) refl refl) (lawful_turned q ds picture);
+  turn = λ ds q picture. accepted-lawful ds (ops.Quarter q) (stays_anyway ds (ops.Quarter q) refl refl) (lawful_turn q ds picture);
   keeping = λ ds a b w lawful.
       accepted-lawful ds (ops.Cull (Keeping a b w)) (stays_anyway ds (ops.Cull (Keeping a b w)) refl refl)
       (λ x y. cond_both (is_within a b (weight_at ds x y)) w (pos 0) IsLawfulWeight (λ _. lawful) (λ _. zero_lawful));

@@ -1,14 +1,11 @@
 use Rattle.std.proofs.Common.{refl}
 use Rattle.mf_ops.specs.declared.op.Op.TheVariants.{Quarter}
 use Rattle.mf_ops.specs.declared.quarter.Quarter.TheVariants.{Twice}
-use Rattle.mf_ops.proofs.Faults.{made-from_weights, stays_anyway}
+use Rattle.mf_ops.proofs.Faults.{made_anyway}
 use Rattle.mf_ops.proofs.Turning.{HasWeights-twice}
 use Rattle.mf_ops.proofs.transform.turn_twice.Goals as goal
 
 pub returns : goal.returns
 returns c =
-    let ds = c.args.picture.now in
-    let has = HasWeights-twice ds _ c.in_ok-reflect.ensures.weights in
-    let picture = c.in_ok-reflect.ensures.lawful in
-    let made = made-from_weights ds (Quarter Twice) _ (stays_anyway ds (Quarter Twice) refl refl) picture has in
+    let made = made_anyway _ (Quarter Twice) _ refl refl c.in_ok-reflect.ensures.lawful (HasWeights-twice _ _ c.in_ok-reflect.ensures.weights) in
     record { step = made.0; accepted = made.1; refused = tt }
