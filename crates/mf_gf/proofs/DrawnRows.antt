@@ -41,10 +41,10 @@ abbrev black_at : ℤ → ℤ → ℤ → Machine
 black_at left row column = record { row = row; column = column; left = left; is_black = true }
 
 -- while it is black, the machine paints a run
-drawn_run : (left y x : ℤ) (r : Run) (others : List Stroke) → y ≡ r.y → x ≡ r.x → r.weight ≡ pos 1
+draws_run : (left y x : ℤ) (r : Run) (others : List Stroke) → y ≡ r.y → x ≡ r.x → r.weight ≡ pos 1
     → pixels_of_strokes (black_at left y x) (Paint r.len ∷ others) ≡ dots_of r ++ pixels_of_strokes (white_at left r.y (r.x +ℤ pos r.len)) others
 unfolding pixels_of_strokes dots_of
-drawn_run left y x r others row column weight = rw (row, column, weight) refl
+draws_run left y x r others row column weight = rw (row, column, weight) refl
 
 -- bytes that take the machine to the start of a run
 record Approaches (machine : Machine) (r : Run) (bytes : List ℕ) : Type 0 where
@@ -61,7 +61,7 @@ in_row left row column r next same =
     record {
       commands = Paint n ∷ [];
       spelled = spells_one (paint n) (Paint n) (writes_paint n (omega (arith, ints, next)));
-      drawn = λ others. drawn_run left row (column +ℤ pos n) r others (sym same) (omega (arith, ints, after)) next.weight;
+      drawn = λ others. draws_run left row (column +ℤ pos n) r others (sym same) (omega (arith, ints, after)) next.weight;
     }
 
 in_next_row : (left row column : ℤ) (r : Run) → IsNext left row column r → distance row r.y ≡ 1
@@ -72,7 +72,7 @@ in_next_row left row column r next one few =
     record {
       commands = NewRow n ∷ [];
       spelled = spells_one (new_row n) (NewRow n) (grind (arith, ints, lt-leb, ne_eqb, le-leb));
-      drawn = λ others. drawn_run left (row -ℤ pos 1) (left +ℤ pos n) r others (omega (arith, ints, next, one)) (omega (arith, ints, next)) next.weight;
+      drawn = λ others. draws_run left (row -ℤ pos 1) (left +ℤ pos n) r others (omega (arith, ints, next, one)) (omega (arith, ints, next)) next.weight;
     }
 
 in_lower_row : (left row column : ℤ) (r : Run) → IsNext left row column r → (r.y ≡ row → ⊥)
@@ -86,7 +86,7 @@ in_lower_row left row column r next other =
       spelled = spells_both (skip m) (paint n) (Skip m ∷ []) (Paint n ∷ [])
           (spells_one (skip m) (Skip m) (grind (arith, ints, cond_both, eqb-true, big_number-reads_back)))
           (spells_one (paint n) (Paint n) (writes_paint n (omega (arith, ints, next))));
-      drawn = λ others. drawn_run left (row -ℤ pos (m + 1)) (left +ℤ pos n) r others (omega (arith, ints, next, other)) (omega (arith, ints, next)) next.weight;
+      drawn = λ others. draws_run left (row -ℤ pos (m + 1)) (left +ℤ pos n) r others (omega (arith, ints, next, other)) (omega (arith, ints, next)) next.weight;
     }
 
 approaches : (left row column : ℤ) (r : Run) → IsNext left row column r → Approaches (white_at left row column) r (approach left row column r)

@@ -49,9 +49,9 @@ unfolding dots_of
 dots_of-joined r s weight next = rw (weight, next.row, next.column) (equal_dots-joined r.y r.x s.weight r.len s.len)
 
 -- such a run lengthens the stretch
-pub lengthened : (all : List Run) (r s : Run) (rs : List Run) → IsAdjacent r s → IsBegun all r (s ∷ rs) → IsBegun all (with_more r s) rs
+pub lengthens : (all : List Run) (r s : Run) (rs : List Run) → IsAdjacent r s → IsBegun all r (s ∷ rs) → IsBegun all (with_more r s) rs
 unfolding place
-lengthened all r s rs next so_far =
+lengthens all r s rs next so_far =
     let runs = so_far.blacks.order.runs in
     let one = All-head IsBlack r (s ∷ rs) so_far.blacks.ones in
     let ones = All-tail IsBlack r (s ∷ rs) so_far.blacks.ones in
@@ -111,7 +111,7 @@ module _ (all : List Run) (r : Run) (o : Option Run) (rs others : List Run) (ahe
   both_are_runs s some = grind (arith, ints, before_run)
 
   pub one_more_joined : (s : Run) → o ≡ Some s → IsAdjacent r s → IsBegun all (with_more r s) others
-  one_more_joined s some next = lengthened all r s others next (before_run s some)
+  one_more_joined s some next = lengthens all r s others next (before_run s some)
 
   -- the stretch ends where the next run does not continue it
   pub ended_at_run : (s : Run) → o ≡ Some s → (IsAdjacent r s → ⊥) → runs_of (flat_map dots_of all) ≡ r ∷ runs_of (flat_map dots_of (with_next o others))

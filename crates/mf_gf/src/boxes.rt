@@ -52,6 +52,7 @@ impl CharacterBox {
     }
 
     /// The box of the black pixels of a picture: those of positive weight.
+    #[tactic(auto, using(crate::proofs::BlackBoxes::no_black_box))]
     pub(crate) fn of_black(picture: &Picture) -> CharacterBox
         ensures value { result ≡ box_of_pixels (black picture.now) }
         ensures lawful { IsPicture picture.now }

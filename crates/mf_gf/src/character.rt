@@ -131,6 +131,7 @@ fn is_short(bounds: &CharacterBox) -> bool
 }
 
 /// Whether the extent and the greater end of a side of a box each fit into one byte.
+#[tactic(auto, using(crate::proofs::ShortBoxes::and_then, crate::proofs::ShortBoxes::and_else))]
 fn is_short_side(least: i32, greatest: i32) -> bool
     requires least { IsCoordinate least }
     requires greatest { IsCoordinate greatest }

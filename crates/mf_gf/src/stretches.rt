@@ -64,6 +64,7 @@ impl Iterator for Stretches<'_> {
     ghost remaining = { item_count stretches_ahead };
 
     #[inline(always)]
+    #[tactic(auto, using(crate::proofs::Lengthening::none_left))]
     fn next(&mut self) -> Option<Run> {
         let begun = self.next?;
         Some(self.lengthen(begun))

@@ -43,6 +43,7 @@ impl Locators {
     }
 
     /// Spells all locators, codes rising.
+    #[tactic(auto, using(crate::proofs::LocatorTexts::next_code_held, crate::proofs::LocatorTexts::no_code_held))]
     pub(crate) fn spell(&self, out: &mut Spelling)
         ensures held { (text : List ℕ) → Holds out.old text → Holds out.new (text ++ table_text self.now) }
         ensures room { out.new.room ≡ out.old.room }

@@ -9,8 +9,8 @@ length-ending : (place before : ℕ) → length (ending place before) ≡ gf.end
 length-ending place before = let pad = length-replicate {A = ℕ} (padding (before + gf.ending_size)) gf.padding_byte in omega (arith, pad)
 
 -- a text with the ending that its length requires is padded
-padded : (text : List ℕ) (place : ℕ) → IsPadded (text ++ ending place (length text))
-padded text place =
+is_padded : (text : List ℕ) (place : ℕ) → IsPadded (text ++ ending place (length text))
+is_padded text place =
     let before = length text in
     let both = length-append text (ending place before) in
     let last = length-ending place before in
@@ -25,4 +25,4 @@ padded text place =
 
 pub returns : goal.returns
 unfolding file_of
-returns c = λ words comment characters. padded (body words comment characters) (length (bytes_so_far comment characters))
+returns c = λ words comment characters. is_padded (body words comment characters) (length (bytes_so_far comment characters))

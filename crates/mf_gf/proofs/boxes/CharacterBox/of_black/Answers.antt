@@ -1,9 +1,6 @@
-use Rattle.std.proofs.Common.{sym, ◌∙◌, arith}
-use Rattle.mf_gf.proofs.BlackBoxes.{black_box, box_fits, no_black_box}
+use Rattle.std.proofs.Common.{sym, arith}
+use Rattle.mf_gf.proofs.BlackBoxes.{black_box, box_fits}
 use Rattle.mf_gf.proofs.boxes.CharacterBox.of_black.Goals as goal
-
-pub returns-in_default-clause-value : goal.returns-in_default-clause-value
-returns-in_default-clause-value c = c.none.ensures ∙ sym (no_black_box _ c.in_default.ensures.lawful c.in_default.ensures.bounds)
 
 pub overflow_add-result : goal.overflow_add-result
 overflow_add-result c = let fits = box_fits _ _ c.in-Some.ensures.lawful c.in-Some.ensures.bounds in rw fits.right fits.fits
