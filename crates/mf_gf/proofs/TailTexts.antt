@@ -41,10 +41,10 @@ box_of_all-some [] b is = absurd (cc)
 box_of_all-some (c ∷ cs) b is = cc
 
 -- the complete file is what was kept of it, and its tail
-pub file_of-kept : (file : GfFile) (words : FontWords) (b : CharacterBox) (comment : List ℕ) (cs : List Character)
+pub kept_file : (file : GfFile) (words : FontWords) (b : CharacterBox) (comment : List ℕ) (cs : List Character)
     → file.bounds ≡ Some b → Keeps file comment cs
     → file_of words comment cs ≡ file.bytes.items ++ tail_of words b file.bytes.items (table_text file.locators)
-file_of-kept file words b comment cs some keeps = grind (arith, ints, box_of_all-some, file_of-tail, table_text-is)
+kept_file file words b comment cs some keeps = grind (arith, ints, box_of_all-some, file_of-tail, table_text-is)
 
 -- a refusal with OutOfMemory is not one with FileTooLong
 pub wanting_only : (before : GfFile) (r : Result GfBytes (GfFile × GfFault))

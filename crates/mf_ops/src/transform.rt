@@ -94,6 +94,7 @@ fn turn_thrice(alloc: Global, picture: &Picture) -> Result<Picture, OpFault>
 }
 
 /// Returns the picture reflected in the line between columns -1 and 0, in the line between rows -1 and 0, or in both.
+#[tactic(auto, unfolding(crate::specs::Reflections::reflection_at, mf_rows::specs::Moves::column_mirror_at, mf_rows::specs::Moves::row_mirror_at))]
 fn reflect(
     alloc: Global,
     picture: &Picture,

@@ -23,6 +23,7 @@ const MAX_SIDE: u32 = 128;
 /// `.` is 0, `1` to `9` are themselves, `+` is any greater weight, `a` to `i` are -1 to -9, and `-` is any lesser weight. The
 /// text of the blank picture is the line `blank`. Each line ends with a line feed. Refused with `ProofTooLarge` exactly where the
 /// least box is wider or higher than 128 pixels, and with `OutOfMemory` where an allocation fails.
+#[tactic(auto, using(crate::proofs::GridTexts::blank_fits, crate::proofs::GridTexts::grid_of_blank, crate::proofs::GridTexts::small_box_fits))]
 pub fn proof_grid(alloc: Global, picture: &Picture) -> Result<Vec<u8>, GridFault>
     ensures text { IfOk result (λ text. text.items ≡ grid_text picture.now) }
     ensures too_large { IsTooLargeForGrid picture.now ↔ (result ≡ Err GridFault.ProofTooLarge) }

@@ -76,6 +76,7 @@ impl GfFile {
     ///
     /// Refused with `FileTooLong` exactly where the preamble and the characters would have more bytes than the file may have, and
     /// with `OutOfMemory` where an allocation fails. A refusal leaves the file as it was.
+    #[tactic(auto, using(crate::proofs::Shipped::spell_some))]
     pub fn ship(&mut self, code: u8, dx: i32, width: i32, picture: &Picture) -> Result<(), GfFault>
         ensures shipped { OnOk result ((comment : List ℕ) (characters : List Character)
             → Keeps self.old comment characters → Keeps self.new comment (characters ++ character code dx width picture.now ∷ [])) }

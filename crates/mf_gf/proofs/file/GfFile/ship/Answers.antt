@@ -1,15 +1,12 @@
-use Rattle.std.proofs.Common.{◌≡◌, ℕ, List, [], ◌∷◌, ◌++◌, rules, length, ap, sym, ◌∙◌, w32, to_z, of_z, arith}
+use Rattle.std.proofs.Common.{◌≡◌, ℕ, List, [], ◌∷◌, ◌++◌, rules, length, ap, ◌∙◌, w32, to_z, of_z, arith}
 use Rattle.std.proofs.lemmas.Int.{ints}
 use Rattle.mf_gf.specs.Files.{Character, bytes_so_far, shipments}
 use Rattle.mf_gf.specs.Keeping.{Keeps, character}
 use Rattle.mf_gf.specs.Pixels.{black}
 use Rattle.mf_gf.specs.Spelling.{pointer, spell}
-use Rattle.mf_gf.proofs.Shipped.{keeps-more, spell_some, bytes_so_far-more}
+use Rattle.mf_gf.proofs.Shipped.{keeps-more, bytes_so_far-more}
 use Rattle.mf_gf.proofs.file.GfFile.ship.Goals.{After-last_place-earlier}
 use Rattle.mf_gf.proofs.file.GfFile.ship.Goals as goal
-
-pub append-requires-clause-some : goal.append-requires-clause-some
-append-requires-clause-some c = grind (arith, ints, sym, spell_some)
 
 pub returns-clause-shipped : goal.returns-clause-shipped
 returns-clause-shipped c = λ comment characters keeps.
