@@ -1,4 +1,3 @@
-mod Adding
 mod AxisSums
 mod Faults
 mod Leaving
@@ -8,4 +7,3 @@ mod OutOfField
 mod Places
 mod Scaling
 mod Sides
-mod Turning

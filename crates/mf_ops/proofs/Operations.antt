@@ -4,7 +4,6 @@ use Rattle.mf_rows.specs.Dots.{Dot, IsPicture}
 use Rattle.mf_ops.specs.Operations.{after_all, picture_after, AreAcceptedOn, AreAccepted}
 use Rattle.mf_ops.specs.Step.{next_picture, op_fault}
 use Rattle.mf_ops.specs.declared.op.Op.{Op}
-use Rattle.mf_ops.proofs.Adding.{IsPicture-blank}
 use Rattle.mf_ops.proofs.Faults.{IsPicture-next_picture}
 
 after_all-push : (ds : List Dot) (ops : List Op) (op : Op) → after_all ds (ops ++ op ∷ []) ≡ next_picture (after_all ds ops) op
@@ -23,7 +22,7 @@ lawful_after_all ds (op ∷ ops) picture accepted = lawful_after_all (next_pictu
 
 pub lawful_picture_after : (ops : List Op) → AreAccepted ops → IsPicture (picture_after ops)
 unfolding picture_after
-lawful_picture_after ops accepted = lawful_after_all [] ops IsPicture-blank accepted.steps
+lawful_picture_after ops accepted = lawful_after_all [] ops (record { dots = tt }) accepted.steps
 
 accepted-push : (ds : List Dot) (ops : List Op) (op : Op) → AreAcceptedOn ds (ops ++ op ∷ []) → AreAcceptedOn ds ops × (op_fault (after_all ds ops) op ≡ None)
 unfolding after_all
