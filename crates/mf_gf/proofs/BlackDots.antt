@@ -68,7 +68,3 @@ black_runs-ones [] = All-nil IsBlack
 black_runs-ones (r ∷ rs) = grind (arith, ints, cond_both, All-cons, black_runs-ones rs)
 
 -- ---- the runs of an iterator, passed one after another
-
-pub black_runs-none : (rs : List Run) → rs ≡ [] → black_runs rs ≡ []
-unfolding black_runs
-black_runs-none rs none = rw none refl

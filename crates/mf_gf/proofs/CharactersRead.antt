@@ -10,7 +10,7 @@ use mathlib.Core.List.{reverse-cons}
 use Rattle.mf_rows.specs.Dots.{Dot}
 use Rattle.mf_rows.specs.Runs.{runs_of}
 use Rattle.mf_gf.specs.Boxes.{box_of_pixels}
-use Rattle.mf_gf.specs.Files.{Character, FileSoFar, Shipment, bytes_so_far, last_shipment, last_place, shipments, spell_after, with_character, with_characters}
+use Rattle.mf_gf.specs.Files.{Character, FileSoFar, Shipment, last_shipment, last_place, shipments, spell_after, with_character, with_characters}
 use Rattle.mf_gf.specs.Format as gf
 use Rattle.mf_gf.specs.Numbers.{IsWord, code_count, greatest_word}
 use Rattle.mf_gf.specs.Painting.{head_of, pixels_of_character}
@@ -74,16 +74,13 @@ pub all_before : (bytes more : List ℕ) (shipped : List Shipment) → AllStand 
 all_before bytes more [] stand = tt
 all_before bytes more (s ∷ shipped) stand = (stands_before bytes more s _ stand.0, all_before bytes more shipped stand.1)
 
-stand_from : (f : FileSoFar) (cs : List Character) → All IsShippable cs → AllStand f.bytes f.shipped
+pub stand_from : (f : FileSoFar) (cs : List Character) → All IsShippable cs → AllStand f.bytes f.shipped
     → AllStand (with_characters f cs).bytes (with_characters f cs).shipped
 unfolding with_characters
 stand_from f [] shippable stand = stand
 stand_from f (c ∷ cs) shippable stand =
     stand_from (with_character f c) cs (All-tail IsShippable c cs shippable)
     (grind (arith, length-append, drop-append_seam, append-nil, All-head IsShippable c cs shippable), all_before f.bytes (spell_after f c) f.shipped stand)
-
-pub all_stand : (comment : List ℕ) (cs : List Character) → All IsShippable cs → AllStand (bytes_so_far comment cs) (shipments comment cs)
-all_stand comment cs shippable = stand_from _ cs shippable tt
 
 -- the last character with a code is at its place
 pub record LastStands (bytes : List ℕ) (s : Shipment) : Type 0 where
@@ -156,13 +153,10 @@ last_is_first code s (t ∷ shipped) is =
     (λ no found. last_is_first code s shipped found) is
 
 -- the characters that were shipped, from the last to the first
-characters_with : (f : FileSoFar) (cs : List Character) → map character_of (with_characters f cs).shipped ≡ reverse cs ++ map character_of f.shipped
+pub characters_with : (f : FileSoFar) (cs : List Character) → map character_of (with_characters f cs).shipped ≡ reverse cs ++ map character_of f.shipped
 unfolding with_characters
 characters_with f [] = refl
 characters_with f (c ∷ cs) = grind (arith, ints, append_assoc, reverse-cons, characters_with (with_character f c) cs)
-
-pub characters_shipped : (comment : List ℕ) (cs : List Character) → map character_of (shipments comment cs) ≡ reverse cs
-characters_shipped comment cs = characters_with _ cs ∙ append-nil (reverse cs)
 
 -- ---- codes
 

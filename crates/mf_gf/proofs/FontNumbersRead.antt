@@ -28,16 +28,13 @@ unfolding with_characters
 characters-come_after f [] = ([], sym (append-nil f.bytes))
 characters-come_after f (c ∷ cs) = grind (arith, ints, append_assoc, characters-come_after (with_character f c) cs)
 
-comment-reads : (comment rest : List ℕ) → comment_of (preamble comment ++ rest) ≡ Some comment
-unfolding comment_of
-comment-reads comment rest = ap (λ it. Some it) (take-append_seam comment rest)
-
 pub comment-found : (words : FontWords) (comment : List ℕ) (cs : List Character) → comment_of (file_of words comment cs) ≡ Some comment
+unfolding comment_of
 comment-found words comment cs =
     let begins = file-begins words comment cs in
     let after = characters-come_after (record { bytes = preamble comment; shipped = [] }) cs in
     ap comment_of (begins.1 ∙ ap (λ bytes. bytes ++ begins.0) after.1 ∙ append_assoc (preamble comment) after.0 begins.0)
-    ∙ comment-reads comment (after.0 ++ begins.0)
+    ∙ ap (λ it. Some it) (take-append_seam comment (after.0 ++ begins.0))
 
 -- ---- post
 

@@ -17,9 +17,6 @@ use Rattle.mf_gf.proofs.BlackDots.{IsBlack}
 
 -- ---- runs in order
 
-blacks-rest : (r : Run) (rs : List Run) → AreBlackRuns (r ∷ rs) → AreBlackRuns rs
-blacks-rest r rs blacks = record { order = runs-rest r rs blacks.order; ones = All-tail IsBlack r rs blacks.ones }
-
 -- ---- a stretch so far
 
 -- a stretch and the runs ahead together have the dots of all these runs
@@ -105,7 +102,7 @@ module _ (all : List Run) (r : Run) (o : Option Run) (rs others : List Run) (ahe
   before_run s some = subst (λ next. IsBegun all r (with_next next others)) some so_far
 
   pub order_ahead : AreBlackRuns (with_next o others)
-  order_ahead = blacks-rest r (with_next o others) so_far.blacks
+  order_ahead = record { order = runs-rest r (with_next o others) so_far.blacks.order; ones = All-tail IsBlack r (with_next o others) so_far.blacks.ones }
 
   pub both_are_runs : (s : Run) → o ≡ Some s → IsRun r × IsRun s
   both_are_runs s some = grind (arith, ints, before_run)

@@ -1,19 +1,14 @@
 -- The stretches of a picture, spelled one after another.
-use Rattle.std.proofs.Common.{◌≡◌, ℕ, ℤ, pos, ◌+ℤ◌, List, [], ◌∷◌, ◌++◌, refl, sym, ap, ◌∙◌, arith, append_assoc}
+use Rattle.std.proofs.Common.{◌≡◌, ℕ, ℤ, pos, ◌+ℤ◌, List, [], ◌∷◌, ◌++◌, sym, ap, ◌∙◌, arith, append_assoc}
 use Rattle.std.specs.List.{All}
 use Rattle.std.proofs.lemmas.Int.{ints}
 use Rattle.std.proofs.lemmas.List.{append-nil}
 use Rattle.std.proofs.lemmas.List.Elements.{All-head, All-same, All-rest}
 use Rattle.mf_geom.specs.Coordinates.{IsCoordinate}
 use Rattle.mf_rows.specs.declared.run.Run.{Run}
-use Rattle.mf_rows.specs.Dots.{Dot}
 use Rattle.mf_rows.specs.Order.{IsRun}
-use Rattle.mf_rows.specs.Runs.{runs_of}
-use Rattle.mf_gf.specs.declared.boxes.CharacterBox.{CharacterBox}
 use Rattle.mf_gf.specs.declared.spelling.Spelling.{Spelling}
-use Rattle.mf_gf.specs.Boxes.{box_of_pixels}
-use Rattle.mf_gf.specs.Format as gf
-use Rattle.mf_gf.specs.Spelling.{approach, begin, paint, spell, stretches_text}
+use Rattle.mf_gf.specs.Spelling.{approach, paint, stretches_text}
 use Rattle.mf_gf.proofs.Writing.{Writes, write_both, write_same}
 
 -- the stretches still to come, from a position of the machine and in a box with this left end
@@ -62,8 +57,3 @@ module _ (before out : Spelling) (text : List ℕ) (c : Coming) where
   pub all_spelled : c.runs ≡ [] → AreSpelled before out text c → Writes before out text
   unfolding stretches_text
   all_spelled none so_far = grind (arith, ints, write_same, sym, append-nil)
-
-pub spell-is : (code : ℕ) (p : ℤ) (ds : List Dot) (b : CharacterBox) (rs : List Run) → b ≡ box_of_pixels ds → rs ≡ runs_of ds
-    → begin code p b ++ stretches_text b.min_m b.max_n b.min_m rs ++ gf.eoc ∷ [] ≡ spell code p ds
-unfolding spell
-spell-is code p ds b rs bounds all = rw (bounds, all) refl

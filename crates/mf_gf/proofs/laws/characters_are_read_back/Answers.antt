@@ -1,4 +1,4 @@
-use Rattle.std.proofs.Common.{◌≡◌, ◌<◌, ◌==◌, ℕ, true, pos, List, ◌∷◌, map, Option, None, Some}
+use Rattle.std.proofs.Common.{◌≡◌, ◌<◌, ◌==◌, ℕ, true, pos, List, ◌∷◌, map, Option, None, Some, append-nil, reverse}
 use Rattle.std.proofs.Common.{is_some, option_map, refl, ap, sym, subst, ◌∙◌, arith, eq-eqb, eqb-true}
 use Rattle.std.specs.List.{Any}
 use Rattle.std.proofs.lemmas.List.Elements.{All-weaker}
@@ -9,7 +9,7 @@ use Rattle.mf_gf.specs.Files.{Character, Shipment, bytes_so_far, file_of, last_s
 use Rattle.mf_gf.specs.Numbers.{code_count}
 use Rattle.mf_gf.specs.Pointers.{AreShippable, HasCode, LeadsBack, LeadsToAll, characters_of}
 use Rattle.mf_gf.specs.Spelling.{pointer}
-use Rattle.mf_gf.proofs.CharactersRead.{AllStand, all_before, all_stand, character_of, characters_shipped, has_last}
+use Rattle.mf_gf.proofs.CharactersRead.{AllStand, all_before, character_of, has_last, stand_from, characters_with}
 use Rattle.mf_gf.proofs.CharactersRead.{has_last-shipped, last_is_first, last_stands, leads_back, of_code}
 use Rattle.mf_gf.proofs.LocatorsRead.{IsLastFrom, IsReadable, lasts_are_last, lasts_from, lasts_have, lasts_rise}
 use Rattle.mf_gf.proofs.PostFound.{locators_found}
@@ -32,7 +32,7 @@ module _ (words : FontWords) (comment : List ℕ) (cs : List Character) (shippab
   locators = lasts_from 0 code_count (shipments comment cs)
 
   stand : AllStand (bytes_so_far comment cs) shipped
-  stand = all_stand comment cs shippable.each
+  stand = stand_from _ cs shippable.each tt
 
   readable : (code : ℕ) (s : Shipment) → last_shipment code shipped ≡ Some s → IsReadable (locator_of s)
   readable code s is =
@@ -49,7 +49,7 @@ module _ (words : FontWords) (comment : List ℕ) (cs : List Character) (shippab
       let code = l.code in
       let s = from.shipment in
       let first = last_is_first code s shipped from.last in
-      let all : characters_of code cs ≡ s.character ∷ first.others = ap (of_code code) (sym (characters_shipped comment cs)) ∙ first.all in
+      let all : characters_of code cs ≡ s.character ∷ first.others = ap (of_code code) (sym (characters_with _ cs ∙ append-nil (reverse cs))) ∙ first.all in
       let at : pos l.place ≡ pos s.place = ap (λ (it : Locator). pos it.place) from.is in
       let back = leads_back (bytes_so_far comment cs) file code shipped shippable.short stand stand_in_file in
       record {

@@ -1,6 +1,5 @@
-use Rattle.std.proofs.Common.{◌∙◌, arith}
+use Rattle.std.proofs.Common.{◌∙◌, arith, refl}
 use Rattle.std.proofs.lemmas.Int.{to_z-of_z, ints}
-use Rattle.mf_gf.proofs.BlackDots.{black_runs-none}
 use Rattle.mf_gf.proofs.stretches.next_black.Goals as goal
 use Rattle.std.proofs.lemmas.Bool.{cond-true, cond-false}
 use Rattle.mf_gf.specs.Ahead.{black_runs}
@@ -14,4 +13,5 @@ unfolding black_runs
 loop-run-preserved c = grind (arith, ints, cond-false, to_z-of_z)
 
 pub returns : goal.returns
-returns c = record { next = c.loop-run.invariant ∙ black_runs-none _ c.in_default.ensures.steps.0 }
+unfolding black_runs
+returns c = record { next = c.loop-run.invariant ∙ (rw c.in_default.ensures.steps.0 refl) }
