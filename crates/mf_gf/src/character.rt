@@ -122,6 +122,7 @@ fn put_pointer(out: &mut Spelling, earlier: Option<u32>)
 }
 
 /// Whether a box fits into the one-byte fields of boc1.
+#[tactic(auto, using(crate::proofs::ShortBoxes::and_else))]
 fn is_short(bounds: &CharacterBox) -> bool
     requires columns { IsCoordinate bounds.now.min_m × IsCoordinate bounds.now.max_m }
     requires rows { IsCoordinate bounds.now.min_n × IsCoordinate bounds.now.max_n }

@@ -32,6 +32,7 @@ impl<'a> Stretches<'a> {
     /// Returns the stretch that begins with this run, lengthened by the runs after it that continue it, and moves on to the one
     /// after these.
     #[inline(always)]
+    #[tactic(auto, using(crate::proofs::Lengthening::order_ahead))]
     fn lengthen(&mut self, begun: Run) -> Run
         requires order { AreBlackRuns (begun ∷ black_runs self.old.runs) }
         ensures order { AreBlackRuns (black_runs_ahead self.new) }
@@ -73,6 +74,7 @@ impl Iterator for Stretches<'_> {
 
 /// The next run of positive weight, returned with weight 1.
 #[inline(always)]
+#[tactic(auto, unfolding(crate::specs::Ahead::black_runs))]
 pub(crate) fn next_black(runs: &mut Runs<'_>) -> Option<Run>
     ensures next { black_runs runs.old ≡ with_next result (black_runs runs.new) }
 {

@@ -15,12 +15,14 @@ pub fn line_by_line()
 {}
 
 /// In a state, a line has exactly one answer: one text, and one state after it.
+#[tactic(auto, using(crate::proofs::SomeAnswer::some_answer))]
 pub fn one_answer()
     ensures some { (limits : Limits) (s : State) (line : List ℕ) → (a : Answer) × Answers limits s line a }
     ensures one { (limits : Limits) (s : State) (line : List ℕ) (a b : Answer) → Answers limits s line a → Answers limits s line b → a ≡ b }
 {}
 
 /// A script has exactly one transcript.
+#[tactic(auto, using(crate::proofs::SomeAnswer::some_transcript))]
 pub fn one_transcript()
     ensures some { (limits : Limits) (input : List ℕ) → (text : List ℕ) × IsTranscript limits input text }
     ensures one { (limits : Limits) (input text other : List ℕ) → IsTranscript limits input text → IsTranscript limits input other → text ≡ other }

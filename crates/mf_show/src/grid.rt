@@ -86,6 +86,7 @@ fn box_text(alloc: Global, picture: &Picture, bounds: &Box4) -> Result<Vec<u8>, 
 }
 
 /// Appends the line of a row, from the first to the last column.
+#[tactic(auto, using(crate::proofs::PassedPixels::none_passed, crate::proofs::ShownRows::row_none))]
 fn push_row(
     text: &mut Vec<u8>,
     weights: &mut Weights<'_>,

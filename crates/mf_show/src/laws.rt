@@ -16,6 +16,7 @@ pub fn box_of_dots_is_least()
 {}
 
 /// The grid text of a picture is that of its least box, and the blank picture's is the line `blank`.
+#[tactic(auto, using(crate::proofs::GridTexts::grid_of_blank, crate::proofs::GridTexts::grid_of_box))]
 pub fn grid_is_of_the_least_box()
     ensures drawn { (ds : List Dot) (b : Box4) → IsLeastBox ds b → grid_text ds ≡ box_text ds b }
     ensures blank { grid_text [] ≡ codes "blank\n" }
@@ -23,6 +24,7 @@ pub fn grid_is_of_the_least_box()
 
 /// The text of a box has a line for each of its rows, from the top, and nothing else. A line has the character of the weight of each
 /// pixel, from the left, and a line feed.
+#[tactic(auto, using(crate::proofs::ShownPixels::box_length, crate::proofs::ShownPixels::end_at, crate::proofs::ShownPixels::pixel_at))]
 pub fn grid_has_each_pixel()
     ensures pixels { (ds : List Dot) (b : Box4) (i j : ℕ) → i < extent b.min_x b.max_x → j < extent b.min_y b.max_y →
         get_or (box_text ds b) (j * (extent b.min_x b.max_x + 1) + i) 0 ≡ grid_character (weight_at ds (b.min_x +ℤ pos i) (b.max_y -ℤ pos j)) }

@@ -35,6 +35,7 @@ impl Locators {
     }
 
     /// Makes this the locator of its code.
+    #[tactic(auto, unfolding(crate::specs::Files::last_shipment))]
     pub(crate) fn set(&mut self, locator: Locator)
         ensures { (s : Shipment) (shipped : List Shipment) → locator_of s ≡ locator → HasLastLocators self.old shipped
             → HasLastLocators self.new (s ∷ shipped) }

@@ -2,7 +2,7 @@ use Rattle.std.proofs.Common.{◌≡◌, ◌&&◌, ◌-ℤ◌, to_z, of_z, w32, 
 use Rattle.std.proofs.Math.Bool.{and_assoc}
 use Rattle.std.proofs.lemmas.Int.{ints}
 use Rattle.mf_gf.specs.Spelling.{is_byte}
-use Rattle.mf_gf.proofs.ShortBoxes.{and_then, and_else}
+use Rattle.mf_gf.proofs.ShortBoxes.{and_then}
 use Rattle.mf_gf.proofs.character.is_short.Goals as goal
 
 pub returns-then-is_short_side : goal.returns-then-is_short_side
@@ -16,6 +16,3 @@ returns-then-is_short_side c =
     let rows = rw (max_n, min_n) at c.is_short_side-then-is_short_side.ensures in
     and_then _ _ _ _ c.if-is_short_side.true columns rows
     ∙ and_assoc (is_byte (b.max_m -ℤ b.min_m)) (is_byte b.max_m) (is_byte (b.max_n -ℤ b.min_n) && is_byte b.max_n)
-
-pub returns-else-is_short_side : goal.returns-else-is_short_side
-returns-else-is_short_side c = grind (arith, ints, and_else, and_assoc)

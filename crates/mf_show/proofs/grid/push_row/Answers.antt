@@ -1,12 +1,9 @@
 use Rattle.std.proofs.Common.{◌≡◌, ◌∷◌, [], ◌++◌, ◌≤ℤ◌, pos, ◌+ℤ◌, to_z, of_z, w32, ap, ◌∙◌, arith}
 use Rattle.std.proofs.lemmas.Int.{ints, to_z-of_z}
 use Rattle.mf_show.specs.Grid.{grid_character, line_feed}
-use Rattle.mf_show.proofs.PassedPixels.{ahead_right, none_passed, weight_ahead}
-use Rattle.mf_show.proofs.ShownRows.{row_all, row_more, row_none}
+use Rattle.mf_show.proofs.PassedPixels.{ahead_right, weight_ahead}
+use Rattle.mf_show.proofs.ShownRows.{row_all, row_more}
 use Rattle.mf_show.proofs.grid.push_row.Goals as goal
-
-pub loop-x-init : goal.loop-x-init
-loop-x-init c = (row_none _ (omega (arith, ints)), none_passed _ _ c.requires.order)
 
 pub loop-x-preserved : goal.loop-x-preserved
 loop-x-preserved c =

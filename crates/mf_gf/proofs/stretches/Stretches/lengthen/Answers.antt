@@ -31,8 +31,5 @@ returns-then-run-stretch-clause-stretch c =
       | then-run-stretch-via-else-run-stretch+then-run-stretch-2 w ↦ w.if-run-stretch-2.true (ap (of_z w32) column)
     ])
 
-pub returns-in_default-clause-order : goal.returns-in_default-clause-order
-returns-in_default-clause-order c = order_ahead _ _ _ _ _ c.next_black-self.ensures.next c.loop-self.invariant
-
 pub returns-in_default-clause-stretch : goal.returns-in_default-clause-stretch
 returns-in_default-clause-stretch c = ended_at_none _ _ _ _ _ c.next_black-self.ensures.next c.loop-self.invariant c.in_default.is
