@@ -1,6 +1,6 @@
 //! Boxes of characters.
 ghost use Rattle.std.specs.Prelude.{◌≡◌};
-ghost use Rattle.mf_gf.specs.Boxes.{box_of_pixels, join, no_box, widen};
+ghost use Rattle.mf_gf.specs.Boxes.{box_of_pixels, no_box, widen};
 ghost use Rattle.mf_gf.specs.Pixels.{black};
 ghost use Rattle.mf_rows.specs.Dots.{IsPicture};
 
@@ -29,24 +29,17 @@ impl CharacterBox {
         }
     }
 
-    /// The least box around two boxes.
-    fn join(&self, other: &CharacterBox) -> CharacterBox
-        ensures { result ≡ join self.now other.now }
-    {
-        CharacterBox {
-            min_m: self.min_m.min(other.min_m),
-            max_m: self.max_m.max(other.max_m),
-            min_n: self.min_n.min(other.min_n),
-            max_n: self.max_n.max(other.max_n),
-        }
-    }
-
     /// The least box around an earlier box, if there is one, and another box.
     pub(crate) fn widen(bounds: Option<CharacterBox>, other: CharacterBox) -> CharacterBox
         ensures { result ≡ widen bounds other }
     {
         match bounds {
-            Some(before) => before.join(&other),
+            Some(before) => CharacterBox {
+                min_m: before.min_m.min(other.min_m),
+                max_m: before.max_m.max(other.max_m),
+                min_n: before.min_n.min(other.min_n),
+                max_n: before.max_n.max(other.max_n),
+            },
             None => other,
         }
     }
