@@ -66,5 +66,3 @@ pub black_runs-ones : (rs : List Run) → All IsBlack (black_runs rs)
 unfolding black_runs
 black_runs-ones [] = All-nil IsBlack
 black_runs-ones (r ∷ rs) = grind (arith, ints, cond_both, All-cons, black_runs-ones rs)
-
--- ---- the runs of an iterator, passed one after another

@@ -15,8 +15,6 @@ use Rattle.mf_rows.proofs.RunsLemmas.{dots_of-runs_of, maximal_runs_of, runs_of-
 use Rattle.mf_gf.specs.Ahead.{AreBlackRuns}
 use Rattle.mf_gf.proofs.BlackDots.{IsBlack}
 
--- ---- runs in order
-
 -- ---- a stretch so far
 
 -- a stretch and the runs ahead together have the dots of all these runs

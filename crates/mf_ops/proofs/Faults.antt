@@ -136,7 +136,7 @@ op_fault-inside ds op inside =
 pub op_fault-leaves : (ds : List Dot) (op : Op) → TurnsLawfully op → list_any (leaves op) ds ≡ true → op_fault ds op ≡ Some OutOfField
 op_fault-leaves ds op turns leaves_it = op_fault-pixels ds op turns ∙ (λ t. cond (leaves_it t) (Some OutOfField) (weight_fault (next_picture ds op)))
 
--- so it is the picture after the operation, which is not refused
+-- a picture that has the weights of a step is the one after the operation, which is not refused
 pub made-from_weights : (ds : List Dot) (op : Op) (new : List Dot) → IsForWeights ds op → IsPicture new → HasWeights (step_at ds op) new
     → (new ≡ next_picture ds op) × (op_fault ds op ≡ None)
 made-from_weights ds op new stays picture has = grind (arith, ints, next_picture-from_weights, none_too_large, op_fault-inside, sym)
@@ -165,9 +165,10 @@ stays_everywhere ds op turns none = record { turns = turns; stays = record { non
 pub stays_anyway : (ds : List Dot) (op : Op) → cycle_fault op ≡ None → (leaves op ≡ (λ d. false)) → IsForWeights ds op
 stays_anyway ds op none leaves_none = stays_everywhere ds op (record { none = none }) (ap (λ test. list_any test ds) leaves_none ∙ never ds)
 
-pub made_anyway : (ds : List Dot) (op : Op) (new : List Dot) → cycle_fault op ≡ None → (leaves op ≡ (λ d. false)) → IsPicture new
+-- and a picture that has the weights of their step is the one after them
+pub makes_anyway : (ds : List Dot) (op : Op) (new : List Dot) → cycle_fault op ≡ None → (leaves op ≡ (λ d. false)) → IsPicture new
     → HasWeights (step_at ds op) new → (new ≡ next_picture ds op) × (op_fault ds op ≡ None)
-made_anyway ds op new none leaves_none = made-from_weights ds op new (stays_anyway ds op none leaves_none)
+makes_anyway ds op new none leaves_none = made-from_weights ds op new (stays_anyway ds op none leaves_none)
 
 -- so they are not refused with OutOfField
 weight_fault-not_out : (large : Bool) → cond large (Some WeightTooLarge) None ≢ Some OutOfField

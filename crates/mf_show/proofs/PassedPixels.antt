@@ -105,7 +105,7 @@ ahead_below b y ds rs others box =
     ahead_later (place b.min_x y) (place (b.max_x +ℤ pos 1) y) (place b.min_x (y -ℤ pos 1)) ds rs others
     (omega (arith, ints)) (omega (arith, ints, box.left, box.right))
 
--- ---- the weight of the pixel (x, y), where the first run ahead reaches it
+-- ---- the weight of the pixel (x, y), where no run is ahead
 
 pub weight_of_none : (x y : ℤ) (all : List Run) (o : Option Run) (rs : List Run) → o ≡ None
     → AreSameFrom (place x y) (flat_map dots_of all) (flat_map dots_of (with_next o rs)) → pos 0 ≡ weight_at (flat_map dots_of all) x y

@@ -4,7 +4,7 @@ use Rattle.mf_rows.specs.declared.sign.Sign.TheVariants.{Plus, Minus}
 use Rattle.mf_rows.proofs.PictureRows.{unlawful_as}
 use Rattle.mf_ops.specs.declared.op.Op.TheVariants.{Also}
 use Rattle.mf_rows.specs.Sums.{difference_at, sum_at}
-use Rattle.mf_ops.proofs.Faults.{made_anyway, op_fault-sum_fault, stays_anyway}
+use Rattle.mf_ops.proofs.Faults.{makes_anyway, op_fault-sum_fault, stays_anyway}
 use Rattle.mf_ops.proofs.add.add.Goals as goal
 
 pub returns-in_err-add-in-Plus-clause-refused : goal.returns-in_err-add-in-Plus-clause-refused
@@ -30,7 +30,7 @@ unfolding sum_at
 returns-in_ok-add-in-Plus c =
     let ds = c.args.picture.now in
     let es = c.args.other.now in
-    let made = made_anyway ds (Also es Plus) _ refl refl c.in_ok-add-in-Plus.ensures.lawful c.in_ok-add-in-Plus.ensures.weights in
+    let made = makes_anyway ds (Also es Plus) _ refl refl c.in_ok-add-in-Plus.ensures.lawful c.in_ok-add-in-Plus.ensures.weights in
     rw c.in-Plus.is record { step = made.0; accepted = made.1; unchanged = tt; refused = tt; blank = λ blank. refl }
 
 pub returns-in_ok-subtract-in-Minus : goal.returns-in_ok-subtract-in-Minus
@@ -38,5 +38,5 @@ unfolding difference_at
 returns-in_ok-subtract-in-Minus c =
     let ds = c.args.picture.now in
     let es = c.args.other.now in
-    let made = made_anyway ds (Also es Minus) _ refl refl c.in_ok-subtract-in-Minus.ensures.lawful c.in_ok-subtract-in-Minus.ensures.weights in
+    let made = makes_anyway ds (Also es Minus) _ refl refl c.in_ok-subtract-in-Minus.ensures.lawful c.in_ok-subtract-in-Minus.ensures.weights in
     rw c.in-Minus.is record { step = made.0; accepted = made.1; unchanged = tt; refused = tt; blank = λ blank. refl }

@@ -3,7 +3,7 @@ use Rattle.std.proofs.lemmas.Result.{err_from_is_err_and}
 use Rattle.mf_geom.specs.declared.check.Check.TheVariants.{Off}
 use Rattle.mf_rows.proofs.PictureRows.{unlawful_as}
 use Rattle.mf_ops.specs.declared.op.Op.TheVariants.{Contour}
-use Rattle.mf_ops.proofs.Faults.{HasWeights-same, made_anyway, op_fault-sum_fault, stays_anyway}
+use Rattle.mf_ops.proofs.Faults.{HasWeights-same, makes_anyway, op_fault-sum_fault, stays_anyway}
 use Rattle.mf_ops.proofs.Sides.{with_corners_at-contour}
 use Rattle.mf_ops.proofs.fill.fill.Goals as goal
 
@@ -24,5 +24,5 @@ returns c =
     let op = Contour c.args.cycle.now c.args.weight Off in
     let same = with_corners_at-contour ds c.args.cycle.now c.args.weight _ (rw (to_z-of_z c.ranges.weight) at c.in_ok-corners.ensures.added) in
     let has = HasWeights-same _ _ _ same c.in_ok-add_corners.ensures.weights in
-    let made = made_anyway ds op _ refl refl c.in_ok-add_corners.ensures.lawful has in
+    let made = makes_anyway ds op _ refl refl c.in_ok-add_corners.ensures.lawful has in
     record { step = made.0; accepted = made.1; unchanged = tt; refused = tt }
