@@ -4,23 +4,14 @@ use Rattle.std.proofs.lemmas.Bool.{cases_lt, cond_both}
 use Rattle.std.proofs.lemmas.List.{take_all, take-append-le, length-take-le}
 use Rattle.std.specs.Str.Lines.{strip_carriage_return}
 use Rattle.mf_desk.specs.declared.line_buffer.TheConstants.{MAX_KEPT}
-use Rattle.mf_text.specs.Lines.{IsRefused, longest_line}
-use Rattle.mf_text.specs.declared.fault.TextFault.{TextFault}
-use Rattle.mf_text.specs.declared.fault.TextFault.TheVariants.{LineTooLong, NotAscii, Syntax}
+use Rattle.mf_text.specs.Lines.{longest_line}
 use Rattle.mf_session.specs.Answers.{Answers}
 use Rattle.mf_session.specs.States.{Answer, Limits, State}
 
--- a line that is too long has no other refusal
-refused-too_long : (xs ys : List ℕ) (fault : TextFault) → longest_line < length xs → longest_line < length ys → IsRefused xs fault → IsRefused ys fault
-refused-too_long xs ys LineTooLong long longer refused = longer
-refused-too_long xs ys NotAscii long longer refused = absurd (omega (arith, refused.0))
-refused-too_long xs ys (Syntax column) long longer refused = absurd (omega (arith, refused.0.short))
-refused-too_long xs ys fault long longer refused = absurd (omega (arith, refused.line_is.text.short))
-
--- so all lines that are too long have the same answer
+-- all lines that are too long have the same answer
 Answers-too_long : (limits : Limits) (s : State) (xs ys : List ℕ) (a : Answer) → longest_line < length xs → longest_line < length ys
     → Answers limits s xs a → Answers limits s ys a
-Answers-too_long limits s xs ys a long longer answer = grind (arith, refused-too_long)
+Answers-too_long limits s xs ys a long longer answer = grind arith
 
 -- of a line that grows, as many bytes are kept as of the complete line
 pub take-taken : (n : ℕ) (xs ys : List ℕ) → take n (take n xs ++ ys) ≡ take n (xs ++ ys)

@@ -8,7 +8,7 @@ use Rattle.std.proofs.KnownBytes.{Appends-kept, Appends-nil, Appends-trans}
 use Rattle.std.proofs.lemmas.Bool.{ne_eqb, eqb-true, eqb-false}
 use Rattle.std.proofs.lemmas.List.{nil_from_length}
 use Rattle.mf_desk.specs.declared.fault.RunFault.{RunFault}
-use Rattle.mf_desk.specs.declared.fault.RunFault.TheVariants.{OutOfMemory, ReadFault, WriteFault}
+use Rattle.mf_desk.specs.declared.fault.RunFault.TheVariants.{OutOfMemory, WriteFault}
 use Rattle.mf_desk.specs.declared.line_buffer.TheConstants.{MAX_KEPT}
 use Rattle.mf_desk.specs.declared.performer.Performer.{Performer}
 use Rattle.mf_desk.specs.declared.progress.Progress.{Progress}
@@ -191,10 +191,6 @@ module _ (held holds : Option (List ℕ)) (read : List ℕ) (run : Progress) (af
   pub HasCounted-last : (later : Option (List ℕ)) (new : Performer) → eqb (length run.line) 0 ≡ false → limits new.session ≡ bounds
       → Gets holds later (IsWritten run.performer run.line new) → HasCounted held (lines read) new later
   HasCounted-last later new some same written = HasCounted-more later (lines read) run.line new (performed-last some) written same
-
-  -- a read fails: the texts of the lines that a line feed ended are written
-  pub Breaks-reads : (left : Option (List ℕ)) → Gets held holds (MakesPassage (Breaks bounds ReadFault) left read)
-  Breaks-reads left = (so_far.text, so_far.out, record { last = so_far.last; performed = so_far.performed })
 
 -- an allocation fails before anything is read
 pub Breaks-nothing : (l : Limits) (left held : Option (List ℕ)) → Gets held held (MakesPassage (Breaks l OutOfMemory) left [])

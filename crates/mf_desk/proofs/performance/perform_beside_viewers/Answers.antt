@@ -7,12 +7,12 @@ use Rattle.mf_session.specs.Sessions.{identity}
 use Rattle.mf_watch.specs.Watchers.{IsRecord, IsWatcher}
 use Rattle.mf_watch.specs.Watching.{AreStarted, viewer_count}
 use Rattle.mf_base.proofs.Faults.{IfErr-raised}
-use Rattle.mf_desk.proofs.Performances.{TellsOfBegun-script, TellsOfBegun-end, TellsOfEnd-unfinished, IsPerformance-over}
+use Rattle.mf_desk.proofs.Performances.{TellsOfBegun-end, TellsOfEnd-unfinished, IsPerformance-over}
 use Rattle.mf_desk.proofs.performance.perform_beside_viewers.Goals.{After-join-joined}
 use Rattle.mf_desk.proofs.performance.perform_beside_viewers.Goals as goal
 
 pub returns-in_err-ended-clause-fault : goal.returns-in_err-ended-clause-fault
-returns-in_err-ended-clause-fault g c = grind (arith, IfErr-raised, TellsOfBegun-script)
+returns-in_err-ended-clause-fault g c = grind (arith, IfErr-raised)
 
 joined : (g : _) (c : After-join-joined g) (looks : ℕ) (Q : Watcher → Type 0)
     → AreStarted (identity c.args.progress.performer.session) looks c.args.watching

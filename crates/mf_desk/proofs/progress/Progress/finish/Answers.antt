@@ -1,4 +1,4 @@
-use Rattle.std.proofs.Common.{ℕ, List, Option, Result, Ok, Err, append-nil, inr, sym}
+use Rattle.std.proofs.Common.{ℕ, List, Option, Result, append-nil, arith, inr, sym}
 use Rattle.std.specs.Prelude.{OnOk}
 use Rattle.std.specs.Str.Lines.{lines}
 use Rattle.std.proofs.lemmas.Result.{IfErr-weaker}
@@ -15,8 +15,7 @@ returns-then-is_empty-clause-done g c = λ held read after.
 
 -- a fact that holds whatever the result is
 always : {T E : Type 0} {P : Type 0} (r : Result T E) → P → OnOk r P
-always (Ok done) holds = holds
-always (Err fault) holds = tt
+always r holds = grind arith
 
 pub returns-in_err-perform-clause-fault : goal.returns-in_err-perform-clause-fault
 returns-in_err-perform-clause-fault g c =

@@ -7,7 +7,7 @@ use Rattle.mf_desk.specs.Fault.{Breaks}
 use Rattle.mf_desk.specs.Streams.{Gets, MakesPassage}
 use Rattle.mf_session.specs.Sessions.{limits}
 use Rattle.mf_base.proofs.Faults.{IfErr-raised}
-use Rattle.mf_desk.proofs.Stages.{Breaks-flush, Breaks-reads, IsAfter-flushed}
+use Rattle.mf_desk.proofs.Stages.{Breaks-flush, IsAfter-flushed}
 use Rattle.mf_desk.proofs.progress.Progress.read_all.Goals as goal
 
 -- a read that gives no byte
@@ -31,7 +31,7 @@ returns-in_err-flush-clause-fault g c =
     ))
 
 pub returns-in-Err-clause-fault : goal.returns-in-Err-clause-fault
-returns-in-Err-clause-fault g c = grind (arith, IsAfter-flushed, Consumes-kept, Breaks-reads)
+returns-in-Err-clause-fault g c = grind (arith, IsAfter-flushed, Consumes-kept)
 
 pub returns-in-Ok-eq0-clause-end : goal.returns-in-Ok-eq0-clause-end
 returns-in-Ok-eq0-clause-end g c = grind (arith, on_ok_weaker)
@@ -79,4 +79,4 @@ reads-preserved g c =
     )
 
 pub returns-clause-fault : goal.returns-clause-fault
-returns-clause-fault g c = grind (arith, Breaks-reads)
+returns-clause-fault g c = grind arith
