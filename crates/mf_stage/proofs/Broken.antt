@@ -1,8 +1,7 @@
 -- Scripts that a fault has broken off.
-use Rattle.std.proofs.Common.{◌≡◌, ◌⊎◌, ◌++◌, ◌∷◌, [], ℕ, List, Option, None, Some, IfSome, inl, inr, is_some, refl, sym, ap, subst, ◌∙◌}
+use Rattle.std.proofs.Common.{◌≡◌, ◌⊎◌, ◌++◌, ◌∷◌, [], ℕ, List, Option, None, Some, IfSome, inl, refl, sym, ap, subst, ◌∙◌}
 use Rattle.std.proofs.Common.{append-nil, append_assoc, arith}
 use Rattle.std.proofs.KnownBytes.{Appends-nil, Appends-trans}
-use Rattle.std.proofs.lemmas.Bool.{false≢true}
 use Rattle.std.specs.Io.KnownBytes.{Appends}
 use Rattle.std.specs.Prelude.{IsSome, IsSomeAnd}
 use Rattle.std.specs.Str.Lines.{lines}
@@ -21,7 +20,7 @@ use Rattle.mf_stage.specs.Publications.{IsPlateIfAsked}
 use Rattle.mf_stage.specs.Scripts.{Act, HasPerformedLine, PerformsFrom, act_of}
 use Rattle.mf_stage.specs.Stages.{StandsFor, limits, plates_of}
 use Rattle.mf_stage.specs.declared.fault.StageFault.{StageFault}
-use Rattle.mf_stage.specs.declared.fault.StageFault.TheVariants.{OutOfMemory, FileTooLong, ReadFault, WriteFault, ImageTooLarge, PlateFault}
+use Rattle.mf_stage.specs.declared.fault.StageFault.TheVariants.{OutOfMemory, ReadFault, WriteFault, PlateFault}
 use Rattle.mf_stage.specs.declared.plate.Plate.{Plate}
 use Rattle.mf_stage.specs.declared.plate.Plates.{Plates}
 use Rattle.mf_stage.specs.declared.stage.Publication.{Publication}
@@ -30,15 +29,10 @@ use Rattle.mf_stage.specs.declared.stage.Stage.{Stage}
 regroup : (a b c d : List (List ℕ)) → (a ++ (b ++ c)) ++ d ≡ (a ++ b) ++ (c ++ d)
 regroup a b c d = simp append_assoc
 
+-- a fault between two lines says that the texts of the lines before it are written, and is not one of a plate
 tells-between : (d : DueLines) (last : State) (fault : StageFault) (written : List ℕ) → (fault ≡ OutOfMemory) ⊎ (fault ≡ ReadFault)
-    → IsFirstText d last written → TellsOfScript d last fault written
-tells-between d last fault written (inl is) first = subst (λ f. TellsOfScript d last f written) (sym is) first
-tells-between d last fault written (inr is) first = subst (λ f. TellsOfScript d last f written) (sym is) first
-
--- no such fault is one of a plate
-between-plates : (fault : StageFault) → (fault ≡ OutOfMemory) ⊎ (fault ≡ ReadFault) → ConcernsPlate fault → ⊥
-between-plates fault (inl is) concerns = subst ConcernsPlate is concerns
-between-plates fault (inr is) concerns = subst ConcernsPlate is concerns
+    → IsFirstText d last written → TellsOfScript d last fault written × (ConcernsPlate fault → ⊥)
+tells-between d last fault written between first = grind arith
 
 module _ (limits : Limits) (s t : State) (done mid more : List (List ℕ)) (text : List ℕ) (before : Perform limits s done (answer_with text t)) where
   -- lines that were performed go before the first of others
@@ -67,15 +61,6 @@ module _ (limits : Limits) (s t : State) (done mid more : List (List ℕ)) (text
     written_is = ap (λ w. text ++ w) f.written_is ∙ sym (append_assoc text f.texts f.front);
   }
 
-  tells-after : (last : State) (fault : StageFault) (written : List ℕ) → TellsOfScript (due_lines limits t mid) last fault written
-      → TellsOfScript (due_lines limits s ((done ++ mid) ++ more)) last fault (text ++ written)
-  tells-after last OutOfMemory written told = first-after last written told
-  tells-after last FileTooLong written told = told
-  tells-after last ReadFault written told = first-after last written told
-  tells-after last WriteFault written told = cut-after last written told
-  tells-after last (ImageTooLarge revision) written (first, published, large) = (first-after last written first, published, large)
-  tells-after last (PlateFault revision) written (first, published, fits) = (first-after last written first, published, fits)
-
 -- what is written where a fault comes in a line, whose stage represented the state t
 broken-after : (before now after : Stage) (s : State) (done mid more : List (List ℕ)) (fault : StageFault) (held holds last : Option (List ℕ))
     → limits now ≡ limits before → plates_of now ≡ plates_of before → (first : PerformsFrom (act_of before now held holds) s done)
@@ -87,8 +72,7 @@ broken-after before now after s done mid more fault held holds last same same_pl
       written = first.text ++ broken.written;
       stands = broken.stands;
       out = Appends-trans held holds last first.text broken.written first.out broken.out;
-      told = tells-after (limits before) s first.last done mid more first.text first.performed broken.last fault broken.written
-          (subst (λ l. TellsOfScript (due_lines l first.last mid) broken.last fault broken.written) same broken.told);
+      told = grind (arith, first-after, cut-after);
       asked = λ concerns. subst IsSome same_plates (broken.asked concerns);
     }
 
@@ -108,14 +92,15 @@ under_way-broken act unread left fault was between =
       known = known;
       such = λ s stands.
           let performed = was.performed s stands in
+          let (told, unasked) = tells-between (due_lines (limits act.before) s (lines input)) performed.last fault performed.text between
+          (record { done = was.done; more = more; first = first; performed = performed.performed }) in
           record {
             last = performed.last;
             written = performed.text;
             stands = performed.stands;
             out = performed.out;
-            told = tells-between (due_lines (limits act.before) s (lines input)) performed.last fault performed.text between
-                (record { done = was.done; more = more; first = first; performed = performed.performed });
-            asked = λ concerns. absurd (between-plates fault between concerns);
+            told = told;
+            asked = λ concerns. absurd (unasked concerns);
           };
     }
 
@@ -148,7 +133,7 @@ nothing-done before after s line held stands = grind (arith, Appends-nil)
 
 -- the text of a line was cut
 pub line-cut : (act : Act) (s next : State) (line text : List ℕ) → Answers (limits act.before) s line (answer_with text next) → StandsFor act.after next
-    → GetsFront act.held act.holds text → AreBrokenOff act s (line ∷ []) WriteFault
+    → GetsFront act.transcript.held act.transcript.holds text → AreBrokenOff act s (line ∷ []) WriteFault
 line-cut act s next line text answer stands (front, rest, is, out) = record {
   last = next;
   written = front;
@@ -175,25 +160,17 @@ line-first : (limits : Limits) (s next : State) (line text : List ℕ) → Answe
 line-first limits s next line text answer =
     record { done = line ∷ []; more = []; first = refl; performed = Perform-one limits s line (answer_with text next) answer }
 
-tells-published : (d : DueLines) (next : State) (fault : StageFault) (text : List ℕ) → IsFirstText d next text
-    → next.pictures.published ≡ next.pictures.accepted → IsOfPlate next.pictures.published fault → TellsOfScript d next fault text
-tells-published d next OutOfMemory text first all is = first
-tells-published d next (ImageTooLarge revision) text first all is = (first, all, is)
-tells-published d next (PlateFault revision) text first all is = (first, all, is)
-tells-published d next fault text first all is = absurd is
-
 -- a line was performed and its text was written, and then the plate of what it has published fails
 pub line-published : (act : Act) (s next : State) (line text : List ℕ) (fault : StageFault)
-    → Answers (limits act.before) s line (answer_with text next) → StandsFor act.after next → Appends act.held act.holds text
+    → Answers (limits act.before) s line (answer_with text next) → StandsFor act.after next → Appends act.transcript.held act.transcript.holds text
     → next.pictures.published ≡ next.pictures.accepted → IsOfPlate next.pictures.published fault → IsSome (plates_of act.before)
     → AreBrokenOff act s (line ∷ []) fault
-line-published act s next line text fault answer stands out all is some = grind (arith, tells-published, line-first)
+line-published act s next line text fault answer stands out all is some = grind (arith, line-first)
 
 -- there is a plate only where plates are asked for, and where the picture is not too large for an image
 plate-made : (plates : Option Plates) (shown : List Entry) (made : Option Plate) → IsPlateIfAsked plates shown made → IsSome made
     → IsSome plates × (IsTooLargeForImage (picture_at shown) → ⊥)
-plate-made None shown made none some = absurd (false≢true (sym (ap is_some none) ∙ some))
-plate-made (Some plates) shown made (plate, is, it) some = (refl, it.svg.fits)
+plate-made plates shown made is some = grind arith
 
 -- the same of a plate that was made and not written
 pub line-unwritten : (act : Act) (s : State) (line : List ℕ) (fault : StageFault) (made : Option Publication) → HasPerformedLine act s line made

@@ -3,13 +3,12 @@ use Rattle.std.proofs.Common.{◌≡◌, ◌++◌, ◌∷◌, [], ℕ, List, Opt
 use Rattle.std.proofs.KnownBytes.{Appends-nil, Appends-trans}
 use Rattle.std.specs.Io.KnownBytes.{IsAtEnd}
 use Rattle.std.specs.Str.Lines.{lines}
-use Rattle.mf_session.proofs.Performing.{Perform-append, Perform-one}
+use Rattle.mf_session.proofs.Performing.{Perform-append}
 use Rattle.mf_session.specs.States.{State}
 use Rattle.mf_stage.proofs.Cuts.{next_lines, spelled_line}
 use Rattle.mf_stage.specs.Lines.{IsReadLine, Reads, without_ending}
-use Rattle.mf_stage.specs.Scripts.{Act, HasPerformedLine, PerformsAll, PerformsFrom, PerformsLines, act_of}
+use Rattle.mf_stage.specs.Scripts.{Act, PerformsAll, PerformsFrom, PerformsLines, act_of}
 use Rattle.mf_stage.specs.Stages.{limits}
-use Rattle.mf_stage.specs.declared.stage.Publication.{Publication}
 use Rattle.mf_stage.specs.declared.stage.Stage.{Stage}
 
 -- where the bytes of a script are known, so are those that are left, which have the lines after these
@@ -29,8 +28,7 @@ pub record IsUnderWay (act : Act) (unread left : Option (List ℕ)) : Type 0 whe
   pub performed : PerformsLines act done
 
 ahead-start : (unread : Option (List ℕ)) → AreBefore unread unread []
-ahead-start None = tt
-ahead-start (Some input) = (input, refl, refl)
+ahead-start unread = grind arith
 
 -- no line has been performed
 pub under_way-start : (stage : Stage) (unread held : Option (List ℕ)) → IsUnderWay (act_of stage stage held held) unread unread
@@ -40,24 +38,15 @@ under_way-start stage unread held = record {
   performed = λ s stands. record { text = []; last = s; performed = refl; stands = stands; out = Appends-nil held };
 }
 
--- one line is performed
-pub performed-one : (act : Act) (s : State) (line : List ℕ) (made : Option Publication) → HasPerformedLine act s line made → PerformsFrom act s (line ∷ [])
-performed-one act s line made one = grind (arith, Perform-one)
-
 -- some lines are performed, and then others
 performed-more : (before now later : Stage) (s : State) (done more : List (List ℕ)) (held holds last : Option (List ℕ))
     → limits now ≡ limits before → (first : PerformsFrom (act_of before now held holds) s done)
     → PerformsFrom (act_of now later holds last) first.last more → PerformsFrom (act_of before later held last) s (done ++ more)
 performed-more before now later s done more held holds last same first second = grind (arith, Perform-append, Appends-trans)
 
--- what holds of known bytes
-known_is : (P : List ℕ → Type 0) (left : Option (List ℕ)) (rest : List ℕ) → left ≡ Some rest → IfSome left P → P rest
-known_is P left rest is known = subst (λ l. IfSome l P) is known
-
 ahead-next : (unread left remaining : Option (List ℕ)) (done : List (List ℕ)) (line : List ℕ) → AreBefore unread left done
     → IfSome left (λ rest. Reads rest line remaining) → AreBefore unread remaining (done ++ without_ending line ∷ [])
-ahead-next None left remaining done line ahead reads = tt
-ahead-next (Some input) left remaining done line (rest, is, before) reads = grind (arith, known_is, next_lines, sym, append_assoc)
+ahead-next unread left remaining done line ahead reads = grind (arith, next_lines, sym, append_assoc)
 
 -- the next line is read: the first lines of the script are one more
 pub under_way-line : (unread left remaining : Option (List ℕ)) (done : List (List ℕ)) (line : List ℕ) → AreFirstLines unread left done

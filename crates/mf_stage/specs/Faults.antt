@@ -69,7 +69,7 @@ pub record AreBrokenOff (act : Act) (s : State) (whole : List (List ℕ)) (fault
   pub last : State
   pub written : List ℕ
   pub stands : StandsFor act.after last
-  pub out : Appends act.held act.holds written
+  pub out : Appends act.transcript.held act.transcript.holds written
   pub told : TellsOfScript (due_lines (limits act.before) s whole) last fault written
   pub asked : ConcernsPlate fault → IsSome (plates_of act.before)
 

@@ -2,6 +2,7 @@
 use Rattle.std.specs.Prelude.{◌≡◌, ℕ, IfSome, List, Option}
 use Rattle.std.specs.Io.KnownBytes.{Appends}
 use Rattle.std.specs.Str.Lines.{lines}
+use Rattle.mf_base.specs.Messages.{Receipt, receipt}
 use Rattle.mf_session.specs.Answers.{Answers}
 use Rattle.mf_session.specs.Sessions.{HasPerformed}
 use Rattle.mf_session.specs.States.{State, answer_with}
@@ -11,16 +12,15 @@ use Rattle.mf_stage.specs.Stages.{StandsFor, limits, plates_of, session_of}
 use Rattle.mf_stage.specs.declared.stage.Publication.{Publication}
 use Rattle.mf_stage.specs.declared.stage.Stage.{Stage}
 
--- what a stage does: the stage before and after it, and what its writer held and holds
+-- what a stage does: the stage before and after it, and what its writer has received
 pub record Act : Type 0 where
   pub before : Stage
   pub after : Stage
-  pub held : Option (List ℕ)
-  pub holds : Option (List ℕ)
+  pub transcript : Receipt
 
--- the act with these four, in this order
+-- the act of such a stage, whose writer held and holds these bytes
 abbrev pub act_of : Stage → Stage → Option (List ℕ) → Option (List ℕ) → Act
-act_of before after held holds = record { before = before; after = after; held = held; holds = holds }
+act_of before after held holds = record { before = before; after = after; transcript = receipt held holds }
 
 -- in this act the stage, which represented this state, has performed a line and written its text, and this was made of what is
 -- published after it
@@ -29,12 +29,12 @@ pub record HasPerformedLine (act : Act) (s : State) (line : List ℕ) (made : Op
   pub next : State
   pub answer : Answers (limits act.before) s line (answer_with text next)
   pub stands : StandsFor act.after next
-  pub out : Appends act.held act.holds text
+  pub out : Appends act.transcript.held act.transcript.holds text
   pub made_is : Announces (plates_of act.before) line next.pictures.published made
 
 -- in this act the stage, which represented this state, has performed lines and written their texts
 abbrev pub PerformsFrom : Act → State → List (List ℕ) → Type 0
-PerformsFrom act s done = HasPerformed (due_lines (limits act.before) s done) (session_of act.after) act.held act.holds
+PerformsFrom act s done = HasPerformed (due_lines (limits act.before) s done) (session_of act.after) act.transcript.held act.transcript.holds
 
 -- in this act the stage has performed these lines, whatever state it represented
 abbrev pub PerformsLines : Act → List (List ℕ) → Type 0

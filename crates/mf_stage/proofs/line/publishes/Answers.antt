@@ -1,5 +1,6 @@
-use Rattle.mf_stage.proofs.Commands.{refused-publish}
+use Rattle.std.proofs.Common.{arith}
+use Rattle.mf_text.proofs.OneAnswer.{given_or_refused}
 use Rattle.mf_stage.proofs.line.publishes.Goals as goal
 
 pub returns-in-Err : goal.returns-in-Err
-returns-in-Err c = refused-publish c.args.line.now c.in-Err.fault c.no_publish.result c.in-Err.ensures.refused c.no_publish.ensures
+returns-in-Err c = grind (arith, given_or_refused)

@@ -1,10 +1,11 @@
+use Rattle.std.proofs.Common.{arith}
 use Rattle.mf_base.proofs.Faults.{IfErr-raised}
+use Rattle.mf_session.proofs.Performing.{Perform-one}
 use Rattle.mf_stage.proofs.Broken.{line-unwritten}
-use Rattle.mf_stage.proofs.Scripts.{performed-one}
 use Rattle.mf_stage.proofs.stage.Stage.perform_line.Goals as goal
 
 pub returns-clause-performed : goal.returns-clause-performed
-returns-clause-performed g c = λ s stands. performed-one _ s _ c.in_ok-made.made (c.in_ok-made.ensures.performed s stands)
+returns-clause-performed g c = grind (arith, Perform-one)
 
 pub returns-in_err-announce-clause-begun : goal.returns-in_err-announce-clause-begun
 returns-in_err-announce-clause-begun g c =
