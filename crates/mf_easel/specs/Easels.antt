@@ -9,7 +9,7 @@ use Rattle.mf_rows.specs.Dots.{Dot}
 use Rattle.mf_easel.specs.Screens.{cursor_to_last_frame}
 use Rattle.mf_easel.specs.declared.easel.Easel.{Easel}
 use Rattle.mf_easel.specs.declared.fault.EaselFault.{EaselFault}
-use Rattle.mf_easel.specs.declared.fault.EaselFault.TheVariants.{NoLook, OutOfMemory, WriteFault}
+use Rattle.mf_easel.specs.declared.fault.EaselFault.TheVariants.{NoLook}
 use Rattle.mf_frame.specs.Canvases.{Size}
 use Rattle.mf_frame.specs.Frames.{frame_text}
 use Rattle.mf_frame.specs.declared.tile.Style.{Style}
@@ -58,8 +58,7 @@ drawing_of easel L = drawing (manner_of easel) (revision_of easel) (revision_at 
 -- where nothing is drawn, the viewer has not looked, or something failed after it had
 abbrev pub IsNotDrawn : Viewer → Viewer → EaselFault → Type 0
 IsNotDrawn before after NoLook = viewers.SeesTheSame before after
-IsNotDrawn before after OutOfMemory = HasLooked before after
-IsNotDrawn before after WriteFault = HasLooked before after
+IsNotDrawn before after _ = HasLooked before after
 
 -- the viewer has looked at the complete list, of which everything that it had seen before is a whole prefix
 abbrev pub HasLookedLast : Viewer → List Entry → Viewer → Type 0
@@ -68,5 +67,4 @@ HasLookedLast before whole after = viewers.Extends before whole × HasLookedAt w
 -- where the last picture is not drawn, the viewer has only learnt of the complete list, or something failed after it had looked
 abbrev pub IsLastNotDrawn : Viewer → List Entry → Viewer → EaselFault → Type 0
 IsLastNotDrawn before whole after NoLook = HasLearnt before whole after
-IsLastNotDrawn before whole after OutOfMemory = HasLookedLast before whole after
-IsLastNotDrawn before whole after WriteFault = HasLookedLast before whole after
+IsLastNotDrawn before whole after _ = HasLookedLast before whole after

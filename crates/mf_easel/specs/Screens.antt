@@ -3,7 +3,7 @@ use Rattle.std.specs.Prelude.{◌≡◌, ◌==◌, ◌<◌, Bool, false, ℕ, Li
 use Rattle.std.specs.Io.KnownBytes.{Appends}
 use Rattle.mf_base.specs.Messages.{GetsFront}
 use Rattle.mf_easel.specs.declared.fault.EaselFault.{EaselFault}
-use Rattle.mf_easel.specs.declared.fault.EaselFault.TheVariants.{NoLook, OutOfMemory, WriteFault}
+use Rattle.mf_easel.specs.declared.fault.EaselFault.TheVariants.{WriteFault}
 use Rattle.mf_frame.specs.Canvases.{Size, frame_lines}
 use Rattle.mf_frame.specs.declared.tile.Style.{Style}
 use Rattle.mf_frame.specs.declared.tile.Style.TheVariants.{Colored, Plain}
@@ -48,6 +48,5 @@ GetsFrame s text (Some revision) = Appends (s.contents s.before) (s.contents s.a
 
 -- after a fault the screen is as it was, or after `WriteFault` has got a front of the text, from nothing to all of it
 abbrev pub GetsNoMore : {W : Type 0} → Screen W → List ℕ → EaselFault → Type 0
-GetsNoMore s text OutOfMemory = s.after ≡ s.before
-GetsNoMore s text NoLook = s.after ≡ s.before
 GetsNoMore s text WriteFault = GetsFront (s.contents s.before) (s.contents s.after) text
+GetsNoMore s text _ = s.after ≡ s.before
