@@ -52,5 +52,4 @@ pub record IsWordsInRange (asked : Words) : Type 0 where
 -- the numbers of a request are in their ranges
 abbrev pub IsRequestInRange : Request → Type 0
 IsRequestInRange (Show asked) = IsWordsInRange asked
-IsRequestInRange Help = Unit {0}
-IsRequestInRange Version = Unit {0}
+IsRequestInRange _ = Unit {0}
