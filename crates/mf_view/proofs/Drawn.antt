@@ -1,34 +1,32 @@
 -- What looks add to what an easel has drawn.
-use Rattle.std.proofs.Common.{◌≡◌, ◌∙◌, ℕ, List, [], ◌∷◌, Option, None, Some, IfSome, length, arith, refl, sym, subst}
+use Rattle.std.proofs.Common.{◌≡◌, ◌∙◌, ℕ, List, [], ◌∷◌, Option, None, Some, IfSome, arith, refl, sym, subst}
 use Rattle.std.specs.Io.KnownBytes.{Appends}
 use Rattle.std.proofs.KnownBytes.{Appends-nil, Appends-trans}
-use Rattle.std.proofs.lemmas.List.{append-nil}
+use Rattle.std.proofs.lemmas.List.{append-nil, nil_from_length}
 use Rattle.std.proofs.lemmas.List.Elements.{All-cons, All-head, All-nil, All-weaker}
-use Rattle.mf_base.specs.Messages.{GetsFront}
+use Rattle.mf_base.specs.Messages.{GetsFront, Receipt, receipt, receipt_of}
 use Rattle.mf_easel.specs.Easels.{HasLookedLast, HasSameManner, Manner, drawing, drawing_of, looked_at_list, manner_of, revision_of, viewer_of}
 use Rattle.mf_easel.specs.Screens.{GetsFrame, GetsNoMore, IsAbove, new_revision, screen_of}
 use Rattle.mf_easel.specs.declared.easel.Easel.{Easel}
 use Rattle.mf_easel.specs.declared.fault.EaselFault.{EaselFault}
 use Rattle.mf_easel.specs.declared.fault.EaselFault.TheVariants.{NoLook, OutOfMemory, WriteFault}
 use Rattle.mf_ops.specs.Operations.{revision_after}
-use Rattle.mf_ops.specs.declared.op.Op.{Op}
 use Rattle.mf_live.specs.Entries.{Entry, picture_at, revision_at}
 use Rattle.mf_live.specs.Prefixes.{IsWholePrefix}
 use Rattle.mf_live.specs.Sheets.{HasLooked}
 use Rattle.mf_live.proofs.EntryLists.{operations-append, revision_at-append}
 use Rattle.mf_live.proofs.WholePrefixes.{whole-self, whole-trans}
 use Rattle.mf_view.proofs.Messages.{message-after}
-use Rattle.mf_view.specs.Drawings.{AreLooks, HasDrawn, HasDrawnPart, IsPublishable, IsSeenOf, ShowsLast, frames, last_revision}
+use Rattle.mf_view.specs.Drawings.{AreLooks, DrawsMore, DrawsPart, HasDrawn, HasDrawnPart, IsPublishable, IsSeenOf, LeavesLast, ShowsLast}
+use Rattle.mf_view.specs.Drawings.{frames, last_revision}
 
 -- nothing is drawn where the revision is that of the frame before
 new-none : (drawn : Option ℕ) (revision : ℕ) → new_revision drawn revision ≡ None → drawn ≡ Some revision
-new-none None revision none = cc
-new-none (Some before) revision none = grind arith
+new-none drawn revision none = grind arith
 
 -- the revision that is drawn is that of the look
 new-some : (drawn : Option ℕ) (revision shown : ℕ) → new_revision drawn revision ≡ Some shown → shown ≡ revision
-new-some None revision shown some = grind arith
-new-some (Some before) revision shown some = grind arith
+new-some drawn revision shown some = grind arith
 
 -- what was looked at before a list was looked at before a longer one
 looks-before : (S L : List Entry) (lists : List (List Entry)) → IsWholePrefix S L → AreLooks S lists → AreLooks L lists
@@ -57,19 +55,19 @@ drawn-after : (held then holds : Option (List ℕ)) (m : Manner) (drawn : Option
 drawn-after held then holds m drawn lists L was last gets = grind (arith, Appends-trans)
 
 -- a look draws its own list after what was drawn, or what was drawn last has its revision
-pub drawn-look : {W : Type 0} (contents : W → Option (List ℕ)) (held : Option (List ℕ)) (s t : W) (before after : Easel) (shown : Option ℕ)
+pub drawn-look : {W : Type 0} (contents : W → Option (List ℕ)) (s t : W) (before after : Easel) (shown : Option ℕ)
     → HasLooked (viewer_of before) (viewer_of after) → HasSameManner before after
     → shown ≡ new_revision (revision_of before) (revision_at (looked_at_list after))
     → revision_of after ≡ Some (revision_at (looked_at_list after))
     → GetsFrame (screen_of contents s t) (drawing_of before (looked_at_list after)) shown → IfSome shown (IsAbove (revision_of before))
-    → HasDrawn before held (contents s) → HasDrawn after held (contents t)
-drawn-look contents held s t before after None look manner answer drawn same rising was = record {
+    → DrawsMore before after (receipt_of contents s t)
+drawn-look contents s t before after None look manner answer drawn same rising held was = record {
   lists = was.lists;
   text = rw same (in-manner held (contents s) before after was.lists manner was.text);
   looks = looks-before (looked_at_list before) (looked_at_list after) was.lists look.extends.looked was.looks;
   last = drawn ∙ (sym (new-none (revision_of before) (revision_at (looked_at_list after)) (sym answer)) ∙ was.last);
 }
-drawn-look contents held s t before after (Some shown) look manner answer drawn gets rising was =
+drawn-look contents s t before after (Some shown) look manner answer drawn gets rising held was =
     let revision = new-some (revision_of before) (revision_at (looked_at_list after)) shown (sym answer) in
     record {
       lists = looked_at_list after ∷ was.lists;
@@ -80,32 +78,28 @@ drawn-look contents held s t before after (Some shown) look manner answer drawn 
       last = drawn;
     }
 
-no-operation : (ops : List Op) → length ops ≡ 0 → ops ≡ []
-no-operation [] none = refl
-no-operation (op ∷ ops) none = cc
-
 -- a whole prefix with the revision of the list has its picture
 same-picture : (L whole : List Entry) → IsWholePrefix L whole → revision_at L ≡ revision_at whole → picture_at L ≡ picture_at whole
 unfolding revision_after
-same-picture L whole part same = grind (arith, revision_at-append, no-operation, sym, operations-append, append-nil)
+same-picture L whole part same = grind (arith, revision_at-append, nil_from_length, sym, operations-append, append-nil)
 
 -- the last picture was drawn before
-shown-before : (easel : Easel) (whole : List Entry) (held holds : Option (List ℕ)) (lists : List (List Entry))
-    → Appends held holds (frames (manner_of easel) lists) → AreLooks whole lists → last_revision lists ≡ Some (revision_at whole)
-    → ShowsLast (manner_of easel) whole held holds
-shown-before easel whole held holds [] text looks last = cc
-shown-before easel whole held holds (L ∷ earlier) text looks last = grind (arith, same-picture, All-head)
+shown-before : (easel : Easel) (whole : List Entry) (screen : Receipt) (lists : List (List Entry))
+    → Appends screen.held screen.holds (frames (manner_of easel) lists) → AreLooks whole lists → last_revision lists ≡ Some (revision_at whole)
+    → ShowsLast (manner_of easel) whole screen
+shown-before easel whole screen [] text looks last = cc
+shown-before easel whole screen (L ∷ earlier) text looks last = grind (arith, same-picture, All-head)
 
 -- the last look leaves the last picture on the screen
-pub shown-last : {W : Type 0} (contents : W → Option (List ℕ)) (held : Option (List ℕ)) (s t : W) (before after : Easel) (whole : List Entry) (shown : Option ℕ)
+pub shown-last : {W : Type 0} (contents : W → Option (List ℕ)) (s t : W) (before after : Easel) (whole : List Entry) (shown : Option ℕ)
     → HasLookedLast (viewer_of before) whole (viewer_of after) → shown ≡ new_revision (revision_of before) (revision_at whole)
     → GetsFrame (screen_of contents s t) (drawing_of before whole) shown → IfSome shown (IsAbove (revision_of before))
-    → HasDrawn before held (contents s) → ShowsLast (manner_of before) whole held (contents t)
-shown-last contents held s t before after whole None look answer same rising was =
+    → LeavesLast before whole (receipt_of contents s t)
+shown-last contents s t before after whole None look answer same rising held was =
     let again = sym was.last ∙ new-none (revision_of before) (revision_at whole) (sym answer) in
     let looks = looks-before (looked_at_list before) whole was.lists look.0.looked was.looks in
-    rw same (shown-before before whole held (contents s) was.lists was.text looks again)
-shown-last contents held s t before after whole (Some shown) look answer gets rising was =
+    rw same (shown-before before whole (receipt held (contents s)) was.lists was.text looks again)
+shown-last contents s t before after whole (Some shown) look answer gets rising held was =
     let revision = new-some (revision_of before) (revision_at whole) shown (sym answer) in
     record {
       last = whole;
@@ -121,24 +115,24 @@ no-looks : (whole : List Entry) → AreLooks whole []
 no-looks whole = record { rise = tt; seen = All-nil (IsSeenOf whole); published = All-nil IsPublishable }
 
 -- an easel that has drawn nothing
-pub drawn-nothing : (easel : Easel) (held : Option (List ℕ)) → revision_of easel ≡ None → HasDrawn easel held held
+pub drawn-nothing : (easel : Easel) (held : Option (List ℕ)) → revision_of easel ≡ None → HasDrawn easel (receipt held held)
 drawn-nothing easel held nothing = record { lists = []; text = Appends-nil held; looks = no-looks (looked_at_list easel); last = nothing }
 
 -- all that an easel has drawn is a part of it
-pub part-all : (easel : Easel) (held holds : Option (List ℕ)) → HasDrawn easel held holds → HasDrawnPart (manner_of easel) held holds
-part-all easel held holds was = grind (arith, sym, append-nil)
+pub part-all : (easel : Easel) (screen : Receipt) → HasDrawn easel screen → HasDrawnPart (manner_of easel) screen
+part-all easel screen was = grind (arith, sym, append-nil)
 
 -- nothing was drawn
-pub part-nothing : (m : Manner) (held : Option (List ℕ)) → HasDrawnPart m held held
+pub part-nothing : (m : Manner) (held : Option (List ℕ)) → HasDrawnPart m (receipt held held)
 part-nothing m held = record { whole = []; lists = []; looks = no-looks []; text = ([], [], refl, Appends-nil held) }
 
 -- after a fault of a look at a list the screen has a part of what was drawn and of the frame of that list
-pub part-cut : {W : Type 0} (contents : W → Option (List ℕ)) (held : Option (List ℕ)) (s t : W) (easel : Easel) (L : List Entry) (fault : EaselFault)
+pub part-cut : {W : Type 0} (contents : W → Option (List ℕ)) (s t : W) (easel : Easel) (L : List Entry) (fault : EaselFault)
     → (fault ≡ WriteFault → IsWholePrefix (looked_at_list easel) L × IsPublishable L × IsAbove (revision_of easel) (revision_at L))
-    → GetsNoMore (screen_of contents s t) (drawing_of easel L) fault → HasDrawn easel held (contents s) → HasDrawnPart (manner_of easel) held (contents t)
-part-cut contents held s t easel L OutOfMemory begun same was = rw same (part-all easel held (contents s) was)
-part-cut contents held s t easel L NoLook begun same was = rw same (part-all easel held (contents s) was)
-part-cut contents held s t easel L WriteFault begun gets was =
+    → GetsNoMore (screen_of contents s t) (drawing_of easel L) fault → DrawsPart easel (receipt_of contents s t)
+part-cut contents s t easel L OutOfMemory begun same held was = rw same (part-all easel (receipt held (contents s)) was)
+part-cut contents s t easel L NoLook begun same held was = rw same (part-all easel (receipt held (contents s)) was)
+part-cut contents s t easel L WriteFault begun gets held was =
     let (more, published, above) = begun refl in
     let frame = λ (drawn : Option ℕ). drawing (manner_of easel) drawn (revision_at L) (picture_at L) in
     record {

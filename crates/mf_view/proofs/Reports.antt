@@ -1,7 +1,7 @@
 -- How faults that end a run are reported.
 use Rattle.std.proofs.Common.{◌≡◌, ◌⊎◌, ℕ, inl, inr, List, Option, refl, sym, arith, ⊎_elim}
 use Rattle.clap.specs.Words.{Text}
-use Rattle.mf_base.specs.Messages.{GetsFront}
+use Rattle.mf_base.specs.Messages.{GetsFront, receipt}
 use Rattle.mf_frame.specs.Canvases.{IsLargeEnough}
 use Rattle.mf_view.specs.Faults.{EndsScript, GetsPartOfText, LacksRoom, ReportsFaultLast}
 use Rattle.mf_view.specs.Messages.{message_of}
@@ -43,7 +43,7 @@ answered words status IsUnread s text (inr failed) bad got = record {
 module _ (words : List Text) (asked : Words) (request : IsRequest words (Show asked)) where
   -- the script has ended with this fault, after which the stream of messages had some bytes
   pub reported : (fault : ProgramFault) (status : ℕ) (IsUnread : Type 0) (between : Option (List ℕ)) (s : ScreenStreams)
-      → EndsScript asked (record s { transcript = record { held = s.transcript.held; holds = between } }) fault → (fault ≡ NoPlace → IsUnread)
+      → EndsScript asked (record s { transcript = receipt s.transcript.held between }) fault → (fault ≡ NoPlace → IsUnread)
       → status ≡ status_of fault → GetsFront between s.transcript.holds (message_of fault) → ReportsFaultLast words status IsUnread s
   reported fault status IsUnread between s ends unread is message = grind (arith, sym)
 

@@ -2,6 +2,7 @@
 use Rattle.std.specs.Prelude.{◌≡◌, ◌⊎◌, ℕ, List, [], Option}
 use Rattle.std.specs.Io.KnownBytes.{Appends}
 use Rattle.std.specs.Str.Lines.{lines}
+use Rattle.mf_base.specs.Messages.{Receipt}
 use Rattle.mf_easel.specs.declared.fault.EaselFault.{EaselFault}
 use Rattle.mf_live.specs.Entries.{Entry}
 use Rattle.mf_session.specs.States.{State, answer_with, start}
@@ -27,14 +28,13 @@ TellsOfPerformance d last fault written =
     ((cause : StageFault) × (fault ≡ fault_of_stage cause) × TellsOfScript d last cause written)
     ⊎ ((Perform d.limits d.from d.whole (answer_with written last) × IsOfEnd last.pictures.accepted fault) ⊎ ((fault ≡ NoPlace) × (written ≡ [])))
 
--- this fault has broken off the performance of the script of these bytes; the transcript, which told some bytes before, tells what the
--- fault says
-pub record BreaksPerformance (told tells : Option (List ℕ)) (fault : ProgramFault) (input : List ℕ) : Type 0 where
+-- this fault has broken off the performance of the script of these bytes, and the transcript has received what the fault says
+pub record BreaksPerformance (transcript : Receipt) (fault : ProgramFault) (input : List ℕ) : Type 0 where
   pub last : State
   pub written : List ℕ
-  pub out : Appends told tells written
+  pub out : Appends transcript.held transcript.holds written
   pub tells_is : TellsOfPerformance (due_lines script_limits start (lines input)) last fault written
 
 -- a fault has broken off the performance of a script, that of the reader
-abbrev pub IsBrokenOff : Option (List ℕ) → Option (List ℕ) → Option (List ℕ) → ProgramFault → Type 0
-IsBrokenOff unread told tells fault = HoldsOfInput unread (BreaksPerformance told tells fault)
+abbrev pub IsBrokenOff : Option (List ℕ) → Receipt → ProgramFault → Type 0
+IsBrokenOff unread transcript fault = HoldsOfInput unread (BreaksPerformance transcript fault)

@@ -1,7 +1,7 @@
 -- What an easel has drawn on a screen.
-use Rattle.std.specs.Prelude.{◌≡◌, ℕ, All, List, [], ◌∷◌, ◌++◌, MatchResult, None, OnOk, Option, Result, Some}
+use Rattle.std.specs.Prelude.{◌≡◌, ℕ, All, List, [], ◌∷◌, ◌++◌, MatchResult, None, Option, Result, Some}
 use Rattle.std.specs.Io.KnownBytes.{Appends}
-use Rattle.mf_base.specs.Messages.{GetsFront}
+use Rattle.mf_base.specs.Messages.{GetsFront, Receipt, receipt}
 use Rattle.mf_easel.specs.Easels.{Manner, drawing, looked_at_list, manner_of, revision_of}
 use Rattle.mf_easel.specs.Screens.{IsAbove}
 use Rattle.mf_easel.specs.declared.easel.Easel.{Easel}
@@ -41,61 +41,53 @@ pub record AreLooks (whole : List Entry) (lists : List (List Entry)) : Type 0 wh
   pub published : All IsPublishable lists
 
 -- an easel has drawn frames of what its viewer has looked at, and nothing else went to its screen
-pub record HasDrawn (easel : Easel) (held holds : Option (List ℕ)) : Type 0 where
+pub record HasDrawn (easel : Easel) (screen : Receipt) : Type 0 where
   pub lists : List (List Entry)
-  pub text : Appends held holds (frames (manner_of easel) lists)
+  pub text : Appends screen.held screen.holds (frames (manner_of easel) lists)
   pub looks : AreLooks (looked_at_list easel) lists
   pub last : revision_of easel ≡ last_revision lists
 
 -- a screen has got a front of the frames of what a viewer may have looked at, and nothing else: so the last frame may be cut, and no other
-pub record HasDrawnPart (manner : Manner) (held holds : Option (List ℕ)) : Type 0 where
+pub record HasDrawnPart (manner : Manner) (screen : Receipt) : Type 0 where
   pub whole : List Entry
   pub lists : List (List Entry)
   pub looks : AreLooks whole lists
-  pub text : GetsFront held holds (frames manner lists)
-
--- the easel has drawn more, whatever it had drawn before; its screen, which held some bytes, now holds others
-abbrev pub DrawsMore : Easel → Easel → Option (List ℕ) → Option (List ℕ) → Type 0
-DrawsMore before after holds later = (held : Option (List ℕ)) → HasDrawn before held holds → HasDrawn after held later
+  pub text : GetsFront screen.held screen.holds (frames manner lists)
 
 -- a screen has got frames of what a viewer may have looked at when it has looked at a list, and the last is that of the picture of the list
-pub record ShowsLast (manner : Manner) (whole : List Entry) (held holds : Option (List ℕ)) : Type 0 where
+pub record ShowsLast (manner : Manner) (whole : List Entry) (screen : Receipt) : Type 0 where
   pub last : List Entry
   pub earlier : List (List Entry)
-  pub text : Appends held holds (frames manner (last ∷ earlier))
+  pub text : Appends screen.held screen.holds (frames manner (last ∷ earlier))
   pub looks : AreLooks whole (last ∷ earlier)
   pub revision : revision_at last ≡ revision_at whole
   pub picture : picture_at last ≡ picture_at whole
 
--- the easel has drawn a part of its frames, whatever it had drawn before; its screen, which held some bytes, now holds others
-abbrev pub DrawsPart : Easel → Option (List ℕ) → Option (List ℕ) → Type 0
-DrawsPart easel holds later = (held : Option (List ℕ)) → HasDrawn easel held holds → HasDrawnPart (manner_of easel) held later
+-- whatever a screen held at first: where all that it had received before a call was such, all that it has received after it is this
+abbrev pub Continues : Receipt → (Receipt → Type 0) → (Receipt → Type 0) → Type 0
+Continues screen WasSuch IsSuch = (first : Option (List ℕ)) → WasSuch (receipt first screen.held) → IsSuch (receipt first screen.holds)
 
--- the last picture, which is that of this list, is shown, whatever the easel had drawn before; its screen, which held some bytes, now
--- holds others
-abbrev pub LeavesLast : Easel → List Entry → Option (List ℕ) → Option (List ℕ) → Type 0
-LeavesLast easel whole holds later =
-    (held : Option (List ℕ)) → HasDrawn easel held holds → ShowsLast (manner_of easel) whole held later
+-- the easel has drawn more, whatever it had drawn before
+abbrev pub DrawsMore : Easel → Easel → Receipt → Type 0
+DrawsMore before after screen = Continues screen (HasDrawn before) (HasDrawn after)
 
--- what a screen or a transcript has received in a call: what it held before and holds after it, where this is known
-pub record Receipt : Type 0 where
-  pub held : Option (List ℕ)
-  pub holds : Option (List ℕ)
+-- the easel has drawn a part of its frames, whatever it had drawn before
+abbrev pub DrawsPart : Easel → Receipt → Type 0
+DrawsPart easel screen = Continues screen (HasDrawn easel) (HasDrawnPart (manner_of easel))
 
--- the receipt of what is written to, before and after a call
-abbrev pub receipt : {W : Type 0} → (W → Option (List ℕ)) → W → W → Receipt
-receipt contents before after = record { held = contents before; holds = contents after }
-
--- the last picture is shown after a drawing that has succeeded; this is claimed only of runs that end well, and none does after a
--- drawing that has failed
-abbrev pub EndsDrawing : Result (Unit {0}) EaselFault → Easel → List Entry → Receipt → Type 0
-EndsDrawing drawn easel whole screen =
-    (held : Option (List ℕ)) → OnOk drawn (HasDrawn easel held screen.held) → ShowsLast (manner_of easel) whole held screen.holds
+-- the last picture, which is that of this list, is shown, whatever the easel had drawn before
+abbrev pub LeavesLast : Easel → List Entry → Receipt → Type 0
+LeavesLast easel whole screen = Continues screen (HasDrawn easel) (ShowsLast (manner_of easel) whole)
 
 -- an easel whose drawing has come to this result has drawn frames, or a part of them where the drawing has failed
-abbrev pub HasDrawnAs : Result (Unit {0}) EaselFault → Easel → Option (List ℕ) → Option (List ℕ) → Type 0
-HasDrawnAs drawn easel held holds = MatchResult drawn (λ _. HasDrawn easel held holds) (λ _. HasDrawnPart (manner_of easel) held holds)
+abbrev pub HasDrawnAs : Result (Unit {0}) EaselFault → Easel → Receipt → Type 0
+HasDrawnAs drawn easel screen = MatchResult drawn (λ _. HasDrawn easel screen) (λ _. HasDrawnPart (manner_of easel) screen)
 
--- a part of the frames is on the screen where a run ends with a fault after such a drawing
+-- after such a drawing the last picture, which is that of this list, is shown; this is claimed only of runs that end well, and none does
+-- after a drawing that has failed
+abbrev pub EndsDrawing : Result (Unit {0}) EaselFault → Easel → List Entry → Receipt → Type 0
+EndsDrawing drawn easel whole screen = Continues screen (HasDrawnAs drawn easel) (ShowsLast (manner_of easel) whole)
+
+-- after such a drawing a part of the frames is on the screen; this is claimed of runs that end with a fault
 abbrev pub LeavesPart : Result (Unit {0}) EaselFault → Easel → Receipt → Type 0
-LeavesPart drawn easel screen = (held : Option (List ℕ)) → HasDrawnAs drawn easel held screen.held → HasDrawnPart (manner_of easel) held screen.holds
+LeavesPart drawn easel screen = Continues screen (HasDrawnAs drawn easel) (HasDrawnPart (manner_of easel))

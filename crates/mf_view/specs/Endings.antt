@@ -2,6 +2,7 @@
 use Rattle.std.specs.Prelude.{◌≡◌, ◌≢◌, ◌⊎◌, Bool, true, false, ℕ, List, [], Option, None, Some, IsSome, option_map, string_bytes}
 use Rattle.std.specs.Io.KnownBytes.{Appends}
 use Rattle.clap.specs.Words.{Text}
+use Rattle.mf_base.specs.Messages.{Receipt}
 use Rattle.mf_easel.specs.Easels.{Manner, manner}
 use Rattle.mf_frame.specs.Canvases.{size_in}
 use Rattle.mf_frame.specs.declared.tile.Style.{Style}
@@ -9,7 +10,6 @@ use Rattle.mf_frame.specs.declared.tile.Style.TheVariants.{Colored, Plain}
 use Rattle.mf_gf.specs.declared.file.GfFile.{GfFile}
 use Rattle.mf_gf.specs.Files.{Character, IsLongFile}
 use Rattle.mf_gf.specs.Keeping.{Keeps, max_bytes_of}
-use Rattle.mf_view.specs.Drawings.{Receipt}
 use Rattle.mf_view.specs.Fonts.{font_words}
 use Rattle.mf_view.specs.Performances.{Shows, ScreenStreams}
 use Rattle.mf_view_words.specs.Requests.{IsRequest}

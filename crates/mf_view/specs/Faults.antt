@@ -1,7 +1,7 @@
 -- Which fault ends a run.
 use Rattle.std.specs.Prelude.{◌≡◌, ◌⊎◌, ℕ, IsSome, List, [], None, Option, Some, option_map, string_bytes}
 use Rattle.clap.specs.Words.{Text}
-use Rattle.mf_base.specs.Messages.{GetsFront, GetsPart}
+use Rattle.mf_base.specs.Messages.{GetsFront, GetsPart, Receipt, receipt}
 use Rattle.mf_easel.specs.declared.fault.EaselFault.{EaselFault}
 use Rattle.mf_frame.specs.Canvases.{IsLargeEnough}
 use Rattle.mf_gf.specs.declared.file.GfFile.{GfFile}
@@ -33,11 +33,6 @@ ConcernsPlate _ = ⊥
 abbrev pub IsToldAfter : EaselFault → ProgramFault → Type 0
 IsToldAfter cause told = (told ≡ fault_of_easel cause) ⊎ ((told ≡ faults.OutOfMemory) ⊎ ConcernsPlate told)
 
--- the fault is not that there was no place for the viewer
-abbrev pub HadPlace : ProgramFault → Type 0
-HadPlace faults.NoPlace = ⊥
-HadPlace _ = Unit {0}
-
 -- these words ask for a script to be drawn in too few columns or rows
 pub record LacksRoom (words : List Text) : Type 0 where
   pub asked : Words
@@ -51,11 +46,11 @@ IsUntouched s = (s.screen.holds ≡ s.screen.held) × (s.transcript.holds ≡ s.
 -- the fault has broken off a script: where no path is given, its transcript is in the stream of messages; with a path that stream is as
 -- it was, and the transcript is in a file, unless that could not be created, and nothing was drawn
 abbrev pub IsBrokenOffInto : Option (List ℕ) → ScreenStreams → ProgramFault → Type 0
-IsBrokenOffInto None s fault = IsBrokenOff s.unread s.transcript.held s.transcript.holds fault
+IsBrokenOffInto None s fault = IsBrokenOff s.unread s.transcript fault
 IsBrokenOffInto (Some path) s fault =
     (s.transcript.holds ≡ s.transcript.held)
     × (((fault ≡ faults.WriteFault) × (s.screen.holds ≡ s.screen.held))
-    ⊎ ((empty : Option (List ℕ)) × (full : Option (List ℕ)) × IsBrokenOff s.unread empty full fault))
+    ⊎ ((filed : Receipt) × IsBrokenOff s.unread filed fault))
 
 -- with this fault a script that was performed and shown gets no font file: memory is missing, the file would be too long, or the words
 -- ask for it, and it cannot be written or has no character
@@ -74,7 +69,7 @@ LosesFont asked file _ = ⊥
 abbrev pub EndsScript : Words → ScreenStreams → ProgramFault → Type 0
 EndsScript asked s fault =
     ((fault ≡ faults.TooSmall) × (IsLargeEnough asked.columns asked.rows → ⊥) × IsUntouched s)
-    ⊎ ((IsBrokenOffInto (option_map string_bytes asked.transcript) s fault × HasDrawnPart (manner_for asked) s.screen.held s.screen.holds
+    ⊎ ((IsBrokenOffInto (option_map string_bytes asked.transcript) s fault × HasDrawnPart (manner_for asked) s.screen
     × (ConcernsPlate fault → IsSome asked.plates) × (fault ≡ faults.NoPlace → s.screen.holds ≡ s.screen.held))
     ⊎ ((file : GfFile) × IsShownFor asked s file × LosesFont asked file fault))
 
@@ -97,6 +92,6 @@ pub record ReportsFaultLast (words : List Text) (status : ℕ) (IsUnread : Type 
   pub fault : ProgramFault
   pub status_is : status_of fault ≡ status
   pub between : Option (List ℕ)
-  pub ends : EndsRun words (record s { transcript = record { held = s.transcript.held; holds = between } }) fault
+  pub ends : EndsRun words (record s { transcript = receipt s.transcript.held between }) fault
   pub message : GetsFront between s.transcript.holds (message_of fault)
   pub unread : fault ≡ faults.NoPlace → IsUnread

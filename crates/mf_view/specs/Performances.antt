@@ -1,6 +1,7 @@
 -- What a performance has written.
 use Rattle.std.specs.Prelude.{ℕ, List, [], Option}
 use Rattle.std.specs.Io.KnownBytes.{Appends}
+use Rattle.mf_base.specs.Messages.{Receipt}
 use Rattle.mf_easel.specs.Easels.{Manner}
 use Rattle.mf_gf.specs.declared.file.GfFile.{GfFile}
 use Rattle.mf_gf.specs.Keeping.{Keeps}
@@ -8,7 +9,7 @@ use Rattle.mf_session.specs.Endings.{complete_list}
 use Rattle.mf_session.specs.States.{Limits, limits_of, most_bytes, most_operations}
 use Rattle.mf_session.specs.Transcript.{IsTranscript}
 use Rattle.mf_stage.specs.Scripts.{HoldsOfInput}
-use Rattle.mf_view.specs.Drawings.{Receipt, ShowsLast}
+use Rattle.mf_view.specs.Drawings.{ShowsLast}
 
 -- the limits of a script (here as well as in the code, so that a wrong constant there is not proved)
 abbrev pub script_limits : Limits
@@ -30,7 +31,7 @@ pub record IsShown (manner : Manner) (s : ScreenStreams) (file : GfFile) (input 
   pub text : List ℕ
   pub script : IsTranscript script_limits input text
   pub out : Appends s.transcript.held s.transcript.holds text
-  pub shown : ShowsLast manner (complete_list script.last.pictures) s.screen.held s.screen.holds
+  pub shown : ShowsLast manner (complete_list script.last.pictures) s.screen
   pub file_is : Keeps file [] script.last.characters
 
 -- a script was performed and shown, that of the reader

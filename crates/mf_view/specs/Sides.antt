@@ -1,5 +1,6 @@
 -- What the two sides of a performance do, each in a thread of its own.
 use Rattle.std.specs.Prelude.{◌≡◌, ℕ, Err, IfErr, List, OnErr, OnOk, Option, Result}
+use Rattle.mf_base.specs.Messages.{receipt_of}
 use Rattle.mf_easel.specs.Easels as easels
 use Rattle.mf_easel.specs.Screens.{Screen}
 use Rattle.mf_easel.specs.declared.easel.Easel.{Easel}
@@ -26,8 +27,8 @@ pub record DrawsBeside {W : Type 0} (first : Result (Unit {0}) EaselFault) (act 
   pub identity : easels.identity act.after ≡ easels.identity act.before
   pub manner : easels.HasSameManner act.before act.after
   pub stopped : IfErr first (λ fault. (result ≡ Err fault) × (act.screen.after ≡ act.screen.before))
-  pub drawn : OnOk result (DrawsMore act.before act.after (act.screen.contents act.screen.before) (act.screen.contents act.screen.after))
-  pub part : OnOk first (OnErr result (DrawsPart act.before (act.screen.contents act.screen.before) (act.screen.contents act.screen.after)))
+  pub drawn : OnOk result (DrawsMore act.before act.after (receipt_of act.screen.contents act.screen.before act.screen.after))
+  pub part : OnOk first (OnErr result (DrawsPart act.before (receipt_of act.screen.contents act.screen.before act.screen.after)))
 
 -- what the performance of a script beside a drawing does, and what it comes to: all of what its reader had is performed, where this is
 -- known, and else some bytes, or a fault has broken it off

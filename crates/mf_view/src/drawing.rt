@@ -1,5 +1,6 @@
 //! The viewer's side of a performance: looking and drawing until the script has ended.
 ghost use Rattle.std.specs.Prelude.{◌≡◌, true, IfErr, OnErr, OnOk};
+ghost use Rattle.mf_base.specs.Messages.{receipt_of};
 ghost use Rattle.mf_easel.specs.Easels.{HasSameManner, drawing_of, identity, looked_at_list};
 ghost use Rattle.mf_easel.specs.Screens.{GetsNoMore, screen_of};
 ghost use Rattle.mf_live.specs.Entries.{is_closed};
@@ -25,8 +26,8 @@ pub fn draw_on<S: Wait, W: Write, P: Rest>(
 ) -> Result<(), EaselFault>
     ensures identity { identity easel.new ≡ identity easel.old }
     ensures manner { HasSameManner easel.old easel.new }
-    ensures drawn { OnOk result (DrawsMore easel.old easel.new (W.contents screen.old) (W.contents screen.new)) }
-    ensures part { OnErr result (DrawsPart easel.old (W.contents screen.old) (W.contents screen.new)) }
+    ensures drawn { OnOk result (DrawsMore easel.old easel.new (receipt_of W.contents screen.old screen.new)) }
+    ensures part { OnErr result (DrawsPart easel.old (receipt_of W.contents screen.old screen.new)) }
 {
     for _ in rt.forever() {
         draw(alloc, easel, screen, pace)?;
@@ -47,9 +48,9 @@ pub fn draw<W: Write, P: Rest>(
 ) -> Result<(), EaselFault>
     ensures identity { identity easel.new ≡ identity easel.old }
     ensures manner { HasSameManner easel.old easel.new }
-    ensures drawn { OnOk result (DrawsMore easel.old easel.new (W.contents screen.old) (W.contents screen.new)) }
+    ensures drawn { OnOk result (DrawsMore easel.old easel.new (receipt_of W.contents screen.old screen.new)) }
     ensures cut { IfErr result (GetsNoMore (screen_of W.contents screen.old screen.new) (drawing_of easel.old (looked_at_list easel.new))) }
-    ensures part { OnErr result (DrawsPart easel.old (W.contents screen.old) (W.contents screen.new)) }
+    ensures part { OnErr result (DrawsPart easel.old (receipt_of W.contents screen.old screen.new)) }
 {
     match easel.look(alloc, screen) {
         Ok(Some(revision)) => {
@@ -70,9 +71,9 @@ pub fn draw_last<W: Write>(
 ) -> Result<(), EaselFault>
     requires identity { notice_identity notice ≡ identity easel.old }
     requires closed { is_closed (told_list notice) ≡ true }
-    ensures shown { OnOk result (LeavesLast easel.old (told_list notice) (W.contents screen.old) (W.contents screen.new)) }
+    ensures shown { OnOk result (LeavesLast easel.old (told_list notice) (receipt_of W.contents screen.old screen.new)) }
     ensures cut { IfErr result (GetsNoMore (screen_of W.contents screen.old screen.new) (drawing_of easel.old (told_list notice))) }
-    ensures part { OnErr result (DrawsPart easel.old (W.contents screen.old) (W.contents screen.new)) }
+    ensures part { OnErr result (DrawsPart easel.old (receipt_of W.contents screen.old screen.new)) }
 {
     match easel.look_last(alloc, screen, notice) {
         Ok(_) => Ok(()),

@@ -1,6 +1,7 @@
 //! The performance of a script beside the viewer that draws its picture.
-ghost use Rattle.std.specs.Prelude.{◌≡◌, Err, IfErr, IfOk, IsErr, IsErrAnd, IsSome, None, OnErr, OnOk};
+ghost use Rattle.std.specs.Prelude.{◌≡◌, ◌≢◌, Err, IfErr, IfOk, IsErr, IsErrAnd, IsSome, None, OnErr, OnOk};
 ghost use denote.Param.Send.{IsSync, IsSend};
+ghost use Rattle.mf_base.specs.Messages.{receipt_of};
 ghost use Rattle.mf_easel.specs.Easels as easels;
 ghost use Rattle.mf_easel.specs.Screens.{screen_of};
 ghost use Rattle.mf_live.specs.Writers.{ended_identity, ended_published_list};
@@ -11,8 +12,8 @@ ghost use Rattle.mf_stage.specs.Stages.{StandsFor, limits};
 ghost use Rattle.mf_stage.specs.Scripts.{act_of};
 ghost use Rattle.mf_view.specs.Broken.{IsBrokenOff, IsOfEnd};
 ghost use Rattle.mf_view.specs.Causes.{fault_of_stage};
-ghost use Rattle.mf_view.specs.Faults.{ConcernsPlate, HadPlace, IsToldAfter};
-ghost use Rattle.mf_view.specs.Drawings.{EndsDrawing, HasDrawnPart, LeavesPart, receipt};
+ghost use Rattle.mf_view.specs.Faults.{ConcernsPlate, IsToldAfter};
+ghost use Rattle.mf_view.specs.Drawings.{EndsDrawing, HasDrawnPart, LeavesPart};
 ghost use Rattle.mf_view.specs.Performances.{Shows, screen_streams, script_limits};
 ghost use Rattle.mf_view.specs.Sides.{DrawsBeside, PerformsBeside, easel_act};
 
@@ -74,9 +75,9 @@ pub fn perform<
     showing: Showing,
 ) -> Result<GfFile, ProgramFault>
     ensures shown { IfOk result (Shows (easels.manner showing.style showing.canvas)
-        (screen_streams (R.remaining reader.old) (receipt W.contents screen.old screen.new) (receipt T.contents transcript.old transcript.new))) }
-    ensures fault { IfErr result (IsBrokenOff (R.remaining reader.old) (T.contents transcript.old) (T.contents transcript.new)) }
-    ensures part { OnErr result (HasDrawnPart (easels.manner showing.style showing.canvas) (W.contents screen.old) (W.contents screen.new)) }
+        (screen_streams (R.remaining reader.old) (receipt_of W.contents screen.old screen.new) (receipt_of T.contents transcript.old transcript.new))) }
+    ensures fault { IfErr result (IsBrokenOff (R.remaining reader.old) (receipt_of T.contents transcript.old transcript.new)) }
+    ensures part { OnErr result (HasDrawnPart (easels.manner showing.style showing.canvas) (receipt_of W.contents screen.old screen.new)) }
     ensures plates { IfErr result (λ fault. ConcernsPlate fault → IsSome showing.plates) }
     ensures no_place { result ≡ Err ProgramFault.NoPlace
         → (reader.new ≡ reader.old) × (screen.new ≡ screen.old) × (transcript.new ≡ transcript.old) }
@@ -122,11 +123,11 @@ fn show<
     requires limits { limits stage ≡ script_limits }
     requires blank { easels.revision_of easel ≡ None }
     ensures shown { IfOk result (Shows (easels.manner_of easel)
-        (screen_streams (R.remaining reader.old) (receipt W.contents screen.old screen.new) (receipt T.contents transcript.old transcript.new))) }
-    ensures fault { IfErr result (IsBrokenOff (R.remaining reader.old) (T.contents transcript.old) (T.contents transcript.new)) }
-    ensures part { OnErr result (HasDrawnPart (easels.manner_of easel) (W.contents screen.old) (W.contents screen.new)) }
+        (screen_streams (R.remaining reader.old) (receipt_of W.contents screen.old screen.new) (receipt_of T.contents transcript.old transcript.new))) }
+    ensures fault { IfErr result (IsBrokenOff (R.remaining reader.old) (receipt_of T.contents transcript.old transcript.new)) }
+    ensures part { OnErr result (HasDrawnPart (easels.manner_of easel) (receipt_of W.contents screen.old screen.new)) }
     ensures plates { IfErr result (λ fault. ConcernsPlate fault → IsSome (stages.plates_of stage)) }
-    ensures placed { IfErr result HadPlace }
+    ensures placed { result ≢ Err ProgramFault.NoPlace }
 {
     let mut stage = stage;
     let mut easel = easel;
@@ -157,9 +158,9 @@ fn conclude<S: Wait + Files, W: Write>(
     ensures told { OnOk performed (IfErr drawn (λ cause. IsErrAnd result (IsToldAfter cause))) }
     ensures file { IfOk result (λ file. (s : State) → StandsFor stage s → IsFileOf (stages.session_of stage) s file) }
     ensures shown { OnOk result ((s : State) → StandsFor stage s
-        → EndsDrawing drawn easel (complete_list s.pictures) (receipt W.contents screen.old screen.new)) }
-    ensures part { OnErr result (LeavesPart drawn easel (receipt W.contents screen.old screen.new)) }
-    ensures placed { IfErr result HadPlace }
+        → EndsDrawing drawn easel (complete_list s.pictures) (receipt_of W.contents screen.old screen.new)) }
+    ensures part { OnErr result (LeavesPart drawn easel (receipt_of W.contents screen.old screen.new)) }
+    ensures placed { result ≢ Err ProgramFault.NoPlace }
 {
     match performed {
         Ok(()) => end(rt, alloc, stage, easel, screen, drawn),
@@ -233,9 +234,9 @@ fn end<S: Wait + Files, W: Write>(
     ensures plates { IfErr result (λ fault. ConcernsPlate fault → IsSome (stages.plates_of stage)) }
     ensures file { IfOk result (λ file. (s : State) → StandsFor stage s → IsFileOf (stages.session_of stage) s file) }
     ensures shown { OnOk result ((s : State) → StandsFor stage s
-        → EndsDrawing drawn easel (complete_list s.pictures) (receipt W.contents screen.old screen.new)) }
-    ensures part { OnErr result (LeavesPart drawn easel (receipt W.contents screen.old screen.new)) }
-    ensures placed { IfErr result HadPlace }
+        → EndsDrawing drawn easel (complete_list s.pictures) (receipt_of W.contents screen.old screen.new)) }
+    ensures part { OnErr result (LeavesPart drawn easel (receipt_of W.contents screen.old screen.new)) }
+    ensures placed { result ≢ Err ProgramFault.NoPlace }
 {
     let (mut ended, file) = stage.finish(rt, alloc)?;
     let shown = show_last(alloc, easel, screen, &mut ended, drawn);
@@ -256,8 +257,8 @@ fn show_last<W: Write>(
 ) -> Result<(), EaselFault>
     requires identity { easels.identity easel ≡ ended_identity ended.old }
     ensures drawing { IfErr drawn (λ fault. result ≡ Err fault) }
-    ensures shown { OnOk result (EndsDrawing drawn easel (ended_published_list ended.old) (receipt W.contents screen.old screen.new)) }
-    ensures part { OnErr result (LeavesPart drawn easel (receipt W.contents screen.old screen.new)) }
+    ensures shown { OnOk result (EndsDrawing drawn easel (ended_published_list ended.old) (receipt_of W.contents screen.old screen.new)) }
+    ensures part { OnErr result (LeavesPart drawn easel (receipt_of W.contents screen.old screen.new)) }
 {
     let mut easel = easel;
     match drawn {

@@ -1,8 +1,8 @@
 //! The program that `main` calls: from its words and streams to its exit status.
 ghost use Rattle.std.specs.Io.KnownBytes.{Appends};
 ghost use Rattle.std.specs.Prelude.{◌≡◌, ◌++◌, ◌⊎◌, ◌↔◌, Err, IfErr, IfOk, IsOk, IsSome, OnErr, OnOk, codes, decimal, option_map, string_bytes};
-ghost use Rattle.mf_base.specs.Messages.{GetsFront, GetsPart};
-ghost use Rattle.mf_view.specs.Drawings.{HasDrawnPart, receipt};
+ghost use Rattle.mf_base.specs.Messages.{GetsFront, GetsPart, receipt_of};
+ghost use Rattle.mf_view.specs.Drawings.{HasDrawnPart};
 ghost use Rattle.mf_view.specs.Endings.{AsksForText, Fulfils, IsShownInto, IsWatched, style_in};
 ghost use Rattle.mf_view.specs.Faults.{ConcernsPlate, EndsScript, IsBrokenOffInto, LacksRoom, ReportsFaultLast};
 ghost use Rattle.mf_easel.specs.Easels.{manner};
@@ -68,10 +68,10 @@ pub fn program<S: Wait + Threads + Files + Clock + Sync, R: Read, W: Write + Sen
         → GetsFront (E.contents errors.old) (E.contents errors.new) (message_of ProgramFault.OutOfMemory) }
     ensures usage { result ≡ BAD_WORDS → GetsFront (E.contents errors.old) (E.contents errors.new) usage }
     ensures done { result ≡ DONE → Fulfils (texts_of words)
-        (screen_streams (R.remaining reader.old) (receipt W.contents screen.old screen.new) (receipt E.contents errors.old errors.new)) }
+        (screen_streams (R.remaining reader.old) (receipt_of W.contents screen.old screen.new) (receipt_of E.contents errors.old errors.new)) }
     ensures fault { (result ≡ STREAM_FAULT) ⊎ (result ≡ WANTING) ⊎ (result ≡ TOO_SMALL)
         → ReportsFaultLast (texts_of words) result (reader.new ≡ reader.old)
-        (screen_streams (R.remaining reader.old) (receipt W.contents screen.old screen.new) (receipt E.contents errors.old errors.new)) }
+        (screen_streams (R.remaining reader.old) (receipt_of W.contents screen.old screen.new) (receipt_of E.contents errors.old errors.new)) }
     ensures text_alone { AsksForText (texts_of words) → reader.new ≡ reader.old }
     ensures too_small { IsCommandLine (texts_of words) → LacksRoom (texts_of words) → (result ≡ TOO_SMALL)
         ⊎ ((result ≡ WANTING) × GetsFront (E.contents errors.old) (E.contents errors.new) (message_of ProgramFault.OutOfMemory)) }
@@ -103,12 +103,12 @@ fn watch<S: Wait + Threads + Files + Clock + Sync, R: Read, W: Write + Send, E: 
 ) -> Result<(), ProgramFault>
     requires { IsWordsInRange words }
     ensures done { OnOk result (IsWatched words
-        (screen_streams (R.remaining reader.old) (receipt W.contents screen.old screen.new) (receipt E.contents errors.old errors.new))) }
+        (screen_streams (R.remaining reader.old) (receipt_of W.contents screen.old screen.new) (receipt_of E.contents errors.old errors.new))) }
     ensures too_small { (IsLargeEnough words.columns words.rows → ⊥) ↔ (result ≡ Err ProgramFault.TooSmall) }
     ensures untouched { result ≡ Err ProgramFault.TooSmall → (reader.new ≡ reader.old) × (screen.new ≡ screen.old) }
     ensures unread { result ≡ Err ProgramFault.NoPlace → reader.new ≡ reader.old }
     ensures fault { IfErr result (EndsScript words
-        (screen_streams (R.remaining reader.old) (receipt W.contents screen.old screen.new) (receipt E.contents errors.old errors.new))) }
+        (screen_streams (R.remaining reader.old) (receipt_of W.contents screen.old screen.new) (receipt_of E.contents errors.old errors.new))) }
 {
     let Words {
         columns,
@@ -179,12 +179,12 @@ fn perform_into<
     transcript: Option<String>,
 ) -> Result<GfFile, ProgramFault>
     ensures done { IfOk result (IsShownInto (option_map string_bytes transcript) (manner showing.style showing.canvas)
-        (screen_streams (R.remaining reader.old) (receipt W.contents screen.old screen.new) (receipt E.contents errors.old errors.new))) }
-    ensures part { OnErr result (HasDrawnPart (manner showing.style showing.canvas) (W.contents screen.old) (W.contents screen.new)) }
+        (screen_streams (R.remaining reader.old) (receipt_of W.contents screen.old screen.new) (receipt_of E.contents errors.old errors.new))) }
+    ensures part { OnErr result (HasDrawnPart (manner showing.style showing.canvas) (receipt_of W.contents screen.old screen.new)) }
     ensures plates { IfErr result (λ fault. ConcernsPlate fault → IsSome showing.plates) }
     ensures no_place { result ≡ Err ProgramFault.NoPlace → (reader.new ≡ reader.old) × (screen.new ≡ screen.old) }
     ensures fault { IfErr result (IsBrokenOffInto (option_map string_bytes transcript)
-        (screen_streams (R.remaining reader.old) (receipt W.contents screen.old screen.new) (receipt E.contents errors.old errors.new))) }
+        (screen_streams (R.remaining reader.old) (receipt_of W.contents screen.old screen.new) (receipt_of E.contents errors.old errors.new))) }
 {
     let Some(path) = transcript else {
         return perform(rt, alloc, reader, screen, errors, pace, showing);

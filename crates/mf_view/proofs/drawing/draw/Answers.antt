@@ -10,9 +10,9 @@ pub returns-in-Ok-None-clause-drawn : goal.returns-in-Ok-None-clause-drawn
 returns-in-Ok-None-clause-drawn g c = grind (arith, drawn-look)
 
 pub returns-in-Err-clause-part : goal.returns-in-Err-clause-part
-returns-in-Err-clause-part g c = λ held was.
+returns-in-Err-clause-part g c =
     let failed = c.in-Err.ensures in
-    part-cut g.W.Write.contents held _ _ c.args.easel.now _ c.in-Err.fault (λ is.
+    part-cut g.W.Write.contents _ _ c.args.easel.now _ c.in-Err.fault (λ is.
     let look = subst (IsNotDrawn _ _) is failed.missed in
     (look.extends.looked, (_, look.published), failed.rising_if_cut (ap Err is)))
-    failed.cut was
+    failed.cut

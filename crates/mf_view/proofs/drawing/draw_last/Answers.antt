@@ -7,9 +7,9 @@ pub returns-in-Ok-clause-shown : goal.returns-in-Ok-clause-shown
 returns-in-Ok-clause-shown g c = grind (arith, shown-last)
 
 pub returns-in-Err-clause-part : goal.returns-in-Err-clause-part
-returns-in-Err-clause-part g c = λ held was.
+returns-in-Err-clause-part g c =
     let failed = c.in-Err.ensures in
-    part-cut g.W.Write.contents held _ _ c.args.easel.now _ c.in-Err.fault (λ is.
+    part-cut g.W.Write.contents _ _ c.args.easel.now _ c.in-Err.fault (λ is.
     let look = subst (IsLastNotDrawn _ _ _) is failed.missed in
     (look.0.looked, (_, look.1.published), failed.rising_if_cut (ap Err is)))
-    failed.cut was
+    failed.cut

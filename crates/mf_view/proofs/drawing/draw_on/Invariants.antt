@@ -1,4 +1,5 @@
 use Rattle.std.proofs.Common.{◌≡◌}
+use Rattle.mf_base.specs.Messages.{receipt_of}
 use Rattle.mf_easel.specs.Easels.{HasSameManner, identity}
 use Rattle.mf_view.specs.Drawings.{DrawsMore}
 use Rattle.mf_view.proofs.drawing.draw_on.Given as goal
@@ -9,4 +10,4 @@ invariant-loop g l =
     (goal.iterator-loop g).can_next l.iterator' × (goal.iterator-loop g).is_finite l.iterator'
     × (identity l.easel ≡ identity l.initial.easel)
     × HasSameManner l.initial.easel l.easel
-    × DrawsMore l.initial.easel l.easel (g.W.Write.contents l.initial.screen) (g.W.Write.contents l.screen)
+    × DrawsMore l.initial.easel l.easel (receipt_of g.W.Write.contents l.initial.screen l.screen)

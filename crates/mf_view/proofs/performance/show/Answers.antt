@@ -1,4 +1,5 @@
 use Rattle.std.proofs.Common.{◌∙◌, arith}
+use Rattle.mf_base.specs.Messages.{receipt_of}
 use Rattle.mf_view.proofs.Broken.{asked-whole, broken-whole}
 use Rattle.mf_view.proofs.Drawn.{drawn-nothing}
 use Rattle.mf_view.proofs.Shown.{drawn-both, part-end, shown-end, shown-whole, stands-after}
@@ -10,8 +11,8 @@ pub conclude-requires-clause-stands : goal.conclude-requires-clause-stands
 conclude-requires-clause-stands g c = grind (arith, stands-after)
 
 -- how far the drawing has come when the performance is concluded
-drawn : (g : _) (c : After-and-drawn g) → HasDrawnAs c.and-drawn.result c.perform_beside-drawn.new.easel (g.W.Write.contents c.args.screen.now)
-    (g.W.Write.contents c.perform_beside-drawn.new.screen)
+drawn : (g : _) (c : After-and-drawn g) → HasDrawnAs c.and-drawn.result c.perform_beside-drawn.new.easel
+    (receipt_of g.W.Write.contents c.args.screen.now c.perform_beside-drawn.new.screen)
 drawn g c = grind (arith, drawn-both, drawn-nothing)
 
 pub returns-clause-shown : goal.returns-clause-shown

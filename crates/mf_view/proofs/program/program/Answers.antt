@@ -1,4 +1,4 @@
-use Rattle.std.proofs.Common.{Err, inl, refl, ap, arith}
+use Rattle.std.proofs.Common.{Err, refl, ap, arith}
 use Rattle.mf_view.proofs.Reports.{answered, reported, wanting}
 use Rattle.mf_view.proofs.program.program.Goals as goal
 
@@ -11,8 +11,7 @@ returns-in-Err-clause-fault g c = λ _.
     (λ is. c.in-Err.ensures.unread (ap Err is)) c.report-in-Err.ensures.status c.report-in-Err.ensures.message
 
 pub returns-in-Help-clause-fault : goal.returns-in-Help-clause-fault
-returns-in-Help-clause-fault g c = λ bad.
-    answered _ _ _ _ (λ cut. inl (rw c.in-Help.is at c.in-Ok.ensures.value, c.answer.ensures.part cut)) c.answer.ensures.statuses bad c.answer.ensures.fault
+returns-in-Help-clause-fault g c = grind (arith, answered)
 
 pub returns-in-Version-clause-fault : goal.returns-in-Version-clause-fault
 returns-in-Version-clause-fault g c = grind (arith, answered)

@@ -1,25 +1,24 @@
 use Rattle.std.proofs.Common.{[], Err, inr, is_some, ap, sym, ◌∙◌, arith}
 use Rattle.std.proofs.lemmas.Bool.{false≢true}
 use Rattle.std.proofs.lemmas.Result.{err_from_is_err_and}
+use Rattle.mf_base.specs.Messages.{receipt_of}
 use Rattle.mf_gf.specs.Files.{file_if_any}
 use Rattle.mf_view.specs.Endings.{IsShownFor}
 use Rattle.mf_view.specs.Faults.{EndsScript}
 use Rattle.mf_view.specs.Performances.{ScreenStreams, screen_streams}
-use Rattle.mf_view.specs.Drawings.{receipt}
-use Rattle.mf_view.proofs.FontsAsked.{err-same, no-file, on-ok-from, placed-unmade, placed-unwritten, unmade, unwritten}
-use Rattle.mf_view.proofs.Shown.{same-manner}
+use Rattle.mf_view.proofs.FontsAsked.{no-file, on-ok-from, unmade, unwritten}
 use Rattle.mf_view.proofs.program.watch.Goals.{In_ok-file}
 use Rattle.mf_view.proofs.program.watch.Goals as goal
 
 -- the streams of the performance, before its font file is written
 abbrev streams : (g : _) → In_ok-file g → ScreenStreams
 streams g c =
-    screen_streams (g.R.Read.remaining c.args.reader.now) (receipt g.W.Write.contents c.args.screen.now c.perform_into.new.screen)
-    (receipt g.E.Write.contents c.args.errors.now c.perform_into.new.errors)
+    screen_streams (g.R.Read.remaining c.args.reader.now) (receipt_of g.W.Write.contents c.args.screen.now c.perform_into.new.screen)
+    (receipt_of g.E.Write.contents c.args.errors.now c.perform_into.new.errors)
 
 -- the script was shown as the words ask for it
 shown : (g : _) (c : In_ok-file g) → IsShownFor c.args.words (streams g c) c.in_ok-file.file
-shown g c = grind (arith, same-manner)
+shown g c = grind arith
 
 pub returns-in-Some-clause-done : goal.returns-in-Some-clause-done
 returns-in-Some-clause-done g c =
@@ -37,7 +36,7 @@ pub returns-in_err-showing-clause-fault : goal.returns-in_err-showing-clause-fau
 returns-in_err-showing-clause-fault g c = grind (arith, err_from_is_err_and, false≢true)
 
 pub returns-in_err-file-clause-fault : goal.returns-in_err-file-clause-fault
-returns-in_err-file-clause-fault g c = grind (arith, err_from_is_err_and, same-manner)
+returns-in_err-file-clause-fault g c = grind (arith, err_from_is_err_and)
 
 pub returns-in_err-bytes-clause-fault : goal.returns-in_err-bytes-clause-fault
 returns-in_err-bytes-clause-fault g c =
@@ -65,10 +64,7 @@ returns-in-None-clause-done g c = record {
 }
 
 pub returns-in_err-file-clause-unread : goal.returns-in_err-file-clause-unread
-returns-in_err-file-clause-unread g c = grind (arith, err_from_is_err_and, err-same)
+returns-in_err-file-clause-unread g c = grind (arith, err_from_is_err_and)
 
 pub returns-in_err-bytes-clause-unread : goal.returns-in_err-bytes-clause-unread
-returns-in_err-bytes-clause-unread g c = grind (arith, err_from_is_err_and, placed-unmade)
-
-pub returns-in-Some-clause-unread : goal.returns-in-Some-clause-unread
-returns-in-Some-clause-unread g c = λ is. absurd (placed-unwritten c.in_ok-bytes.bytes _ c.write_font.ensures.none c.write_font.ensures.fault is)
+returns-in_err-bytes-clause-unread g c = grind (arith, err_from_is_err_and)
