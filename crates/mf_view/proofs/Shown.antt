@@ -15,7 +15,7 @@ use Rattle.mf_stage.specs.Stages.{StandsFor, limits, session_of}
 use Rattle.mf_stage.specs.declared.stage.Stage.{Stage}
 use Rattle.mf_stage.specs.declared.fault.StageFault.{StageFault}
 use Rattle.mf_view.proofs.Drawn.{part-all}
-use Rattle.mf_view.specs.Drawings.{DrawsMore, DrawsPart, EndsDrawing, HasDrawn, HasDrawnAs, HasDrawnPart, LeavesPart, ShowsLast}
+use Rattle.mf_view.specs.Drawings.{DrawsMore, DrawsPart, EndsDrawing, HasDrawn, HasDrawnAs, HasDrawnPart, ShowsLast}
 use Rattle.mf_view.specs.Causes.{fault_of_stage}
 use Rattle.mf_view.specs.Performances.{Shows, ScreenStreams, script_limits}
 use Rattle.mf_view.specs.declared.fault.ProgramFault.{ProgramFault}
@@ -33,12 +33,6 @@ drawn-both contents held a b c before between after first then same still one pa
 pub drawn-part : (drawn : Result (Unit {0}) EaselFault) (easel : Easel) (screen : Receipt) → HasDrawnAs drawn easel screen
     → HasDrawnPart (manner_of easel) screen
 drawn-part drawn easel screen was = grind (arith, part-all)
-
--- a part of what was drawn is left in the first manner of an easel
-pub part-end : (first easel : Easel) (held mid holds : Option (List ℕ)) (drawn : Result (Unit {0}) EaselFault) (r : Result GfFile ProgramFault)
-    → HasSameManner first easel → HasDrawnAs drawn easel (receipt held mid) → OnErr r (LeavesPart drawn easel (receipt mid holds))
-    → OnErr r (HasDrawnPart (manner_of first) (receipt held holds))
-part-end first easel held mid holds drawn r same was part = grind arith
 
 -- a stage on which nothing was performed represents a state after a script
 pub stands-after : (before after : Stage) (performed : Result (Unit {0}) StageFault) → StandsFor before start

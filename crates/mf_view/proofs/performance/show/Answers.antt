@@ -2,7 +2,7 @@ use Rattle.std.proofs.Common.{◌∙◌, arith}
 use Rattle.mf_base.specs.Messages.{receipt_of}
 use Rattle.mf_view.proofs.Broken.{asked-whole, broken-whole}
 use Rattle.mf_view.proofs.Drawn.{drawn-nothing}
-use Rattle.mf_view.proofs.Shown.{drawn-both, part-end, shown-end, shown-whole, stands-after}
+use Rattle.mf_view.proofs.Shown.{drawn-both, shown-end, shown-whole, stands-after}
 use Rattle.mf_view.specs.Drawings.{HasDrawnAs}
 use Rattle.mf_view.proofs.performance.show.Goals.{After-and-drawn}
 use Rattle.mf_view.proofs.performance.show.Goals as goal
@@ -27,10 +27,7 @@ returns-clause-shown g c =
     (drawn g (goal.at.returns-clause-shown g c).After-and-drawn) c.conclude.ensures.shown)
 
 pub returns-clause-part : goal.returns-clause-part
-returns-clause-part g c =
-    part-end c.args.easel c.perform_beside-drawn.new.easel _ _ (g.W.Write.contents c.conclude.new.screen) c.and-drawn.result c.conclude.result
-    (c.perform_beside-drawn.ensures.drawing.manner ∙ c.draw-first.ensures.manner)
-    (drawn g (goal.at.returns-clause-part g c).After-and-drawn) c.conclude.ensures.part
+returns-clause-part g c = grind (arith, drawn)
 
 pub returns-clause-fault : goal.returns-clause-fault
 returns-clause-fault g c = grind (arith, broken-whole)

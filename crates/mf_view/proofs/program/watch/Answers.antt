@@ -33,7 +33,7 @@ returns-in-Some-clause-done g c =
     })
 
 pub returns-in_err-showing-clause-fault : goal.returns-in_err-showing-clause-fault
-returns-in_err-showing-clause-fault g c = grind (arith, err_from_is_err_and, false≢true)
+returns-in_err-showing-clause-fault g c = grind (arith, err_from_is_err_and)
 
 pub returns-in_err-file-clause-fault : goal.returns-in_err-file-clause-fault
 returns-in_err-file-clause-fault g c = grind (arith, err_from_is_err_and)
