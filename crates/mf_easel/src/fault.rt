@@ -4,7 +4,6 @@ ghost use Rattle.mf_easel.specs.declared.fault.EaselFault.TheVariants.{OutOfMemo
 
 use mf_base::OutOfMemory;
 use mf_live::SheetFault;
-use std::alloc::AllocError;
 use std::error::Error;
 use std::fmt;
 
@@ -41,14 +40,6 @@ impl From<OutOfMemory> for EaselFault {
     ghost from_gives = { λ _ fault. fault ≡ NoMemory };
 
     fn from(_fault: OutOfMemory) -> EaselFault {
-        EaselFault::OutOfMemory
-    }
-}
-
-impl From<AllocError> for EaselFault {
-    ghost from_gives = { λ _ fault. fault ≡ NoMemory };
-
-    fn from(_fault: AllocError) -> EaselFault {
         EaselFault::OutOfMemory
     }
 }
