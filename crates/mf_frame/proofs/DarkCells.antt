@@ -1,7 +1,6 @@
 -- Dark cells have pixels of positive weight.
-use Rattle.std.proofs.Common.{◌≡◌, ◌⊎◌, inl, inr, ⊎_elim, ◌≤◌, ◌&&◌, Bool, true, false, ℤ, pos, ◌+ℤ◌, ◌<ℤ◌}
-use Rattle.std.proofs.Common.{List, [], ◌∷◌, refl, sym, ap, ◌∙◌, arith}
-use Rattle.std.specs.Bool.{nat_lt}
+use Rattle.std.proofs.Common.{◌≡◌, ◌⊎◌, ⊎_elim, ◌≤◌, ◌&&◌, Bool, true, false, ℤ, pos, ◌+ℤ◌, ◌<ℤ◌}
+use Rattle.std.proofs.Common.{List, [], ◌∷◌, refl, arith}
 use Rattle.std.specs.Ordering.{int_eq}
 use Rattle.std.proofs.lemmas.Bool.{false≢true, cond-false, cond_both, and_parts}
 use Rattle.std.proofs.lemmas.Bool.Decides.{Decides-int_eq, Decides-ltb}
@@ -27,14 +26,7 @@ dark-right : (a b : Shade) → is_dark b ≡ true → is_dark (darker a b) ≡ t
 dark-right a b dark = dark_from_deep (darker a b) (omega (arith, deep_from_dark b dark, depth-darker a b))
 
 dark_either : (a b : Shade) → is_dark (darker a b) ≡ true → (is_dark a ≡ true) ⊎ (is_dark b ≡ true)
-dark_either a b =
-    cond_both (nat_lt (depth a) (depth b)) b a (λ s. is_dark s ≡ true → (is_dark a ≡ true) ⊎ (is_dark b ≡ true)) (λ _ dark. inr dark) (λ _ dark. inl dark)
-
-positive_from_dark : (w : ℤ) → is_dark (shade_of w) ≡ true → pos 0 <ℤ w
-positive_from_dark w dark = grind (arith, ints)
-
-dark_from_positive : (w : ℤ) → pos 0 <ℤ w → is_dark (shade_of w) ≡ true
-dark_from_positive w positive = grind (arith, ints)
+dark_either a b = grind (arith, ints, cond_both)
 
 -- ---- cells
 
@@ -42,16 +34,12 @@ by_test : {P : Type 0} (b : Bool) → (b ≡ true → P) → (b ≡ false → P)
 by_test true passed failed = passed refl
 by_test false passed failed = failed refl
 
--- a pixel of other dots is a pixel of all of them
-lifted : (s low : ℤ) (d : Dot) (ds : List Dot) (i j : ℤ) → AreDotsFrom low (d ∷ ds) → HasPositivePixel s ds i j → HasPositivePixel s (d ∷ ds) i j
-lifted s low d ds i j dots pixel = grind (arith, ints, weight_at-before, weight_at-elsewhere)
-
 pub pixel_of_dark : (s low : ℤ) (ds : List Dot) (i j : ℤ) → AreDotsFrom low ds → is_dark (cell_shade s ds i j) ≡ true → HasPositivePixel s ds i j
 unfolding cell_shade
 pixel_of_dark s low [] i j dots dark = absurd (false≢true dark)
 pixel_of_dark s low (d ∷ ds) i j dots dark =
     let others : is_dark (cell_shade s ds i j) ≡ true → HasPositivePixel s (d ∷ ds) i j =
-    λ rest. lifted s low d ds i j dots (pixel_of_dark s (place d.x d.y +ℤ pos 1) ds i j dots.2 rest) in
+    λ rest. grind (arith, ints, weight_at-before, weight_at-elsewhere, dots, pixel_of_dark s (place d.x d.y +ℤ pos 1) ds i j dots.2 rest) in
     by_test (int_eq (cell_of s d.x) i && int_eq (cell_of s d.y) j)
     (λ test.
     let here = (in_cell s d.x d.y i j).0 test in
@@ -60,11 +48,9 @@ pixel_of_dark s low (d ∷ ds) i j dots dark =
       y = d.y;
       column = here.0;
       row = here.1;
-      positive = rw (weight_at-here d ds d.x d.y (record { column = refl; row = refl })) (positive_from_dark d.weight own);
+      positive = rw (weight_at-here d ds d.x d.y (record { column = refl; row = refl })) (grind (arith, ints, own));
     }) others (dark_either (shade_of d.weight) (cell_shade s ds i j) (rw (shade-here s d ds i j here.0 here.1) at dark)))
-    (λ failed.
-    let away = shade-elsewhere s d ds i j (λ column row. false≢true (sym failed ∙ (in_cell s d.x d.y i j).1 (column, row))) in
-    others (rw away at dark))
+    (grind (arith, ints, shade-elsewhere, false≢true, in_cell))
 
 dark_at : (s : ℤ) (ds : List Dot) (i j x y : ℤ) → cell_of s x ≡ i → cell_of s y ≡ j → pos 0 <ℤ weight_at ds x y → is_dark (cell_shade s ds i j) ≡ true
 unfolding weight_at
@@ -75,9 +61,7 @@ dark_at s (d ∷ ds) i j x y at_i at_j positive =
     let parts = and_parts (int_eq d.x x) (int_eq d.y y) test in
     let column = (Decides-int_eq d.x x).0 parts.0 in
     let row = (Decides-int_eq d.y y).0 parts.1 in
-    let weight = rw (weight_at-here d ds x y (record { column = column; row = row })) at positive in
-    let here = shade-here s d ds i j (ap (cell_of s) column ∙ at_i) (ap (cell_of s) row ∙ at_j) in
-    rw here (dark-left (shade_of d.weight) (cell_shade s ds i j) (dark_from_positive d.weight weight)))
+    grind (arith, ints, weight_at-here, shade-here, dark-left))
     (λ failed.
     let rest = dark_at s ds i j x y at_i at_j (rw (cond-false _ d.weight (weight_at ds x y) failed) at positive) in
     by_dot s d ds i j (λ shade. is_dark shade ≡ true) (dark-right (shade_of d.weight) (cell_shade s ds i j) rest) rest)

@@ -58,10 +58,6 @@ darker-blank a = same_depth _ _ (depth-darker a Blank ∙ omega arith)
 blank-darker : (a : Shade) → darker Blank a ≡ a
 blank-darker a = same_depth _ _ (depth-darker Blank a ∙ omega arith)
 
-darker-assoc : (a b c : Shade) → darker (darker a b) c ≡ darker a (darker b c)
-darker-assoc a b c =
-    same_depth _ _ (omega (arith, depth-darker (darker a b) c, depth-darker a b, depth-darker a (darker b c), depth-darker b c))
-
 -- the greater shade is the darker one
 abbrev GreaterIsDarker : Shade → Shade → Type 0
 GreaterIsDarker a b = ord_max (ord.ghosts).cmp a b ≡ darker a b
@@ -82,8 +78,7 @@ in_cell s x y i j = Decides-and (int_eq (cell_of s x) i) (int_eq (cell_of s y) j
 pub shade-here : (s : ℤ) (d : Dot) (ds : List Dot) (i j : ℤ) → cell_of s d.x ≡ i → cell_of s d.y ≡ j
     → cell_shade s (d ∷ ds) i j ≡ darker (shade_of d.weight) (cell_shade s ds i j)
 unfolding cell_shade
-shade-here s d ds i j column row =
-    cond-true _ (darker (shade_of d.weight) (cell_shade s ds i j)) (cell_shade s ds i j) ((in_cell s d.x d.y i j).1 (column, row))
+shade-here s d ds i j column row = grind (arith, ints, cond-true, in_cell)
 
 pub shade-elsewhere : (s : ℤ) (d : Dot) (ds : List Dot) (i j : ℤ) → (cell_of s d.x ≡ i → cell_of s d.y ≡ j → ⊥)
     → cell_shade s (d ∷ ds) i j ≡ cell_shade s ds i j
@@ -101,7 +96,7 @@ unfolding cell_shade
 by_dot s d ds i j P here elsewhere = grind (arith, ints, cond_both)
 
 cond_same : (b : Bool) (h all ds es : Shade) → all ≡ darker ds es → (if b then darker h all else all) ≡ darker (if b then darker h ds else ds) es
-cond_same true h all ds es others = ap (darker h) others ∙ sym (darker-assoc h ds es)
+cond_same true h all ds es others = ap (darker h) others ∙ sym (grind (arith, ints, same_depth, depth-darker))
 cond_same false h all ds es others = others
 
 -- the shade of two lists of dots is the darker one of theirs
@@ -136,9 +131,7 @@ pub equal_dots-inside : (s : ℤ) (y x w : ℤ) (n : ℕ) (i j : ℤ) → pos 1 
 unfolding equal_dots
 equal_dots-inside s y x w zero i j positive row left right =
     let same : x +ℤ pos 0 ≡ x = omega (arith, ints) in
-    let column : cell_of s x ≡ i = omega (arith, ints, rw same at right) in
-    shade-here s (record { y = y; x = x; weight = w }) [] i j column row
-    ∙ ap (darker (shade_of w)) (shade-none s i j) ∙ darker-blank (shade_of w)
+    grind (arith, ints, shade-here, shade-none, darker-blank)
 equal_dots-inside s y x w (suc n) i j positive row left right =
     let d : Dot = record { y = y; x = x; weight = w } in
     let later = equal_dots y (x +ℤ pos 1) w (suc n) in

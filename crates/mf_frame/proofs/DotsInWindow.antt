@@ -18,8 +18,7 @@ dot_in_window b s d positive within =
     let top = cell-le s d.y b.max_y positive within.top in
     let lowest = line-within (cell_of s b.min_y) in
     let highest = line-within (cell_of s b.max_y) in
-    let lines = line-le (cell_of s b.min_y) (cell_of s b.max_y) (omega (arith, ints, bottom, top)) in
-    omega (arith, ints, left, right, lowest.0, bottom, highest.1, top, lines)
+    omega (arith, ints, line-le (cell_of s b.min_y) (cell_of s b.max_y) (omega (arith, ints, bottom, top)), lowest.0, highest.1)
 
 -- the cells of all dots lie in the window of the least box
 pub all_in_window : (ds : List Dot) (b : Box4) (s : ℤ) → pos 1 ≤ℤ s → IsLeastBox ds b → AreInWindow (window_at b s) ds

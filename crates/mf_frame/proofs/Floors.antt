@@ -16,21 +16,14 @@ pub cell-from : (s c p : ℤ) → pos 1 ≤ℤ s → (c *ℤ s) ≤ℤ p → c �
 cell-from s c p positive le =
     by_lt_z (cell_of s p) c
     (λ lt.
-    let within = cell-within s p positive in
-    let product = mul-le (cell_of s p +ℤ pos 1) c s (omega (arith, ints)) (omega (arith, ints)) in
-    let next = mul-next (cell_of s p) s in
-    absurd (omega (arith, ints)))
+    grind (arith, ints, cell-within s p positive, mul-le (cell_of s p +ℤ pos 1) c s (omega (arith, ints)) (omega (arith, ints)), mul-next (cell_of s p) s))
     (λ ge. ge)
 
 -- the cell of a pixel before the first pixel of the next cell is that cell or an earlier one
 pub cell-to : (s c p : ℤ) → pos 1 ≤ℤ s → p <ℤ ((c *ℤ s) +ℤ s) → cell_of s p ≤ℤ c
 cell-to s c p positive lt =
     by_lt_z c (cell_of s p)
-    (λ after.
-    let within = cell-within s p positive in
-    let product = mul-le (c +ℤ pos 1) (cell_of s p) s (omega (arith, ints)) (omega (arith, ints)) in
-    let next = mul-next c s in
-    absurd (omega (arith, ints)))
+    (λ after. grind (arith, ints, cell-within s p positive, mul-le (c +ℤ pos 1) (cell_of s p) s (omega (arith, ints)) (omega (arith, ints)), mul-next c s))
     (λ ge. ge)
 
 -- cells are in the order of their pixels
@@ -39,10 +32,7 @@ cell-le s p q positive le = let within = cell-within s p positive in cell-from s
 
 -- the next pixel is in the same cell or the next
 pub cell-next : (s p : ℤ) → pos 1 ≤ℤ s → cell_of s (p +ℤ pos 1) ≤ℤ (cell_of s p +ℤ pos 1)
-cell-next s p positive =
-    let within = cell-within s p positive in
-    let next = mul-next (cell_of s p) s in
-    cell-to s (cell_of s p +ℤ pos 1) (p +ℤ pos 1) positive (omega (arith, ints))
+cell-next s p positive = let within = cell-within s p positive in grind (arith, ints, mul-next, cell-to)
 
 -- a cell is no further from the axis than its pixels
 pub record IsCellInField (c : ℤ) : Type 0 where

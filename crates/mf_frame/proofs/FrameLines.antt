@@ -34,9 +34,7 @@ empty_more count old n text new more written so_far =
 
 pub empty_all : (count : ℕ) (old : List ℕ) (n : ℕ) (text : List ℕ) → count ≤ n → AreEmptySoFar count old n text → text ≡ old ++ empty_lines Colored count
 unfolding empty_lines
-empty_all count old n text over so_far =
-    let none : count - n ≡ 0 = omega arith in
-    pieces_all text _ _ (ap (empty_lines Colored) none) so_far.lines
+empty_all count old n text over so_far = let none : count - n ≡ 0 = omega arith in pieces_all text _ _ (ap (empty_lines Colored) none) so_far.lines
 
 -- ---- a line of tiles
 
@@ -60,9 +58,6 @@ pub record AreTilesSoFar (t : WindowText) (k : ℤ) (n : ℕ) (text : List ℕ) 
   pub to : n ≤ t.window.columns
   pub line : text ++ tiles_from t k n (t.window.columns - n) ≡ t.old ++ tiles_of t k
 
-pub tiles_none : (t : WindowText) (k : ℤ) → AreTilesSoFar t k 0 t.old
-tiles_none t k = grind (arith, ints)
-
 tiles_from-next : (t : WindowText) (k : ℤ) (place n : ℕ)
     → tiles_from t k place (suc n) ≡ tile_at t.style t.shades k (t.window.column +ℤ pos place) ++ tiles_from t k (place + 1) n
 unfolding tiles
@@ -77,9 +72,7 @@ tiles_more t k n text new more written so_far =
 
 pub tiles_all : (t : WindowText) (k : ℤ) (n : ℕ) (text : List ℕ) → t.window.columns ≤ n → AreTilesSoFar t k n text → text ≡ t.old ++ tiles_of t k
 unfolding tiles
-tiles_all t k n text over so_far =
-    let none : t.window.columns - n ≡ 0 = omega arith in
-    pieces_all text _ _ (ap (tiles_from t k n) none) so_far.line
+tiles_all t k n text over so_far = let none : t.window.columns - n ≡ 0 = omega arith in pieces_all text _ _ (ap (tiles_from t k n) none) so_far.line
 
 -- the two cells that the code shows in a tile are those of the tile
 pub tile_here : (style : Style) (w : Window) (shades : List Shade) (above place : ℕ) (column line : ℤ)
@@ -93,8 +86,7 @@ tile_here style w shades above place column line here there =
     let right : unsigned_abs (i -ℤ w.column) ≡ place = omega (arith, ints) in
     let lower : unsigned_abs ((pos 2 *ℤ k) -ℤ (pos 2 *ℤ w.line)) ≡ 2 * above = omega (arith, ints) in
     let upper : unsigned_abs (((pos 2 *ℤ k) +ℤ pos 1) -ℤ (pos 2 *ℤ w.line)) ≡ suc (2 * above) = omega (arith, ints) in
-    let row : suc (2 * above) * w.columns ≡ 2 * above * w.columns + w.columns = omega (arith, suc-mul (2 * above) w.columns) in
-    rw (here, there, right, lower, upper, row) refl
+    grind (arith, ints, suc-mul)
 
 -- ---- the lines of a window
 
@@ -135,8 +127,7 @@ same_lines style f g w (suc n) same few =
     let upper = same c ((pos 2 *ℤ k) +ℤ pos 1) (omega (arith, ints)) in
     let lower = same c (pos 2 *ℤ k) (omega (arith, ints)) in
     ap (λ cells. tile style cells c k) (λ t. (upper t, lower t))) in
-    let others = same_lines style f g w n same (omega arith) in
-    rw (tiles_here, others) refl
+    grind (arith, ints, same_lines style f g w n same (omega arith))
 
 pub drawn_lines : (style : Style) (w : Window) (ds : List Dot) (shades : List Shade) → AreCells w ds shades
     → window_lines style (shade_in w shades) w ≡ window_lines style (cell_shade w.scale ds) w

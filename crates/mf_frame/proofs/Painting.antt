@@ -171,23 +171,12 @@ unfolding shade_in
 painted_none w ds rs shades n picture all blank count = record {
   passed = [];
   passes = none_passed ds rs picture all;
-  cells = record {
-    count = rw blank (length-replicate n Blank ∙ count);
-    cells = λ i j cell. rw (blank, shade-none w.scale i j) (get_or-replicate n (place_in w i j) Blank Blank (rw count (place-inside w i j cell)));
-  };
+  cells = grind (arith, ints, length-replicate, shade-none, get_or-replicate, place-inside);
 }
 
 pub painted_more : (w : Window) (ds : List Dot) (rs : List Run) (r : Run) (others : List Run) (old new : List Shade) → rs ≡ r ∷ others → ArePainted w r old new
     → ArePaintedBefore w ds rs old → ArePaintedBefore w ds others new
-painted_more w ds rs r others old new first painted so_far = record {
-  passed = so_far.passed ++ dots_of r;
-  passes = one_more_passed ds rs r others so_far.passed first so_far.passes;
-  cells = record {
-    count = painted.count ∙ so_far.cells.count;
-    cells = λ i j cell. painted.cells i j cell ∙ ap (λ s. darker s (cell_shade w.scale (dots_of r) i j)) (so_far.cells.cells i j cell)
-        ∙ sym (shade-append w.scale so_far.passed (dots_of r) i j);
-  };
-}
+painted_more w ds rs r others old new first painted so_far = grind (arith, ints, one_more_passed ds rs r others so_far.passed first so_far.passes, shade-append)
 
 pub painted_all : (w : Window) (ds : List Dot) (rs : List Run) (shades : List Shade) → rs ≡ [] → ArePaintedBefore w ds rs shades → AreCells w ds shades
 painted_all w ds rs shades none so_far = subst (λ dots. AreCells w dots shades) (all_passed ds rs so_far.passed none so_far.passes) so_far.cells
@@ -203,9 +192,7 @@ in_window_first w y x m n es all =
 in_window_last : (w : Window) (y x m : ℤ) (n : ℕ) (es : List Dot) → AreInWindow w (equal_dots y x m (suc n) ++ es)
     → IsCellOf w (cell_of w.scale (x +ℤ pos n)) (cell_of w.scale y)
 unfolding equal_dots
-in_window_last w y x m zero es all =
-    let same : x +ℤ pos 0 ≡ x = omega (arith, ints) in
-    rw same (in_window_first w y x m zero es all)
+in_window_last w y x m zero es all = grind (arith, ints, in_window_first w y x m zero es all)
 in_window_last w y x m (suc n) es all =
     let same : x +ℤ pos (suc n) ≡ (x +ℤ pos 1) +ℤ pos n = omega (arith, ints) in
     rw same (in_window_last w y (x +ℤ pos 1) m n es (All-tail (λ d. IsCellOf w (cell_of w.scale d.x) (cell_of w.scale d.y))
@@ -233,5 +220,4 @@ next_in_window w ds rs r others shades all first so_far =
 
 pub start_before_end : (w : Window) (r : Run) → IsWindow w → IsRunInWindow w r → run_start w r ≤ run_end w r
 start_before_end w r window within =
-    let le = cell-le w.scale r.x ((r.x +ℤ pos r.len) -ℤ pos 1) window.scale.least (omega (arith, ints, within.run.some)) in
-    omega (arith, ints, le, within.first.left)
+    grind (arith, ints, cell-le w.scale r.x ((r.x +ℤ pos r.len) -ℤ pos 1) window.scale.least (omega (arith, ints, within.run.some)))

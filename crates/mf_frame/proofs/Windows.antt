@@ -1,5 +1,5 @@
 -- Windows of boxes, and their scales.
-use Rattle.std.proofs.Common.{◌≡◌, ◌≤◌, ℕ, zero, suc, ◌-◌, true, false, ℤ, pos, ◌+ℤ◌, ◌-ℤ◌, ◌≤ℤ◌, ◌<ℤ◌, refl, sym, ◌∙◌, to_z, of_z, w32, arith}
+use Rattle.std.proofs.Common.{◌≡◌, ◌≤◌, ℕ, zero, suc, ◌-◌, true, false, ℤ, pos, ◌+ℤ◌, ◌-ℤ◌, ◌≤ℤ◌, ◌<ℤ◌, refl, to_z, of_z, w32, arith}
 use Rattle.std.specs.Int.RustNames.{unsigned_abs}
 use Rattle.std.proofs.lemmas.Bool.{cond-true, cond-false, cond_both, and_parts, and_from, leb-true, le-leb}
 use Rattle.std.proofs.lemmas.Int.{ints, by_lt_z}
@@ -14,9 +14,6 @@ use Rattle.mf_frame.specs.Canvases.{Size, IsSize, picture_lines}
 use Rattle.mf_frame.specs.Cells.{cell_of}
 use Rattle.mf_frame.specs.Windows.{lesser_scales, line_of, window_at, fits_on, first_fitting, scale_of, IsScale, IsWindow}
 use Rattle.mf_frame.proofs.Floors.{IsCellInField, cell-le, cell_in_field, cell_at_greatest, line-within, line-le}
-
-line_in_field : (j : ℤ) → IsCellInField j → IsCellInField (line_of j)
-line_in_field j field = omega (arith, ints, line-within j, field)
 
 -- the columns and lines of a box of the field
 pub record IsWindowOfField (b : Box4) (s : ℤ) : Type 0 where
@@ -39,8 +36,8 @@ window_of_field b s box positive =
       columns = cell-le s b.min_x b.max_x positive box.columns;
       first_row = first_row;
       last_row = last_row;
-      first_line = line_in_field (cell_of s b.min_y) first_row;
-      last_line = line_in_field (cell_of s b.max_y) last_row;
+      first_line = omega (arith, ints, line-within (cell_of s b.min_y), first_row);
+      last_line = omega (arith, ints, line-within (cell_of s b.max_y), last_row);
       lines = line-le (cell_of s b.min_y) (cell_of s b.max_y) (cell-le s b.min_y b.max_y positive box.rows);
     }
 
@@ -107,9 +104,7 @@ same_window b s ends columns lines scale v wide high =
     omega (arith, ints, v.bottom, v.field.first_line.least, v.field.first_line.greatest) in
     let top : to_z w32 (of_z w32 ends.last_line) ≡ line_of (cell_of s b.max_y) =
     omega (arith, ints, v.top, v.field.last_line.least, v.field.last_line.greatest) in
-    let width = rw (left, right) at wide in
-    let height = rw (bottom, top) at high in
-    λ i. record { scale = factor i; column = left i; columns = width i; line = bottom i; lines = height i }
+    grind (arith, ints)
 
 -- ---- the scale
 
@@ -148,9 +143,7 @@ first-next canvas b s n fails = cond-false _ s (first_fitting canvas b (s +ℤ p
 first-fits : (canvas : Size) (b : Box4) (s : ℤ) (n : ℕ) → IsSize canvas → IsBoxOfField b → s +ℤ pos n ≡ greatest_coordinate
     → fits_on canvas (window_at b (first_fitting canvas b s n)) ≡ true
 unfolding first_fitting
-first-fits canvas b s zero size box last =
-    let same : s ≡ greatest_coordinate = omega (arith, ints) in
-    rw same (fits_at_greatest canvas b size box)
+first-fits canvas b s zero size box last = grind (arith, ints, fits_at_greatest canvas b size box)
 first-fits canvas b s (suc n) size box last = grind (arith, ints, cond_both, first-fits canvas b (s +ℤ pos 1) n size box (omega (arith, ints)))
 
 first-within : (canvas : Size) (b : Box4) (s : ℤ) (n : ℕ) → (s ≤ℤ first_fitting canvas b s n) × (first_fitting canvas b s n ≤ℤ (s +ℤ pos n))
@@ -186,8 +179,7 @@ unfolding window_at
 lawful_window canvas b size box =
     let scale = is_scale canvas b in
     let field = window_of_field b (scale_of canvas b) box scale.least in
-    let fitting = fitting_parts canvas (window_at b (scale_of canvas b)) (scale-fits canvas b size box) in
-    omega (arith, ints, scale, field.first_column, field.first_line, fitting, size)
+    grind (arith, ints, fitting_parts canvas (window_at b (scale_of canvas b)) (scale-fits canvas b size box), scale-fits)
 
 -- the scales before this one are those at which the window does not fit
 pub record IsScaleFrom (canvas : Size) (b : Box4) (s : ℤ) : Type 0 where
@@ -199,17 +191,12 @@ pub scale_none : (canvas : Size) (b : Box4) → IsScaleFrom canvas b (pos 1)
 unfolding scale_of
 scale_none canvas b = record { least = omega (arith, ints); greatest = omega (arith, ints); first = refl }
 
-more_scales : (s : ℤ) → s <ℤ greatest_coordinate → unsigned_abs (greatest_coordinate -ℤ s) ≡ suc (unsigned_abs (greatest_coordinate -ℤ (s +ℤ pos 1)))
+pub more_scales : (s : ℤ) → s <ℤ greatest_coordinate → unsigned_abs (greatest_coordinate -ℤ s) ≡ suc (unsigned_abs (greatest_coordinate -ℤ (s +ℤ pos 1)))
 more_scales s more = omega (arith, ints)
 
 pub scale_more : (canvas : Size) (b : Box4) (s : ℤ) → s <ℤ greatest_coordinate → fits_on canvas (window_at b s) ≡ false → IsScaleFrom canvas b s
     → IsScaleFrom canvas b (s +ℤ pos 1)
 scale_more canvas b s more fails so_far = grind (arith, ints, first-next, more_scales)
-
-pub scale_found : (canvas : Size) (b : Box4) (s : ℤ) → s <ℤ greatest_coordinate → fits_on canvas (window_at b s) ≡ true
-    → IsScaleFrom canvas b s → s ≡ scale_of canvas b
-scale_found canvas b s more fits so_far =
-    sym (first-found canvas b s (unsigned_abs (greatest_coordinate -ℤ (s +ℤ pos 1))) fits) ∙ rw (← more_scales s more) so_far.first
 
 pub scale_last : (canvas : Size) (b : Box4) (s : ℤ) → s ≡ greatest_coordinate → IsScaleFrom canvas b s → greatest_coordinate ≡ scale_of canvas b
 unfolding first_fitting

@@ -52,8 +52,7 @@ empty_lines_above Colored canvas n = empty_lines Colored (picture_lines canvas -
 
 -- the line with the revision and the total weight
 abbrev pub heading : Style → ℕ → ℤ → List ℕ
-heading style revision total =
-    line_start style ++ codes "revision " ++ decimal revision ++ codes "  totalweight " ++ signed_decimal total ++ codes "\n"
+heading style revision total = line_start style ++ codes "revision " ++ decimal revision ++ codes "  totalweight " ++ signed_decimal total ++ codes "\n"
 
 -- two numbers, the ends of a range
 abbrev pub range : ℤ → ℤ → List ℕ
@@ -71,8 +70,7 @@ picture_text style canvas ds w = empty_lines_above style canvas w.lines ++ windo
 
 -- the frame of the blank picture
 unfoldable pub blank_frame : Style → Size → ℕ → List Dot → List ℕ
-blank_frame style canvas revision ds =
-    empty_lines_above style canvas 0 ++ heading style revision (total_of ds) ++ line_start style ++ codes "blank  scale 1\n"
+blank_frame style canvas revision ds = empty_lines_above style canvas 0 ++ heading style revision (total_of ds) ++ line_start style ++ codes "blank  scale 1\n"
 
 -- the frame of a picture, by its least box
 unfoldable pub frame_text : Style → Size → ℕ → List Dot → List ℕ

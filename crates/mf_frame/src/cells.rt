@@ -11,6 +11,7 @@ use std::alloc::Global;
 
 /// The shades of the cells of a window: row by row from the lowest, each row from its first column. Requires that the picture
 /// lies in the window.
+#[tactic(auto, using(crate::proofs::Painting::painted_none, crate::proofs::Painting::painted_all))]
 pub(crate) fn cells_of(
     alloc: Global,
     picture: &Picture,

@@ -25,6 +25,7 @@ use std::alloc::Global;
 /// axes, which are marked where nothing else is. Below come a line `revision R  totalweight T`, and a line
 /// `columns X1..X2  rows Y1..Y2  scale S` with the least box of the picture in pixels, or `blank  scale 1`. Refused with
 /// `OutOfMemory` where an allocation fails.
+#[tactic(auto, using(mf_rows::proofs::BoxesOfDots::no_box), unfolding(crate::specs::Frames::frame_text))]
 pub fn draw(
     alloc: Global,
     picture: &Picture,
@@ -64,6 +65,7 @@ fn draw_box(
 }
 
 /// The frame of the blank picture.
+#[tactic(auto, using(std::proofs::lemmas::Int::ints), unfolding(crate::specs::Frames::blank_frame))]
 fn draw_blank(
     alloc: Global,
     picture: &Picture,
@@ -83,6 +85,7 @@ fn draw_blank(
 }
 
 /// Appends the empty lines above this number of lines of a picture.
+#[tactic(auto, using(crate::proofs::FrameLines::empty_none))]
 fn push_empty_lines_above(
     text: &mut Vec<u8>,
     style: Style,
@@ -110,6 +113,7 @@ fn push_empty_lines(text: &mut Vec<u8>, count: u32) -> Result<(), OutOfMemory>
 }
 
 /// Appends the lines of a window whose cells have these shades, from the highest.
+#[tactic(auto, using(crate::proofs::FrameLines::lines_none))]
 fn push_lines(
     text: &mut Vec<u8>,
     style: Style,

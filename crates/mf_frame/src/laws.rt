@@ -9,6 +9,7 @@ ghost use Rattle.mf_frame.specs.Cells.{HasPositivePixel, cell_shade, is_dark};
 ghost use Rattle.mf_frame.specs.Windows.{fits_on, scale_of, window_at};
 
 /// A cell is dark exactly where one of its pixels has positive weight.
+#[tactic(auto, using(crate::proofs::DarkCells::pixel_of_dark, crate::proofs::DarkCells::dark_from_pixel))]
 pub fn dark_where_positive()
     ensures { (s : ℤ) (ds : List Dot) (i j : ℤ) → IsPicture ds → IsTrue (is_dark (cell_shade s ds i j)) ↔ HasPositivePixel s ds i j }
 {}

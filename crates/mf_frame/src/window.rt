@@ -77,6 +77,7 @@ impl Window {
 }
 
 /// The column, or row, of the cells of pixel column, or row, p.
+#[tactic(auto, using(std::proofs::lemmas::Int::ints), unfolding(crate::specs::Cells::cell_of))]
 pub(crate) fn cell_of(scale: i32, p: i32) -> i32
     requires { IsScale scale }
     ensures { result ≡ cell_of scale p }
@@ -85,6 +86,7 @@ pub(crate) fn cell_of(scale: i32, p: i32) -> i32
 }
 
 /// The line that shows the cells of a row.
+#[tactic(auto, using(std::proofs::lemmas::Int::ints), unfolding(crate::specs::Windows::line_of))]
 fn line_of(row: i32) -> i32
     ensures { result ≡ line_of row }
 {

@@ -13,21 +13,13 @@ found : (c : After-cell_of-last) → AreFoundCells c.args.window.now.scale c.arg
 found c = found_cells _ _ _ _ _ c.requires.window.scale c.requires.run.run c.cell_of-row.ensures c.cell_of-first.ensures c.cell_of-last.ensures
 
 pub place_in-start-requires-clause-cell : goal.place_in-start-requires-clause-cell
-place_in-start-requires-clause-cell c =
-    let cells = found (goal.at.place_in-start-requires-clause-cell c).After-cell_of-last in
-    rw (cells.row_is, cells.first_is) c.requires.run.first
+place_in-start-requires-clause-cell c = grind (arith, ints, found (goal.at.place_in-start-requires-clause-cell c).After-cell_of-last)
 
 pub place_in-end-requires-clause-cell : goal.place_in-end-requires-clause-cell
-place_in-end-requires-clause-cell c =
-    let cells = found (goal.at.place_in-end-requires-clause-cell c).After-cell_of-last in
-    rw (cells.row_is, cells.last_is) c.requires.run.last
+place_in-end-requires-clause-cell c = grind (arith, ints, found (goal.at.place_in-end-requires-clause-cell c).After-cell_of-last)
 
 pub darken-requires-clause-order : goal.darken-requires-clause-order
-darken-requires-clause-order c =
-    let cells = found (goal.at.darken-requires-clause-order c).After-cell_of-last in
-    let start = rw (cells.row_is, cells.first_is) at c.place_in-start.ensures.value in
-    let end = rw (cells.row_is, cells.last_is) at c.place_in-end.ensures.value in
-    rw (start, end) (start_before_end _ _ c.requires.window c.requires.run)
+darken-requires-clause-order c = grind (arith, ints, found (goal.at.darken-requires-clause-order c).After-cell_of-last, start_before_end)
 
 pub returns : goal.returns
 returns c =

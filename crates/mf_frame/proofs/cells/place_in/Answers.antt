@@ -8,8 +8,7 @@ returns-clause-value c =
     let cell = c.requires.cell in
     let w = c.args.window.now in
     let above : to_z w32 (of_z w32 (to_z w32 (of_z w32 c.args.row) -ℤ to_z w32 (of_z w32 (pos 2 *ℤ to_z w32 (of_z w32 w.line)))))
-    ≡ c.args.row -ℤ (pos 2 *ℤ w.line) =
-    omega (arith, ints, cell.bottom, cell.top, c.requires.window.bottom, c.requires.window.top, c.requires.window.lines) in
+    ≡ c.args.row -ℤ (pos 2 *ℤ w.line) = omega (arith, ints, cell.bottom, cell.top, c.requires.window.bottom, c.requires.window.top, c.requires.window.lines) in
     let right : to_z w32 (of_z w32 (to_z w32 (of_z w32 c.args.column) -ℤ to_z w32 (of_z w32 w.column))) ≡ c.args.column -ℤ w.column =
     omega (arith, ints, cell.left, cell.right, c.requires.window.left, c.requires.window.right, c.requires.window.columns) in
     rw (above, right) refl

@@ -12,8 +12,7 @@ pub fitting-window-requires : goal.fitting-window-requires
 fitting-window-requires c = least_box_of_field _ _ c.total-total.ensures.lawful c.requires
 
 pub cells_of-requires-clause-dots : goal.cells_of-requires-clause-dots
-cells_of-requires-clause-dots c =
-    rw c.fitting-window.ensures.value (all_in_window _ _ _ (is_scale c.args.canvas c.args.bounds.now).least c.requires)
+cells_of-requires-clause-dots c = rw c.fitting-window.ensures.value (all_in_window _ _ _ (is_scale c.args.canvas c.args.bounds.now).least c.requires)
 
 pub push_measures-requires : goal.push_measures-requires
 push_measures-requires c = least_box_of_field _ _ c.total-total.ensures.lawful c.requires

@@ -1,9 +1,6 @@
 use Rattle.std.proofs.Common.{append_assoc, arith}
-use Rattle.mf_frame.proofs.FrameLines.{empty_all, empty_more, empty_none}
+use Rattle.mf_frame.proofs.FrameLines.{empty_all, empty_more}
 use Rattle.mf_frame.proofs.frame.push_empty_lines.Goals as goal
-
-pub loop-init : goal.loop-init
-loop-init c = empty_none _ _
 
 pub loop-preserved : goal.loop-preserved
 loop-preserved c = grind (arith, append_assoc, empty_more)

@@ -1,14 +1,13 @@
 use Rattle.std.proofs.Common.{◌≡◌, ◌+ℤ◌, ◌++◌, pos, to_z, of_z, w32, ap, ◌∙◌, arith}
 use Rattle.std.proofs.lemmas.Int.{ints}
-use Rattle.std.proofs.lemmas.Result.{IfOk-equal}
 use Rattle.mf_frame.specs.Tiles.{line_start, tile_end}
 use Rattle.mf_frame.specs.Cells.{shade_in}
 use Rattle.mf_frame.specs.Frames.{tile_at, tiles}
-use Rattle.mf_frame.proofs.FrameLines.{three_parts, tile_here, tiles_all, tiles_more, tiles_none}
+use Rattle.mf_frame.proofs.FrameLines.{three_parts, tile_here, tiles_all, tiles_more}
 use Rattle.mf_frame.proofs.frame.push_line.Goals as goal
 
 pub loop-place-init : goal.loop-place-init
-loop-place-init c = tiles_none _ _
+loop-place-init c = grind (arith, ints)
 
 pub loop-place-preserved : goal.loop-place-preserved
 loop-place-preserved c =
@@ -27,5 +26,4 @@ returns c =
     let all = tiles_all _ _ _ _ c.loop-place-test.false c.loop-place.invariant in
     let line = tiles (tile_at c.args.style (shade_in w c.args.shades.now) (w.line +ℤ pos c.args.above)) w.column w.columns in
     let end = tile_end c.args.style in
-    IfOk-equal _ _ _ _ c.push_tile_end.ensures (ap (λ t. t ++ end) (all ∙ ap (λ t. t ++ line) c.in_ok-push_line_start.ensures)
-    ∙ three_parts c.args.text.now.items (line_start c.args.style) line end)
+    grind (arith, ints, three_parts c.args.text.now.items (line_start c.args.style) line end)

@@ -25,6 +25,4 @@ extent-requires-2 c =
     omega (arith, ints, v, v.field.first_line, v.field.last_line, v.field.lines)
 
 pub returns : goal.returns
-returns c =
-    let v = ends (goal.at.returns c).After-line_of-last_line in
-    same_window _ _ _ _ _ c.requires.scale v c.extent.ensures c.extent-2.ensures
+returns c = let v = ends (goal.at.returns c).After-line_of-last_line in same_window _ _ _ _ _ c.requires.scale v c.extent.ensures c.extent-2.ensures

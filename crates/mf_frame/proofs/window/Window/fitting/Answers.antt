@@ -2,7 +2,7 @@ use Rattle.std.proofs.Common.{◌≡◌, ◌+ℤ◌, ◌<ℤ◌, ◌∙◌, ap, 
 use Rattle.std.proofs.lemmas.Int.{ints}
 use Rattle.mf_geom.specs.Coordinates.{greatest_coordinate}
 use Rattle.mf_frame.specs.Windows.{window_at}
-use Rattle.mf_frame.proofs.Windows.{few_lines, lawful_window, scale_found, scale_last, scale_more, scale_none}
+use Rattle.mf_frame.proofs.Windows.{few_lines, first-found, lawful_window, more_scales, scale_last, scale_more, scale_none}
 use Rattle.mf_frame.proofs.window.Window.fitting.Goals as goal
 
 pub loop-scale-init : goal.loop-scale-init
@@ -12,7 +12,7 @@ pub returns-then-fits : goal.returns-then-fits
 returns-then-fits c =
     let fits = sym (rw (c.at-window.ensures, c.columns-columns.ensures.value, c.picture_lines-lines.ensures.value) at c.if-fits.ensures) in
     let more : to_z w32 c.loop-scale.scale-bits <ℤ greatest_coordinate = omega (arith, ints, c.loop-scale-test.true) in
-    let value = c.at-window.ensures ∙ ap (window_at c.args.bounds.now) (scale_found _ _ _ more fits c.loop-scale.invariant) in
+    let value = c.at-window.ensures ∙ ap (window_at c.args.bounds.now) (grind (arith, ints, first-found, more_scales, more, fits, c.loop-scale.invariant)) in
     record {
       value = value;
       lawful = rw value (lawful_window _ _ c.columns-columns.ensures.lawful c.requires);

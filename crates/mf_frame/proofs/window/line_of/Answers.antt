@@ -1,8 +1,0 @@
-use Rattle.std.proofs.Common.{arith}
-use Rattle.std.proofs.lemmas.Int.{ints, to_z-of_z}
-use Rattle.mf_frame.specs.Windows.{line_of}
-use Rattle.mf_frame.proofs.window.line_of.Goals as goal
-
-pub returns : goal.returns
-unfolding line_of
-returns c = grind (arith, ints, to_z-of_z)
