@@ -52,5 +52,4 @@ stays_small : (z : ℤ) → IsSmall z → StaysItself z
 stays_small z small = omega (arith, ints, small.least, small.greatest)
 
 pub box_stays_small : (v : ViewBox) → IsSmallBox v → StaysItself v.left × StaysItself v.top × StaysItself v.width × StaysItself v.height
-box_stays_small v small =
-    (stays_small v.left small.left, stays_small v.top small.top, stays_small v.width small.width, stays_small v.height small.height)
+box_stays_small v small = (stays_small v.left small.left, stays_small v.top small.top, stays_small v.width small.width, stays_small v.height small.height)

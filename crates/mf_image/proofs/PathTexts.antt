@@ -5,10 +5,9 @@ use Rattle.std.specs.List.{All, flat_map, fold}
 use Rattle.std.proofs.lemmas.Int.{ints, int_max_is, int_min_is}
 use Rattle.std.proofs.lemmas.List.Elements.{All-rest}
 use Rattle.mf_rows.specs.declared.run.Run.{Run}
-use Rattle.mf_rows.specs.Dots.{Dot, IsPicture}
+use Rattle.mf_rows.specs.Dots.{Dot}
 use Rattle.mf_rows.specs.Order.{IsRun}
 use Rattle.mf_rows.specs.Runs.{runs_of}
-use Rattle.mf_rows.proofs.PassedRuns.{runs_are_lawful}
 use Rattle.mf_show.specs.Grid.{extent}
 use Rattle.mf_show.proofs.Pieces.{piece_more, pieces_all}
 use Rattle.mf_show.proofs.ShownRows.{extent-next, extent-none}
@@ -29,9 +28,6 @@ pub record AreSpanned (ds : List Dot) (rs : List Run) (least greatest : ℤ) : T
   pub up : pos 0 ≤ℤ greatest
   pub high : greatest ≤ℤ greatest_weight
 
-pub none_spanned : (ds : List Dot) (rs : List Run) → IsPicture ds → rs ≡ runs_of ds → AreSpanned ds rs (pos 0) (pos 0)
-none_spanned ds rs picture all = grind (arith, ints, runs_are_lawful)
-
 pub one_more_spanned : (ds : List Dot) (rs : List Run) (r : Run) (others : List Run) (least greatest low high : ℤ) → rs ≡ r ∷ others
     → low ≡ int_min least r.weight → high ≡ int_max greatest r.weight → AreSpanned ds rs least greatest → AreSpanned ds others low high
 one_more_spanned ds rs r others least greatest low high first lesser greater so_far =
@@ -48,8 +44,7 @@ one_more_spanned ds rs r others least greatest low high first lesser greater so_
 
 pub all_spanned : (ds : List Dot) (rs : List Run) (least greatest : ℤ) → rs ≡ [] → AreSpanned ds rs least greatest
     → (least ≡ least_weight_of (runs_of ds)) × (greatest ≡ greatest_weight_of (runs_of ds))
-all_spanned ds rs least greatest none so_far =
-    (ap (λ all. fold int_min least (weights_of all)) (sym none) ∙ so_far.below, ap (λ all. fold int_max greatest (weights_of all)) (sym none) ∙ so_far.above)
+all_spanned ds rs least greatest none so_far = grind (arith, ints)
 
 -- ---- the paths
 

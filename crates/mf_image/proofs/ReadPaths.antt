@@ -9,7 +9,7 @@ use Rattle.std.proofs.lemmas.Int.{ints, fold-int_min_bounds, fold-int_max_bounds
 use Rattle.std.proofs.lemmas.List.{append-nil}
 use Rattle.std.proofs.lemmas.List.Elements.{All-head, All-tail}
 use Rattle.mf_rows.specs.declared.run.Run.{Run}
-use Rattle.mf_rows.specs.Dots.{Dot, IsPicture, start_of_field, weight_at}
+use Rattle.mf_rows.specs.Dots.{Dot, IsPicture, weight_at}
 use Rattle.mf_rows.specs.Order.{IsRun}
 use Rattle.mf_rows.specs.Runs.{dots_of, runs_of}
 use Rattle.mf_rows.proofs.RunsLemmas.{dots_of-runs_of}
@@ -20,10 +20,10 @@ use Rattle.mf_rows.proofs.BoxesOfDots.{least_box_of_dots, least_box_of_field}
 use Rattle.mf_image.specs.declared.svg_image.ViewBox.{ViewBox}
 use Rattle.mf_image.specs.Boxes.{image_box}
 use Rattle.mf_image.specs.Reading.{rest_after, dots_in, read_svg}
-use Rattle.mf_image.specs.Svg.{IsSmall, IsSmallBox, axes, color, cover, greatest_weight_of, image, least_weight_of, opening}
-use Rattle.mf_image.specs.Svg.{path_of_weight, paths, paths_from, rectangle, rectangle_of, svg_text, view_box_of, weights_of}
+use Rattle.mf_image.specs.Svg.{IsSmall, IsSmallBox, axes, cover, greatest_weight_of, image, least_weight_of, opening}
+use Rattle.mf_image.specs.Svg.{path_of_weight, paths, paths_from, rectangle, rectangle_of, svg_text, weights_of}
 use Rattle.mf_image.proofs.ImageBoxes.{box_of_blank, small_box}
-use Rattle.mf_image.proofs.ReadTexts.{IsPassed, axes_read, cover_read, end_after, number_passed, number_read, opening_read, rectangle_read}
+use Rattle.mf_image.proofs.ReadTexts.{axes_read, cover_read, end_after, number_passed, number_read, opening_read, rectangle_read}
 use Rattle.mf_image.proofs.ReadWeights.{dots_with, dots_with-append, dots_with-other, dots_with-same, found, gathered, weight_of_runs}
 
 -- ---- the rectangles of a path
@@ -52,10 +52,6 @@ some_weight w (r ∷ rs) b bs runs some =
 
 -- ---- a path
 
-color_passed : (v w : ℤ) → IsPassed v (color w)
-unfolding dots_in
-color_passed v w = grind (arith, ints, cond_both)
-
 -- the path of a weight draws its rectangles, whatever path came before it
 path_read : (w v : ℤ) (text : List ℕ) (dots : List Dot) (rest : List ℕ) (later : List Dot)
     → ((b : ℕ) (bs : List ℕ) → text ≡ b ∷ bs → IsSmall w)
@@ -66,7 +62,7 @@ unfolding dots_in rest_after
 path_read w v [] dots rest later small drawn others =
     let none : dots ≡ [] = sym (append-nil dots) ∙ sym (drawn []) in
     others v ∙ ap (λ ds. ds ++ later) (sym none)
-path_read w v (b ∷ bs) dots rest later small drawn others = grind (arith, ints, end_after, color_passed, number_passed, append_assoc, number_read)
+path_read w v (b ∷ bs) dots rest later small drawn others = grind (arith, ints, end_after, cond_both, number_passed, append_assoc, number_read)
 
 -- the paths of n weights from w on draw the dots of these weights
 paths_read : (rs : List Run) (w : ℤ) (n : ℕ) (v : ℤ) (rest : List ℕ) → All IsRun rs → ((u : ℤ) → dots_in true u rest ≡ [])
@@ -86,8 +82,7 @@ paths_read rs w (suc n) v rest runs none =
 -- nothing after the paths draws
 tail_read : (s : ViewBox) (u : ℤ) → IsSmallBox s → dots_in true u (codes "</g>\n" ++ (cover s (codes "url(#grid)") ++ (axes s ++ codes "</svg>\n"))) ≡ []
 unfolding dots_in rest_after
-tail_read s u small =
-    cover_read u s (codes "url(#grid)") (axes s ++ codes "</svg>\n") small (λ rest. refl) ∙ axes_read u s (codes "</svg>\n") small
+tail_read s u small = cover_read u s (codes "url(#grid)") (axes s ++ codes "</svg>\n") small (λ rest. refl) ∙ axes_read u s (codes "</svg>\n") small
 
 image_read : (s : ViewBox) (rs : List Run) → IsSmallBox s → All IsRun rs
     → read_svg (image s rs) ≡ gathered (flat_map dots_of rs) (least_weight_of rs) (extent (least_weight_of rs) (greatest_weight_of rs))
@@ -120,6 +115,4 @@ svg_read ds x y picture =
     let (high_none, high_all) = fold-int_max_bounds (pos 0) (weights_of rs) high refl in
     let least : low ≤ℤ weight_at ds x y = subst (λ es. low ≤ℤ weight_at es x y) same (weight_of_runs (λ w. low ≤ℤ w) rs x y low_none low_all) in
     let greatest : weight_at ds x y ≤ℤ high = subst (λ es. weight_at es x y ≤ℤ high) same (weight_of_runs (λ w. w ≤ℤ high) rs x y high_none high_all) in
-    ap (λ es. weight_at es x y) (image_read (view_box_of (image_box ds)) rs
-    (small_box (image_box ds) (box_is_of_field ds picture)) runs ∙ ap (λ es. gathered es low (extent low high)) same)
-    ∙ found start_of_field ds low (extent low high) x y picture.dots least (omega (arith, ints))
+    grind (arith, ints, image_read, small_box, box_is_of_field, found)

@@ -1,6 +1,6 @@
 -- The texts of paths, read back.
-use Rattle.std.proofs.Common.{◌≡◌, ◌≢◌, ℕ, suc, ◌+◌, ◌*◌, ◌/◌, ◌%◌, ◌^◌, ◌<◌, true, false, ℤ, pos, negsuc, neg_ℤ, ◌+ℤ◌}
-use Rattle.std.proofs.Common.{List, [], ◌∷◌, ◌++◌, Some, codes, decimal, refl, sym, ap, ◌∙◌, append_assoc, arith}
+use Rattle.std.proofs.Common.{◌≡◌, ◌≢◌, ℕ, suc, ◌+◌, ◌*◌, ◌^◌, ◌<◌, true, false, ℤ, pos, negsuc, neg_ℤ, ◌+ℤ◌}
+use Rattle.std.proofs.Common.{List, ◌∷◌, ◌++◌, codes, decimal, refl, ap, ◌∙◌, append_assoc, arith}
 use Rattle.std.specs.Char.{is_ascii_digit}
 use Rattle.std.specs.Fmt.{signed_decimal}
 use Rattle.std.specs.Int.RustNames.{unsigned_abs}
@@ -13,13 +13,10 @@ use Rattle.mf_rows.specs.Order.{IsRun}
 use Rattle.mf_rows.specs.Runs.{equal_dots}
 use Rattle.mf_show.specs.Grid.{digit_zero, line_feed, minus_sign}
 use Rattle.mf_image.specs.declared.svg_image.ViewBox.{ViewBox}
-use Rattle.mf_image.specs.Reading.{rest_after, after_first, before_edge, before_width, dots_of_rectangle, number, dots_in, with_digits}
+use Rattle.mf_image.specs.Reading.{rest_after, after_first, before_edge, before_width, number, dots_in, with_digits}
 use Rattle.mf_image.specs.Svg.{IsSmall, IsSmallBox, axes, cover, grid, opening, rectangle}
 
 -- ---- digits
-
-digit_is : (d : ℕ) → d < 10 → is_ascii_digit (digit_zero + d) ≡ true
-digit_is d below = grind (arith, nat_tests)
 
 -- a function of texts passes a digit at the front
 abbrev pub PassesDigits : {A : Type 0} → (List ℕ → A) → Type 0
@@ -28,9 +25,7 @@ PassesDigits f = (d : ℕ) (bs : List ℕ) → d < 10 → f ((digit_zero + d) �
 pass_decimal : {A : Type 0} (f : List ℕ → A) → PassesDigits f → (n : ℕ) (bs : List ℕ) → n < 2 ^ 64 → f (decimal n ++ bs) ≡ f bs
 pass_decimal f digit n bs small =
     decimal_by_steps (λ k ds. (rest : List ℕ) → f (ds ++ rest) ≡ f rest) (λ d below rest. digit d rest below)
-    (λ k ds more front rest.
-    ap f (append_assoc ds ((digit_zero + k % 10) ∷ []) rest) ∙ front ((digit_zero + k % 10) ∷ rest) ∙ digit (k % 10) rest (omega arith))
-    n small bs
+    (grind (arith, ints, append_assoc)) n small bs
 
 pass_number : {A : Type 0} (f : List ℕ → A) → PassesDigits f → ((bs : List ℕ) → f (minus_sign ∷ bs) ≡ f bs) → (z : ℤ) (bs : List ℕ) → IsSmall z
     → f (signed_decimal z ++ bs) ≡ f bs
@@ -41,27 +36,20 @@ pass_number f digit sign (negsuc n) bs small = sign (decimal (suc n) ++ bs) ∙ 
 
 with_digits-digit : (n d : ℕ) (bs : List ℕ) → d < 10 → with_digits n ((digit_zero + d) ∷ bs) ≡ with_digits (10 * n + d) bs
 unfolding with_digits
-with_digits-digit n d bs below = grind (arith, ints, digit_is)
+with_digits-digit n d bs below = grind (arith, ints, nat_tests)
 
 with_digits-decimal : (n : ℕ) (bs : List ℕ) → n < 2 ^ 64 → with_digits 0 (decimal n ++ bs) ≡ with_digits n bs
 with_digits-decimal n bs small =
     decimal_by_steps (λ k ds. (rest : List ℕ) → with_digits 0 (ds ++ rest) ≡ with_digits k rest)
     (λ d below rest. let value : 10 * 0 + d ≡ d = omega arith in with_digits-digit 0 d rest below ∙ ap (λ m. with_digits m rest) value)
-    (λ k ds more front rest.
-    let value : 10 * (k / 10) + k % 10 ≡ k = omega arith in
-    ap (with_digits 0) (append_assoc ds ((digit_zero + k % 10) ∷ []) rest) ∙ front ((digit_zero + k % 10) ∷ rest)
-    ∙ with_digits-digit (k / 10) (k % 10) rest (omega arith) ∙ ap (λ m. with_digits m rest) value)
-    n small bs
+    (grind (arith, ints, append_assoc, with_digits-digit)) n small bs
 
 number-decimal : (n : ℕ) (bs : List ℕ) → n < 2 ^ 64 → number (decimal n ++ bs) ≡ pos (with_digits 0 (decimal n ++ bs))
 unfolding number
 number-decimal n bs small =
     decimal_by_steps (λ k ds. (rest : List ℕ) → number (ds ++ rest) ≡ pos (with_digits 0 (ds ++ rest)))
     (λ d below rest. rw (ne_eqb (digit_zero + d) minus_sign (λ same. omega arith)) refl)
-    (λ k ds more front rest.
-    let shift = append_assoc ds ((digit_zero + k % 10) ∷ []) rest in
-    ap number shift ∙ front ((digit_zero + k % 10) ∷ rest) ∙ ap (λ t. pos (with_digits 0 t)) (sym shift))
-    n small bs
+    (grind (arith, ints, append_assoc)) n small bs
 
 with_digits-end : (n c : ℕ) (bs : List ℕ) → is_ascii_digit c ≡ false → with_digits n (c ∷ bs) ≡ n
 unfolding with_digits
@@ -70,8 +58,7 @@ with_digits-end n c bs other = rw other refl
 pub number_read : (z : ℤ) (c : ℕ) (bs : List ℕ) → IsSmall z → is_ascii_digit c ≡ false → number (signed_decimal z ++ c ∷ bs) ≡ z
 unfolding number
 number_read (pos n) c bs small other = grind (arith, ints, number-decimal, with_digits-decimal, with_digits-end)
-number_read (negsuc n) c bs small other =
-    ap (λ k. neg_ℤ (pos k)) (with_digits-decimal (suc n) (c ∷ bs) (omega (arith, ints, small.least)) ∙ with_digits-end (suc n) c bs other)
+number_read (negsuc n) c bs small other = grind (arith, ints, with_digits-decimal, with_digits-end)
 
 first_passes_digits : (c : ℕ) → ((d : ℕ) → d < 10 → (digit_zero + d) ≢ c) → PassesDigits (after_first c)
 unfolding after_first
@@ -164,8 +151,7 @@ sides_passed : (w x top : ℤ) (n : ℕ) → IsSmall x → IsSmall top → IsSma
 unfolding dots_in
 sides_passed w x top n column row width =
     pair_end w x (codes " ") _ column (λ more. refl) (pair_end w top (codes "h") _ row (λ more. refl)
-    (pair_end w (pos n) (codes "v1h-") _ width (λ more. refl) (end_after w (signed_decimal (pos n)) (codes "z\n")
-    (number_passed w (pos n) width) (λ more. refl))))
+    (grind (arith, ints, number_passed w (pos n) width, pair_end, end_after)))
 
 top_found : (x top : ℤ) (n : ℕ) (rest : List ℕ) → IsSmall x
     → after_first before_edge (sides x top n ++ rest) ≡ signed_decimal top ++ before_width ∷ width_on n rest
@@ -198,5 +184,4 @@ rectangle_read w r rest run =
     let len : unsigned_abs (number (after_first before_width text)) ≡ r.len =
     ap (λ t. unsigned_abs (number t)) (width_found r.x top r.len rest column row) ∙ ap unsigned_abs (number_read (pos r.len) _ _ width refl) in
     let line : rectangle r ++ rest ≡ codes "M" ++ text = simp append_assoc in
-    let first : dots_in true w (codes "M" ++ text) ≡ dots_of_rectangle w (Some text) ++ dots_in false w text = refl in
-    ap (dots_in true w) line ∙ first ∙ rw (x, y, len) (ap (λ others. equal_dots r.y r.x w r.len ++ others) (sides_passed w r.x top r.len column row width rest))
+    grind (arith, ints, sides_passed)

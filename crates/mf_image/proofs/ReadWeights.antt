@@ -1,6 +1,6 @@
 -- The weights of pixels, gathered weight by weight.
 use Rattle.std.proofs.Common.{◌≡◌, ◌≢◌, ℕ, zero, suc, false, if◌then◌else◌, ℤ, pos, ◌+ℤ◌, ◌≤ℤ◌, ◌<ℤ◌, List, [], ◌∷◌, ◌++◌}
-use Rattle.std.proofs.Common.{inl, inr, refl, sym, ap, ◌∙◌, subst, arith}
+use Rattle.std.proofs.Common.{inl, inr, refl, sym, ◌∙◌, subst, arith}
 use Rattle.std.specs.List.{All, flat_map}
 use Rattle.std.specs.Ordering.{int_eq}
 use Rattle.std.proofs.lemmas.Bool.{cond_both, cond-true, cond-false, cases_Bool, false≢true}
@@ -8,7 +8,7 @@ use Rattle.std.proofs.lemmas.Bool.Decides.{Decides-and, Decides-int_eq}
 use Rattle.std.proofs.lemmas.Int.{ints}
 use Rattle.std.proofs.lemmas.List.Elements.{All-head, All-tail, All-cons, All-nil, All-weaker}
 use Rattle.mf_rows.specs.declared.run.Run.{Run}
-use Rattle.mf_rows.specs.Dots.{Dot, AreDotsFrom, IsDot, place, weight_at}
+use Rattle.mf_rows.specs.Dots.{Dot, AreDotsFrom, place, weight_at}
 use Rattle.mf_rows.specs.Runs.{equal_dots, dots_of}
 use Rattle.mf_rows.proofs.DotsLemmas.{IsAt, dots_from-after, dots_from-lawful, weight_at-here, weight_at-elsewhere}
 use Rattle.mf_image.specs.Svg.{weights_of}
@@ -31,8 +31,7 @@ dots_with-append w (d ∷ ds) es = grind (arith, ints, cond_both, dots_with-appe
 pub dots_with-same : (w y x : ℤ) (n : ℕ) → dots_with w (equal_dots y x w n) ≡ equal_dots y x w n
 unfolding dots_with equal_dots
 dots_with-same w y x zero = refl
-dots_with-same w y x (suc n) =
-    cond-true (int_eq w w) _ _ ((Decides-int_eq w w).1 refl) ∙ ap (λ others. record { y = y; x = x; weight = w } ∷ others) (dots_with-same w y (x +ℤ pos 1) n)
+dots_with-same w y x (suc n) = grind (arith, ints, cond-true, dots_with-same w y (x +ℤ pos 1) n)
 
 pub dots_with-other : (w v y x : ℤ) (n : ℕ) → int_eq v w ≡ false → dots_with w (equal_dots y x v n) ≡ []
 unfolding dots_with equal_dots
@@ -62,22 +61,10 @@ unfolding dots_with weight_at
 present w [] es x y nonzero weight = absurd (nonzero (sym weight))
 present w (d ∷ ds) es x y nonzero weight =
     at_or_not (weight_at (dots_with w (d ∷ ds) ++ es) x y ≡ w) d x y
-    (λ here.
-    let same : d.weight ≡ w = sym (weight_at-here d ds x y here) ∙ weight in
-    ap (λ all. weight_at (all ++ es) x y) (cond-true (int_eq d.weight w) (d ∷ dots_with w ds) (dots_with w ds) ((Decides-int_eq d.weight w).1 same))
-    ∙ weight_at-here d (dots_with w ds ++ es) x y here ∙ same)
-    (λ elsewhere.
-    let rest = present w ds es x y nonzero (sym (weight_at-elsewhere d ds x y elsewhere) ∙ weight) in
-    cond_both (int_eq d.weight w) (d ∷ dots_with w ds) (dots_with w ds) (λ all. weight_at (all ++ es) x y ≡ w)
-    (λ yes. weight_at-elsewhere d (dots_with w ds ++ es) x y elsewhere ∙ rest) (λ no. rest))
+    (grind (arith, ints, weight_at-here, cond-true))
+    (λ elsewhere. grind (arith, ints, weight_at-elsewhere, cond_both, present w ds es x y nonzero (sym (weight_at-elsewhere d ds x y elsewhere) ∙ weight)))
 
 -- ---- a picture
-
--- dots from a place on are not at a pixel before it
-none_before : (low : ℤ) (ds : List Dot) (x y : ℤ) → AreDotsFrom low ds → place x y <ℤ low → All (λ d. IsAt d x y → ⊥) ds
-none_before low ds x y dots below =
-    All-weaker (λ d. low ≤ℤ place d.x d.y) (λ d. IsAt d x y → ⊥)
-    (λ d start at. let same : place d.x d.y ≡ place x y = rw (at.column, at.row) refl in omega (arith, ints)) ds (dots_from-after low ds dots)
 
 -- no dot of a weight is at a pixel that has another weight, nor where the weight is 0
 none_of : (low w : ℤ) (ds : List Dot) (x y : ℤ) → AreDotsFrom low ds → weight_at ds x y ≢ w → All (λ d. d.weight ≡ w → IsAt d x y → ⊥) ds
@@ -88,14 +75,12 @@ none_of low w (d ∷ ds) x y dots other =
     let same : place d.x d.y ≡ place x y = rw (here.column, here.row) refl in
     All-cons (λ d. d.weight ≡ w → IsAt d x y → ⊥) d ds (λ weight _. other (weight_at-here d ds x y here ∙ weight))
     (All-weaker (λ d. IsAt d x y → ⊥) (λ d. d.weight ≡ w → IsAt d x y → ⊥) (λ e no _. no) ds
-    (none_before (place d.x d.y +ℤ pos 1) ds x y dots.2 (omega (arith, ints)))))
-    (λ elsewhere.
-    All-cons (λ d. d.weight ≡ w → IsAt d x y → ⊥) d ds (λ _ at. elsewhere at)
+    (grind (arith, ints, dots_from-after (place d.x d.y +ℤ pos 1) ds dots.2, dots.2))))
+    (λ elsewhere. All-cons (λ d. d.weight ≡ w → IsAt d x y → ⊥) d ds (λ _ at. elsewhere at)
     (none_of (place d.x d.y +ℤ pos 1) w ds x y dots.2 (λ same. other (weight_at-elsewhere d ds x y elsewhere ∙ same))))
 
 none_of_zero : (low : ℤ) (ds : List Dot) (x y : ℤ) → AreDotsFrom low ds → All (λ d. d.weight ≡ pos 0 → IsAt d x y → ⊥) ds
-none_of_zero low ds x y dots =
-    All-weaker IsDot (λ d. d.weight ≡ pos 0 → IsAt d x y → ⊥) (λ d lawful zero _. lawful.nonzero zero) ds (dots_from-lawful low ds dots)
+none_of_zero low ds x y dots = grind (arith, ints, dots_from-lawful low ds dots)
 
 -- a weight below all of those that are gathered is not found
 below : (low : ℤ) (ds : List Dot) (w : ℤ) (n : ℕ) (x y : ℤ) → AreDotsFrom low ds → weight_at ds x y <ℤ w → weight_at (gathered ds w n) x y ≡ pos 0

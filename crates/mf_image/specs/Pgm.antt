@@ -39,8 +39,7 @@ greatest_distinct_weight = pos 42
 abbrev pub pgm_head : Box4 → List ℕ
 pgm_head b =
     codes "P5\n# left " ++ signed_decimal b.min_x ++ codes " top " ++ signed_decimal b.max_y ++ codes "\n" ++ signed_decimal
-    (pos (extent b.min_x b.max_x)) ++ codes " "
-    ++ signed_decimal (pos (extent b.min_y b.max_y)) ++ codes "\n255\n"
+    (pos (extent b.min_x b.max_x)) ++ codes " " ++ signed_decimal (pos (extent b.min_y b.max_y)) ++ codes "\n255\n"
 
 -- the gray values of the pixels of a box
 abbrev pub box_bytes : List Dot → Box4 → List ℕ

@@ -17,12 +17,14 @@ pub fn pgm_has_each_pixel()
 {}
 
 /// The gray value of a weight in -54..=42 gives the weight back.
+#[tactic(auto, using(crate::proofs::GrayValues::read_back))]
 pub fn gray_values_are_read_back()
     ensures { (w : ℤ) → least_distinct_weight ≤ℤ w → w ≤ℤ greatest_distinct_weight → weight_of_gray_value (gray_value w) ≡ w }
 {}
 
 /// An image is read back: a reader of its text, which passes all lines but those that begin a path and those of rectangles, finds
 /// the weight of each pixel.
+#[tactic(auto, using(crate::proofs::ReadPaths::svg_read))]
 pub fn svg_is_read_back()
     ensures { (ds : List Dot) (x y : ℤ) → IsPicture ds → weight_at (read_svg (svg_text ds)) x y ≡ weight_at ds x y }
 {}

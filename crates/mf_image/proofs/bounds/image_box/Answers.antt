@@ -1,4 +1,4 @@
-use Rattle.std.proofs.Common.{refl, subst, sym, arith}
+use Rattle.std.proofs.Common.{refl, subst, arith}
 use Rattle.std.proofs.lemmas.Bool.{false≢true}
 use Rattle.mf_show.specs.Grid.{IsLargerThan}
 use Rattle.mf_rows.proofs.BoxesOfDots.{least_box_of_field}
@@ -6,6 +6,7 @@ use Rattle.mf_show.proofs.GridTexts.{neither}
 use Rattle.mf_image.specs.Boxes.{greatest_side}
 use Rattle.mf_image.proofs.ImageBoxes.{blank_is_small, box_of_blank, box_of_picture}
 use Rattle.mf_image.proofs.bounds.image_box.Goals as goal
+use Rattle.std.proofs.lemmas.Int.{ints}
 
 pub returns-in_default : goal.returns-in_default
 returns-in_default c = grind (arith, box_of_blank, neither, blank_is_small)
@@ -21,7 +22,4 @@ returns-then-is_larger_than-clause-too_large c =
 pub returns : goal.returns
 returns c =
     let box = box_of_picture _ _ c.bounds.ensures.lawful c.in-Some.ensures.least in
-    record {
-      bounds = box;
-      too_large = neither (λ large. false≢true (c.if-is_larger_than.ensures.1 (subst (IsLargerThan greatest_side) (sym box.is) large))) (λ same. cc same);
-    }
+    grind (arith, ints, false≢true)

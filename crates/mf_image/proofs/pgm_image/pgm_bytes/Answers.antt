@@ -7,8 +7,7 @@ use Rattle.mf_image.proofs.pgm_image.pgm_bytes.Goals as goal
 
 pub loop-y-init : goal.loop-y-init
 loop-y-init c =
-    box_none _ _ _ c.requires.field (omega (arith, ints))
-    (c.in_ok-push_head.ensures ∙ ap (λ old. old ++ pgm_head c.args.bounds.now) c.new-bytes.ensures.items)
+    box_none _ _ _ c.requires.field (omega (arith, ints)) (c.in_ok-push_head.ensures ∙ ap (λ old. old ++ pgm_head c.args.bounds.now) c.new-bytes.ensures.items)
 
 pub loop-y-preserved : goal.loop-y-preserved
 loop-y-preserved c =

@@ -16,5 +16,4 @@ returns c =
     let width = signed _ (is_within b.min_x b.max_x c.requires.left c.requires.right c.requires.columns) in
     let height = signed _ (is_within b.min_y b.max_y c.requires.bottom c.requires.top c.requires.rows) in
     IfOk-equal _ _ _ _ c.push_number-4.ensures
-    (rw (c.in_ok-push_number-3.ensures, c.in_ok-push_number-2.ensures, c.in_ok-push_number.ensures)
-    (rw (c.in_ok-extend_from_slice.ensures.items, left, top, columns, rows, width, height) (simp append_assoc)))
+    (grind (arith, ints, append_assoc))

@@ -13,5 +13,4 @@ returns c =
     let top : to_z w32 (of_z w32 (pos 0 -ℤ to_z w32 (of_z w32 (to_z w32 (of_z w32 r.y) +ℤ pos 1)))) ≡ neg_ℤ (r.y +ℤ pos 1) = omega (arith, ints) in
     let width : to_z w32 r.len ≡ pos r.len = omega (arith, ints) in
     IfOk-equal _ _ _ _ c.push_number-4.ensures
-    (rw (c.in_ok-push_number-3.ensures, c.in_ok-push_number-2.ensures, c.in_ok-push_number.ensures, c.in_ok-extend_from_slice.ensures.items, first, top, width)
-    (simp append_assoc))
+    (grind (arith, ints, append_assoc))

@@ -1,10 +1,11 @@
 use Rattle.std.proofs.lemmas.List.{append_assoc}
 use Rattle.mf_image.specs.Svg.{image, svg_text}
 use Rattle.mf_image.proofs.svg_image.svg_text.Goals as goal
+use Rattle.std.proofs.Common.{arith}
+use Rattle.std.proofs.lemmas.Int.{ints}
 
 pub returns : goal.returns
 unfolding image svg_text
 returns c =
     rw (c.in_ok-extend_from_slice-3.ensures.items, c.in_ok-push_axes.ensures, c.in_ok-push_cover-2.ensures, c.in_ok-extend_from_slice-2.ensures.items)
-    (rw (c.in_ok-push_paths.ensures, c.in_ok-extend_from_slice.ensures.items, c.in_ok-push_cover.ensures, c.in_ok-push_opening.ensures)
-    (rw (c.new-text.ensures.items, c.round-view_box.ensures.value, c.requires.is) (simp append_assoc)))
+    (grind (arith, ints, append_assoc))

@@ -2,11 +2,12 @@ use Rattle.std.proofs.Common.{◌≡◌, to_z, of_z, w32, arith}
 use Rattle.std.specs.Int.{int_max, int_min}
 use Rattle.std.proofs.lemmas.Int.{clamps, ints}
 use Rattle.mf_show.proofs.WrittenRuns.{first_is_lawful}
-use Rattle.mf_image.proofs.PathTexts.{none_spanned, one_more_spanned, all_spanned}
+use Rattle.mf_image.proofs.PathTexts.{one_more_spanned, all_spanned}
 use Rattle.mf_image.proofs.svg_image.weights.Goals as goal
+use Rattle.mf_rows.proofs.PassedRuns.{runs_are_lawful}
 
 pub loop-run-init : goal.loop-run-init
-loop-run-init c = none_spanned _ _ c.runs-run-items.ensures.lawful (rw c.into_iter-run-iterator.ensures.into_iter_gives c.runs-run-items.ensures.runs)
+loop-run-init c = grind (arith, ints, runs_are_lawful, c.runs-run-items.ensures.lawful)
 
 pub loop-run-preserved : goal.loop-run-preserved
 loop-run-preserved c =

@@ -13,9 +13,7 @@ returns-clause-value c =
     let top : to_z w32 (of_z w32 (pos 0 -ℤ to_z w32 (of_z w32 (to_z w32 (of_z w32 b.max_y) +ℤ pos 2)))) ≡ neg_ℤ (b.max_y +ℤ pos 2) = omega (arith, ints) in
     let width : to_z w32 (of_z w32 (to_z w32 c.extent.result +ℤ pos 2)) ≡ pos (extent b.min_x b.max_x + 2) =
     rw columns (side _ (is_within b.min_x b.max_x c.requires.left c.requires.right c.requires.columns)) in
-    let height : to_z w32 (of_z w32 (to_z w32 c.extent-2.result +ℤ pos 2)) ≡ pos (extent b.min_y b.max_y + 2) =
-    rw rows (side _ (is_within b.min_y b.max_y c.requires.bottom c.requires.top c.requires.rows)) in
-    λ i. record { left = left i; top = top i; width = width i; height = height i }
+    grind (arith, ints, is_within b.min_y b.max_y c.requires.bottom c.requires.top c.requires.rows, side)
 
 pub returns-clause-small : goal.returns-clause-small
 returns-clause-small c = rw (returns-clause-value c) (small_box c.args.bounds.now c.requires)
