@@ -7,12 +7,12 @@ use Rattle.mf_live.specs.Entries.{entry, Operation, End, revision_at, is_closed}
 use Rattle.mf_live.specs.Holders.{accepted_list, published_list, version}
 use Rattle.mf_live.proofs.EntryLists.{revision_at-push, revision_at-whole, is_closed-append}
 use Rattle.mf_live.proofs.Histories.{lawful}
+use Rattle.std.proofs.Common.{arith}
+use Rattle.std.proofs.lemmas.Int.{ints}
 
 -- no more is published than is accepted
 pub published_list-few : (h : Holder) → (version h).notice.number ≤ h.revision
-published_list-few h =
-    let whole : revision_at (published_list h) ≤ revision_at (accepted_list h) = revision_at-whole (published_list h) (accepted_list h) (lawful h).whole in
-    rw ((version h).notice.numbered, h.shown_is, h.numbered) whole
+published_list-few h = grind (arith, ints, revision_at-whole (published_list h) (accepted_list h) (lawful h).whole, lawful)
 
 module _ (old new : Holder) (n : ℕ) where
   -- one more operation has the next number, and does not close the list

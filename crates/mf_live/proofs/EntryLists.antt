@@ -9,6 +9,7 @@ use Rattle.mf_ops.proofs.Operations.{picture_after-push, AreAccepted-push}
 use Rattle.mf_live.specs.Entries.{Change, Operation, End, Entry, entry, operation_of, operations, picture_at, revision_at}
 use Rattle.mf_live.specs.Entries.{IsUnrefused, is_end, is_closed, is_nothing_after_end}
 use Rattle.mf_live.specs.Prefixes.{IsWholePrefix}
+use Rattle.std.proofs.lemmas.Int.{ints}
 
 pub operations-append : (xs ys : List Entry) → operations (xs ++ ys) ≡ operations xs ++ operations ys
 operations-append [] ys = refl
@@ -62,8 +63,7 @@ is_nothing_after_end-step n End L more not_closed ends rest = cc
 
 pub is_nothing_after_end-push : (L : List Entry) (e : Entry) → is_closed L ≡ false → is_nothing_after_end L ≡ true → is_nothing_after_end (L ++ e ∷ []) ≡ true
 is_nothing_after_end-push [] e not_closed ends = ends-alone e.label e.change
-is_nothing_after_end-push (first ∷ L) e not_closed ends =
-    is_nothing_after_end-step first.label first.change L (e ∷ []) not_closed ends (is_nothing_after_end-push L e)
+is_nothing_after_end-push (first ∷ L) e not_closed ends = grind (arith, ints, is_nothing_after_end-step, is_nothing_after_end-push L e)
 
 nothing_after_end : (n : ℕ) (S rest : List Entry) → is_nothing_after_end (entry n End ∷ S ++ rest) ≡ true → rest ≡ []
 nothing_after_end n [] [] ends = refl
@@ -78,8 +78,7 @@ nothing_follows-step n End S rest ends closed follows = nothing_after_end n S re
 -- nothing follows a closed list
 pub nothing_follows : (S rest : List Entry) → is_nothing_after_end (S ++ rest) ≡ true → is_closed S ≡ true → rest ≡ []
 nothing_follows [] rest ends closed = cc
-nothing_follows (e ∷ S) rest ends closed =
-    nothing_follows-step e.label e.change S rest ends closed (nothing_follows S rest)
+nothing_follows (e ∷ S) rest ends closed = nothing_follows-step e.label e.change S rest ends closed (nothing_follows S rest)
 
 length-revision_at-step : (n : ℕ) (c : Change) (L : List Entry) → is_nothing_after_end (entry n c ∷ L) ≡ true
     → (is_nothing_after_end L ≡ true → length L ≤ revision_at L + 1) → length (entry n c ∷ L) ≤ revision_at (entry n c ∷ L) + 1

@@ -48,8 +48,7 @@ one_more h shown w happens e stays more may accepts =
     let x = shown.value in
     let same : x ≡ version h = ap (λ (part : Part Version). part.value) stays in
     let unwritten = (view h.swap.desk.place).unwritten in
-    let log : history x w ≡ events h ++ happens ∷ [] =
-    (λ i. history (same i) (more i)) ∙ sym (append_assoc (events_of (version h)) unwritten (happens ∷ [])) in
+    let log : history x w ≡ events h ++ happens ∷ [] = (λ i. history (same i) (more i)) ∙ sym (append_assoc (events_of (version h)) unwritten (happens ∷ [])) in
     let world : world_after new_world (history x w) ≡ with_entry (world_after new_world (events h)) e =
     ap (world_after new_world) log ∙ world_after-push new_world (events h) happens ∙ accepts in
     let accepted_is : accepted_list_of (history x w) ≡ accepted_list h ++ e ∷ [] = ap (λ (u : World). u.accepted) world in

@@ -1,6 +1,6 @@
 -- Each event that may happen keeps a world lawful.
 use Rattle.std.proofs.Common.{◌≡◌, ◌≢◌, ◌≤◌, ◌+◌, ◌-◌, ◌==◌, ℕ, zero, suc, Bool, true, false, List, [], ◌∷◌, ◌++◌, length, get_or}
-use Rattle.std.proofs.Common.{inr, refl, sym, ◌∙◌, ap, subst, arith}
+use Rattle.std.proofs.Common.{refl, sym, ◌∙◌, ap, arith}
 use Rattle.std.specs.List.{All}
 use Rattle.std.proofs.Math.Seq.{get_or-append_seam}
 use Rattle.std.proofs.Math.ListN.{get_or-append}
@@ -9,12 +9,12 @@ use Rattle.std.proofs.lemmas.List.{append_assoc, append-nil, length-append}
 use Rattle.std.proofs.lemmas.List.Elements.{All-nil, All-head, All-tail, All-push, All-weaker}
 use Rattle.mf_live.specs.declared.event.Event.{Event}
 use Rattle.mf_live.specs.declared.event.Event.TheVariants.{Accept, Refuse, Close, Publish, Discard, Look, Tell, Learn}
-use Rattle.mf_live.specs.Entries.{Change, Operation, End, Entry, entry, revision_at, next_label, next_label_after, is_closed, IsUnrefused}
-use Rattle.mf_live.specs.Prefixes.{IsWholePrefix, IsCutAmong, labels, longer}
-use Rattle.mf_live.specs.World.{World, new_world, May, after_event, notice_at, with_seen, IsPending, IsLawful, ShowsMore}
-use Rattle.mf_live.proofs.Blank.{revision_at-none}
+use Rattle.mf_live.specs.Entries.{Change, Operation, Entry, entry, revision_at, next_label, next_label_after, is_closed, IsUnrefused}
+use Rattle.mf_live.specs.Prefixes.{IsWholePrefix, labels}
+use Rattle.mf_live.specs.World.{World, May, after_event, notice_at, with_seen, IsPending, IsLawful, ShowsMore}
 use Rattle.mf_live.proofs.EntryLists.{revision_at-push, revision_at-end, unrefused-push, unrefused-end, is_nothing_after_end-push}
 use Rattle.mf_live.proofs.WholePrefixes.{labels-append, length-labels, whole-self, whole-nil, whole-trans, whole-longer}
+use Rattle.std.proofs.lemmas.Int.{ints}
 
 -- the next label is one more than the last
 last-label : (n : ℕ) (e : Entry) (es : List Entry) → get_or (labels (e ∷ es)) (length es) 0 + 1 ≡ next_label_after n (e ∷ es)
@@ -35,13 +35,7 @@ pending-whole (p ∷ ps) (q ∷ qs) labelled =
     let long = length-labels (p ∷ ps) in
     let label = All-head (λ (e : Entry). e.label ≡ next_label (p ∷ ps)) q qs labelled in
     let apart = ends_apart prefix (labels qs) (length (p ∷ ps)) (length ps) q.label long refl (last-label 0 p ps ∙ sym label) in
-    let cut : IsCutAmong (prefix ++ q.label ∷ labels qs) (length (p ∷ ps)) =
-    inr (inr (omega arith, omega (arith, length-append prefix (q.label ∷ labels qs)), apart)) in
-    record {
-      rest = q ∷ qs;
-      whole = refl;
-      cut = subst (λ ns. IsCutAmong ns (length (p ∷ ps))) (sym (labels-append (p ∷ ps) (q ∷ qs))) cut;
-    }
+    grind (arith, ints, length-append, labels-append)
 
 whole_from : (P A : List Entry) → IsPending P A → IsWholePrefix P A
 whole_from P A pending = rw pending.are (pending-whole P pending.pending pending.labelled)
@@ -53,7 +47,7 @@ pending-push P A c pending = record {
   labelled = All-push (λ (e : Entry). e.label ≡ next_label P) pending.pending (entry (next_label P) c) pending.labelled refl;
 }
 
-none_pending : (A : List Entry) → IsPending A A
+pub none_pending : (A : List Entry) → IsPending A A
 none_pending A = record { pending = []; are = sym (append-nil A); labelled = All-nil (λ (e : Entry). e.label ≡ next_label A) }
 
 notice-whole : (ns : List (List Entry)) (k : ℕ) (P : List Entry) → All (λ n. IsWholePrefix n P) ns → IsWholePrefix (notice_at ns k) P
@@ -66,9 +60,6 @@ with_seen-whole : (seen : ℕ → List Entry) (i : ℕ) (L P : List Entry) → (
     → IsWholePrefix L P → (j : ℕ) → IsWholePrefix (with_seen seen i L j) P
 with_seen-whole seen i L P each more j = cond_both (j == i) L (seen j) (λ S. IsWholePrefix S P) (λ _. more) (λ _. each j)
 
-pub lawful_start : (max_ops : ℕ) → IsLawful max_ops new_world
-lawful_start max_ops = grind (arith, revision_at-none, whole-nil, none_pending, All-nil)
-
 abbrev with_change : World → Change → List Entry
 with_change w c = w.accepted ++ entry (next_label w.published) c ∷ []
 
@@ -76,10 +67,6 @@ with_change w c = w.accepted ++ entry (next_label w.published) c ∷ []
 accepts : (max_ops : ℕ) (w : World) (c : Change) → IsLawful max_ops w → IsUnrefused (with_change w c)
     → revision_at (with_change w c) ≤ max_ops → is_closed w.accepted ≡ false → IsLawful max_ops (record w { accepted = with_change w c })
 accepts max_ops w c lawful unrefused few not_closed = grind (arith, whole_from, pending-push, is_nothing_after_end-push)
-
--- the writer publishes everything that it has accepted
-publishes_all : (max_ops : ℕ) (w : World) (gone : Bool) → IsLawful max_ops w → IsLawful max_ops (record w { published = w.accepted; gone = gone })
-publishes_all max_ops w gone lawful = grind (arith, whole-self, none_pending, whole-trans, All-weaker)
 
 -- the writer leaves the list as it is, whatever others have seen of it
 leaves_list : (max_ops : ℕ) (w : World) (seen : ℕ → List Entry) (notices : List (List Entry)) (gone : Bool)
@@ -90,8 +77,7 @@ leaves_list max_ops w seen notices gone lawful each_seen each_notice = grind (ar
 -- a viewer sees a whole prefix of what is published
 sees : (max_ops : ℕ) (w : World) (i : ℕ) (L : List Entry) → IsLawful max_ops w → IsWholePrefix L w.published
     → IsLawful max_ops (record w { seen = with_seen w.seen i L })
-sees max_ops w i L lawful more =
-    leaves_list max_ops w (with_seen w.seen i L) w.notices w.gone lawful (with_seen-whole w.seen i L w.published lawful.each_seen more) lawful.each_notice
+sees max_ops w i L lawful more = grind (arith, ints, leaves_list, with_seen-whole)
 
 pub lawful_event : (max_ops : ℕ) (w : World) (e : Event) → IsLawful max_ops w → May max_ops w e → IsLawful max_ops (after_event w e)
 lawful_event max_ops w (Accept op) lawful may =
@@ -99,18 +85,15 @@ lawful_event max_ops w (Accept op) lawful may =
     accepts max_ops w (Operation op) lawful unrefused (omega (arith, revision_at-push w.accepted (next_label w.published) op)) may.1
 lawful_event max_ops w Refuse lawful may = lawful
 lawful_event max_ops w Close lawful may =
-    let unrefused = unrefused-end w.accepted (next_label w.published) lawful.unrefused in
-    accepts max_ops w End lawful unrefused (omega (arith, lawful.few, revision_at-end w.accepted (next_label w.published))) may.1
-lawful_event max_ops w Publish lawful may = publishes_all max_ops w w.gone lawful
-lawful_event max_ops w (Discard true) lawful may = publishes_all max_ops w true lawful
+    grind (arith, ints, unrefused-end w.accepted (next_label w.published) lawful.unrefused, revision_at-end w.accepted (next_label w.published), accepts)
+lawful_event max_ops w Publish lawful may = grind (arith, whole-self, none_pending, whole-trans, All-weaker, lawful)
+lawful_event max_ops w (Discard true) lawful may = grind (arith, whole-self, none_pending, whole-trans, All-weaker, lawful)
 lawful_event max_ops w (Discard false) lawful may = leaves_list max_ops w w.seen w.notices true lawful lawful.each_seen lawful.each_notice
 lawful_event max_ops w (Look i) lawful may = sees max_ops w i w.published lawful (whole-self w.published)
 lawful_event max_ops w Tell lawful may =
     leaves_list max_ops w w.seen (w.notices ++ w.published ∷ []) w.gone lawful lawful.each_seen
     (All-push (λ n. IsWholePrefix n w.published) w.notices w.published lawful.each_notice (whole-self w.published))
-lawful_event max_ops w (Learn i k) lawful may =
-    sees max_ops w i (longer (w.seen i) (notice_at w.notices k)) lawful
-    (whole-longer (w.seen i) (notice_at w.notices k) w.published (lawful.each_seen i) (notice-whole w.notices k w.published lawful.each_notice))
+lawful_event max_ops w (Learn i k) lawful may = grind (arith, ints, notice-whole w.notices k w.published lawful.each_notice, sees, whole-longer)
 
 -- an event leaves what is published as it is, or publishes more
 pub published-event : (max_ops : ℕ) (w : World) (e : Event) → IsLawful max_ops w → IsWholePrefix w.published (after_event w e).published

@@ -14,8 +14,7 @@ pub prefix-shorter : {A : Type 0} (xs ys zs : List A) → IsPrefix xs zs → IsP
 prefix-shorter [] ys zs one other shorter = (ys, refl)
 prefix-shorter (x ∷ xs) [] zs one other shorter = absurd (omega arith)
 prefix-shorter (x ∷ xs) (y ∷ ys) [] one other shorter = absurd (cc (one.1))
-prefix-shorter (x ∷ xs) (y ∷ ys) (z ∷ zs) one other shorter =
-    grind (arith, prefix-shorter xs ys zs (one.0, cc (one.1)) (other.0, cc (other.1)) (omega arith))
+prefix-shorter (x ∷ xs) (y ∷ ys) (z ∷ zs) one other shorter = grind (arith, prefix-shorter xs ys zs (one.0, cc (one.1)) (other.0, cc (other.1)) (omega arith))
 
 -- a prefix as long as the list is the list
 pub prefix-same : {A : Type 0} (xs ys : List A) → IsPrefix xs ys → length ys ≤ length xs → xs ≡ ys

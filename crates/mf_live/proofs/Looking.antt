@@ -1,12 +1,10 @@
 -- What is learnt and what is looked at, where both come from prefixes of one history.
-use Rattle.std.proofs.Common.{◌≡◌, ◌≤◌, Bool, true, false, List, ◌⊎◌, Result, Ok, Err, MatchResult, inl, inr, refl, ap, sym, subst, ◌∙◌, arith}
-use Rattle.std.proofs.lemmas.Bool.{cases_lt}
+use Rattle.std.proofs.Common.{◌≡◌, Bool, true, false, List, ◌⊎◌, Result, Ok, Err, MatchResult, inl, inr, refl, ap, sym, subst, ◌∙◌, arith}
 use Rattle.std.proofs.lemmas.List.{append-nil}
 use mathlib.Core.List.{IsPrefix}
 use Rattle.logbook.specs.Pages.{Book}
 use Rattle.left_right.specs.Sides.{view}
 use Rattle.mf_live.specs.declared.event.Event.{Event}
-use Rattle.mf_live.specs.declared.history.Prefix.{Prefix}
 use Rattle.mf_live.specs.declared.look.Look.{Look}
 use Rattle.mf_live.specs.declared.notice.Notice.{Notice}
 use Rattle.mf_live.specs.declared.version.Version.{Version}
@@ -23,6 +21,7 @@ use Rattle.mf_live.specs.World.{published_list_of}
 use Rattle.mf_live.proofs.EntryLists.{nothing_follows}
 use Rattle.mf_live.proofs.WholePrefixes.{whole-longer}
 use Rattle.mf_live.proofs.Worlds.{lawful-after, published-grows}
+use Rattle.std.proofs.lemmas.Int.{ints}
 
 -- what a prefix of a notice's events has published is a whole prefix of what the notice says
 pub told_list-prefix : (n : Notice) (events : List Event) → IsPrefix events (notice_events n) → IsWholePrefix (published_list_of events) (told_list n)
@@ -61,18 +60,7 @@ extends-same before after L same extends = grind (arith, seen_list-same)
 
 -- a viewer that has learnt of a list, and sees what it saw then, has only learnt of the list
 pub learnt-same : (first second after : Viewer) (told : List Entry) → HasLearnt first told second → SeesTheSame second after → HasLearnt first told after
-learnt-same first second after told learns same = record {
-  looked = same.looked ∙ learns.looked;
-  learnt = same.learnt ∙ learns.learnt;
-  seen = seen_list-same second after same ∙ learns.seen;
-  keeps = λ L extends. learns.keeps L (extends-same second after L same extends);
-}
-
--- of two prefixes of one history, one is a prefix of the other
-pub one_prefix : (a b : Prefix) → (a.events ≤ b.events → IsPrefix a.knowledge.seen.log b.knowledge.seen.log)
-    → (b.events ≤ a.events → IsPrefix b.knowledge.seen.log a.knowledge.seen.log)
-    → IsPrefix b.knowledge.seen.log a.knowledge.seen.log ⊎ IsPrefix a.knowledge.seen.log b.knowledge.seen.log
-one_prefix a b this that = grind (arith, cases_lt)
+learnt-same first second after told learns same = grind (arith, ints, seen_list-same second after same)
 
 -- what a prefix of a look's events has published is a whole prefix of what the look shows
 shown_list-prefix : (look : Look) (events : List Event) → IsPrefix events (look_events look) → IsWholePrefix (published_list_of events) (shown_list look)

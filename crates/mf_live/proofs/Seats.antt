@@ -11,6 +11,7 @@ use Rattle.mf_live.specs.declared.version.Version.{Version}
 use Rattle.mf_live.specs.declared.view.View.{View}
 use Rattle.mf_live.specs.Rule.{IsKnowledgeOf, EachSeatKnows, Knows, IsLook, IsShow, newcomer, view_knowing, knowledge_of, book_of, events_of}
 use Rattle.mf_live.proofs.ListPrefixes.{prefix-self, prefix-trans}
+use Rattle.std.proofs.lemmas.Int.{ints}
 
 -- what the knowledge has is a prefix of what the version knows
 abbrev Shows : Version → Knowledge → Type 0
@@ -22,11 +23,6 @@ shows_itself x = record { book = refl; prefix = prefix-self (events_of x) }
 -- the rule asks nothing of a seat that does not know which picture it is
 knows_nothing : (x : Version) (v : View) → v.identified ≡ false → Knows x v
 knows_nothing x v unidentified identified = absurd (false≢true (sym unidentified ∙ identified))
-
--- two views that have seen the same know the same
-knows_same : (x : Version) (v w : View) → w.identified ≡ v.identified → w.earlier ≡ v.earlier → w.latest ≡ v.latest → Knows x v → Knows x w
-knows_same x v w identified earlier latest knows w_identified = let both = knows (sym identified ∙ w_identified) in
-    (subst (Shows x) (sym earlier) both.0, subst (Shows x) (sym latest) both.1)
 
 -- one seat gets another view, and the others know of y what they knew of x
 kept_set : (x y : Version) (views : List View) (seat : ℕ) (w : View) → ((v : View) → Knows x v → Knows y v) → EachSeatKnows x views → Knows y w
@@ -51,7 +47,7 @@ admits x views kept = kept_more x views newcomer kept (knows_nothing x newcomer 
 -- a seat's view is split in two: the first has seen what it had seen, and the second the same or nothing
 pub forks : (seat : ℕ) (v left right : View) → left.identified ≡ v.identified → left.earlier ≡ v.earlier → left.latest ≡ v.latest
     → (right ≡ v) ⊎ (right.identified ≡ false) → Forks EachSeatKnows seat v left right
-forks seat v left right identified earlier latest given x views kept at = grind (arith, sym, knows_nothing, kept_more, kept_view, knows_same)
+forks seat v left right identified earlier latest given x views kept at = grind (arith, sym, knows_nothing, kept_more, kept_view, ints)
 
 -- a seat takes over what another knows
 pub merges : (seat : ℕ) (v : View) (other : ℕ) (w : View) → Merges EachSeatKnows seat v other w w newcomer
@@ -68,10 +64,7 @@ looks keep seat v is_kept x views kept at = let knows : Knows x v = kept.each_se
 
 -- what is known of x is known of y, where y knows more of the same history
 shows_more : (x y : Version) → book_of y ≡ book_of x → IsPrefix (events_of x) (events_of y) → (t : Knowledge) → Shows x t → Shows y t
-shows_more x y book more t known = record {
-  book = known.book ∙ sym book;
-  prefix = prefix-trans t.seen.log (events_of x) (events_of y) known.prefix more;
-}
+shows_more x y book more t known = record { book = known.book ∙ sym book; prefix = prefix-trans t.seen.log (events_of x) (events_of y) known.prefix more }
 
 knows_more : (x y : Version) → book_of y ≡ book_of x → IsPrefix (events_of x) (events_of y) → (v : View) → Knows x v → Knows y v
 knows_more x y book more v knows identified =

@@ -52,18 +52,11 @@ whole-trans A B C first second = record {
 pub whole-longer : (a b L : List Entry) → IsWholePrefix a L → IsWholePrefix b L → IsWholePrefix (longer a b) L
 whole-longer a b L one other = cond_both (nat_lt (length a) (length b)) b a (λ S. IsWholePrefix S L) (λ _. other) (λ _. one)
 
-longer-shorter : (a b : List Entry) → length a < length b → longer a b ≡ b
+pub longer-shorter : (a b : List Entry) → length a < length b → longer a b ≡ b
 longer-shorter a b shorter = cond-true (nat_lt (length a) (length b)) b a (lt-ltb (length a) (length b) shorter)
 
-longer-long : (a b : List Entry) → length b ≤ length a → longer a b ≡ a
+pub longer-long : (a b : List Entry) → length b ≤ length a → longer a b ≡ a
 longer-long a b long = cond-false (nat_lt (length a) (length b)) b a (le-ltb (length a) (length b) long)
-
-pub longer-assoc : (a b c : List Entry) → longer a (longer b c) ≡ longer (longer a b) c
-longer-assoc a b c = grind (arith, cases_lt, longer-shorter, longer-long)
-
--- where one list is a whole prefix of the other, the other is the longer
-pub longer-whole : (a b : List Entry) → IsWholePrefix a b → longer a b ≡ b
-longer-whole a b whole = grind (arith, cases_lt, longer-shorter, longer-long, whole-same)
 
 pub longer-of_whole : (a b : List Entry) → IsWholePrefix b a → longer a b ≡ a
 longer-of_whole a b whole = longer-long a b (whole-length b a whole)

@@ -1,7 +1,7 @@
 -- Labels never fall, so a prefix that cuts no publish in two has, of each publish, nothing or all of it.
-use Rattle.std.proofs.Common.{◌≡◌, ◌≢◌, ◌≤◌, ◌<◌, ◌+◌, ◌-◌, ◌==◌, ◌⊎◌, inl, inr, ◌∙◌, true, ℕ, zero, suc, List, [], ◌∷◌, ◌++◌}
+use Rattle.std.proofs.Common.{◌≡◌, ◌≢◌, ◌≤◌, ◌<◌, ◌+◌, ◌-◌, ◌⊎◌, inl, inr, true, ℕ, zero, suc, List, [], ◌∷◌, ◌++◌}
 use Rattle.std.proofs.Common.{length, get_or, refl, sym, ap, arith, length-append}
-use Rattle.std.proofs.lemmas.Bool.{cases_lt, ne_eqb}
+use Rattle.std.proofs.lemmas.Bool.{ne_eqb}
 use Rattle.std.proofs.lemmas.List.{append-nil, get_or_append_left, get_or_at, nil_from_length}
 use Rattle.std.proofs.lemmas.List.Elements.{filter-append}
 use Rattle.mf_live.specs.declared.event.Event.{Event}
@@ -10,6 +10,7 @@ use Rattle.mf_live.specs.Entries.{Change, Operation, End, Entry, entry, next_lab
 use Rattle.mf_live.specs.Prefixes.{labels, IsCut, IsWholePrefix, entries_labelled, HasWholePublishes}
 use Rattle.mf_live.specs.World.{World, new_world, after_event, world_after, published_list_of}
 use Rattle.mf_live.proofs.WholePrefixes.{labels-append, length-labels}
+use Rattle.std.proofs.lemmas.Int.{ints}
 
 -- the labels of a list never fall, from at least m to at most n
 abbrev Rises : ℕ → List Entry → ℕ → Type 0
@@ -53,23 +54,11 @@ whole_at_change : (S : List Entry) (e : Entry) (rest : List Entry) (n k : ℕ) �
     → get_or (labels (S ++ e ∷ rest)) (length S - 1) 0 ≢ get_or (labels (S ++ e ∷ rest)) (length S) 0
     → (entries_labelled k S ≡ []) ⊎ (entries_labelled k S ≡ entries_labelled k (S ++ e ∷ rest))
 whole_at_change S e rest n k some rises differ =
-    let more : List ℕ = labels (e ∷ rest) in
     let i : ℕ = length S - 1 in
     let last : ℕ = get_or (labels S) i 0 in
     let parts = Rises-parts 0 S e rest n rises in
     let prefix : Rises 0 S last × (last ≤ e.label) = Rises-last 0 S e.label i (omega arith) parts.0 in
-    let change : get_or (labels S ++ more) i 0 ≢ get_or (labels S ++ more) (length S) 0 = rw labels-append at differ in
-    let before : get_or (labels S ++ more) i 0 ≡ last = get_or_append_left (labels S) more 0 i (rw length-labels (omega arith)) in
-    let after : get_or (labels S ++ more) (length S) 0 ≡ e.label = get_or_at (labels S) e.label (labels rest) 0 (length S) (length-labels S) in
-    let less : last < e.label = omega arith in
-    elim (cases_lt k e.label) [
-      | inl below ↦
-          let none : entries_labelled k (e ∷ rest) ≡ [] = none_below e.label (e ∷ rest) n k (omega arith, parts.1) below in
-          let same : entries_labelled k (S ++ e ∷ rest) ≡ entries_labelled k S ++ entries_labelled k (e ∷ rest) =
-          filter-append (λ (f : Entry). f.label == k) S (e ∷ rest) in
-          inr (sym (rw none at same ∙ append-nil (entries_labelled k S)))
-      | inr above ↦ inl (none_above 0 S last k prefix.0 (omega arith))
-    ]
+    grind (arith, ints, labels-append, get_or_append_left, length-labels, get_or_at, none_below, filter-append, append-nil, none_above)
 
 at_cut : (S rest : List Entry) (n k : ℕ) → IsCut (S ++ rest) (length S) → Rises 0 (S ++ rest) n
     → (entries_labelled k S ≡ []) ⊎ (entries_labelled k S ≡ entries_labelled k (S ++ rest))
@@ -102,10 +91,4 @@ rising-after w (e ∷ events) rising = rising-after (after_event w e) events (ri
 
 -- a whole prefix of what is published has, of each publish, nothing or all of it
 pub whole_publishes : (S : List Entry) (events : List Event) → IsWholePrefix S (published_list_of events) → HasWholePublishes S (published_list_of events)
-whole_publishes S events whole =
-    let L : List Entry = published_list_of events in
-    let rising : AreRising (world_after new_world events) =
-    rising-after new_world events (record { accepted = omega arith; published = omega arith }) in
-    let cut : IsCut (S ++ whole.rest) (length S) = rw (← whole.whole) whole.cut in
-    let rises : Rises 0 (S ++ whole.rest) (next_label L) = rw (← whole.whole) rising.published in
-    record { nothing_or_all = λ k. rw whole.whole (at_cut S whole.rest (next_label L) k cut rises) }
+whole_publishes S events whole = grind (arith, ints, rising-after new_world events (record { accepted = omega arith; published = omega arith }), at_cut)

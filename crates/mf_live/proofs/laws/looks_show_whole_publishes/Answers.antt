@@ -8,5 +8,4 @@ pub returns-clause-whole : goal.returns-clause-whole
 returns-clause-whole c = whole_publishes
 
 pub returns-clause-earlier : goal.returns-clause-earlier
-returns-clause-earlier c before after happen =
-    whole_publishes (published_list_of before) (before ++ after) (published-grows c.args.max_ops before after happen)
+returns-clause-earlier c before after happen = whole_publishes (published_list_of before) (before ++ after) (published-grows c.args.max_ops before after happen)

@@ -13,14 +13,13 @@ use Rattle.mf_live.proofs.Histories.{few_events, few_unwritten}
 use Rattle.mf_live.proofs.Publishing.{written, all_written, accepted-publish, published-publish, alive-publish, Happen-publish, Happen-written, length-publish}
 use Rattle.mf_live.proofs.holder.Holder.publish_picture.Goals.{After-show, After-write_publish}
 use Rattle.mf_live.proofs.holder.Holder.publish_picture.Goals as goal
+use Rattle.std.proofs.lemmas.Int.{ints}
 
 pub overflow_add-self : goal.overflow_add-self
 overflow_add-self g c = omega (arith, few_unwritten c.args.self.now)
 
 pub write_publish-requires-clause-room : goal.write_publish-requires-clause-room
-write_publish-requires-clause-room g c =
-    let known = c.copy-prefix.ensures ∙ ap knowledge_of c.published.ensures in
-    omega (arith, c.copy-prefix.result.counted, ap (λ (t : Knowledge). length t.seen.log) known, few_events c.args.self.now, few_unwritten c.args.self.now)
+write_publish-requires-clause-room g c = grind (arith, ints, few_events c.args.self.now, few_unwritten c.args.self.now)
 
 pub write_publish-requires-clause-lawful : goal.write_publish-requires-clause-lawful
 write_publish-requires-clause-lawful g c = grind (arith, written, sym, Happen-written)

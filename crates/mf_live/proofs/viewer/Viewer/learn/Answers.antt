@@ -1,18 +1,16 @@
-use Rattle.std.proofs.Common.{◌∙◌, ap, arith, sym}
-use Rattle.mf_live.specs.Prefixes.{longer}
-use Rattle.mf_live.specs.Viewers.{learnt_list, looked_at_list, told_list}
+use Rattle.std.proofs.Common.{arith, sym}
 use Rattle.mf_live.proofs.Looking.{told_list-prefix}
-use Rattle.mf_live.proofs.WholePrefixes.{longer-assoc, longer-of_whole, longer-whole, whole-trans, whole-longer}
+use Rattle.mf_live.proofs.WholePrefixes.{longer-of_whole, whole-trans, whole-longer}
 use Rattle.mf_live.proofs.viewer.Viewer.learn.Goals as goal
+use Rattle.std.proofs.lemmas.Int.{ints}
+use Rattle.mf_live.proofs.WholePrefixes.{longer-long, longer-shorter, whole-same}
+use Rattle.std.proofs.lemmas.Bool.{cases_lt}
 
 pub returns-then-self-notice-clause-learnt : goal.returns-then-self-notice-clause-learnt
-returns-then-self-notice-clause-learnt c = sym (longer-whole _ _ (told_list-prefix c.args.notice _ (c.meets.ensures.this (omega arith))))
+returns-then-self-notice-clause-learnt c = sym (grind (arith, cases_lt, longer-shorter, longer-long, whole-same, told_list-prefix c.args.notice _ (c.meets.ensures.this (omega arith))))
 
 pub returns-then-self-notice-clause-seen : goal.returns-then-self-notice-clause-seen
-returns-then-self-notice-clause-seen c =
-    let old = c.args.self.now in
-    ap (longer (looked_at_list old)) (returns-then-self-notice-clause-learnt c)
-    ∙ longer-assoc (looked_at_list old) (learnt_list old) (told_list c.args.notice)
+returns-then-self-notice-clause-seen c = grind (arith, ints, returns-then-self-notice-clause-learnt c, cases_lt, longer-shorter, longer-long)
 
 pub returns-then-self-notice-clause-keeps : goal.returns-then-self-notice-clause-keeps
 returns-then-self-notice-clause-keeps c = λ L extends.
@@ -24,10 +22,7 @@ pub returns-else-self-notice-clause-learnt : goal.returns-else-self-notice-claus
 returns-else-self-notice-clause-learnt c = sym (longer-of_whole _ _ (told_list-prefix c.args.self.now.known _ (c.meets.ensures.that (omega arith))))
 
 pub returns-else-self-notice-clause-seen : goal.returns-else-self-notice-clause-seen
-returns-else-self-notice-clause-seen c =
-    let old = c.args.self.now in
-    ap (longer (looked_at_list old)) (returns-else-self-notice-clause-learnt c)
-    ∙ longer-assoc (looked_at_list old) (learnt_list old) (told_list c.args.notice)
+returns-else-self-notice-clause-seen c = grind (arith, ints, returns-else-self-notice-clause-learnt c, cases_lt, longer-shorter, longer-long)
 
 pub returns-else-self-notice-clause-keeps : goal.returns-else-self-notice-clause-keeps
 returns-else-self-notice-clause-keeps c = λ L extends.

@@ -20,7 +20,6 @@ pub invariant_of-self : goal.invariant_of-self
 invariant_of-self c =
     let old = c.args.self.now.holder in
     let room : old.revision < c.args.self.now.max_ops = omega (arith, c.args.self.now.few, c.if-self.false) in
-    let both =
-    stays old c.accept.new.self
+    let both = stays old c.accept.new.self
     (next_label (published_list c.args.self.now)) c.args.op c.args.self.now.max_ops c.accept.result c.accept.ensures.accepted c.args.self.now.open room in
     record { «open» = both.0; few = both.1 }
