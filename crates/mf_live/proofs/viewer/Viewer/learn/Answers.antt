@@ -7,7 +7,8 @@ use Rattle.mf_live.proofs.WholePrefixes.{longer-long, longer-shorter, whole-same
 use Rattle.std.proofs.lemmas.Bool.{cases_lt}
 
 pub returns-then-self-notice-clause-learnt : goal.returns-then-self-notice-clause-learnt
-returns-then-self-notice-clause-learnt c = sym (grind (arith, cases_lt, longer-shorter, longer-long, whole-same, told_list-prefix c.args.notice _ (c.meets.ensures.this (omega arith))))
+returns-then-self-notice-clause-learnt c =
+    sym (grind (arith, cases_lt, longer-shorter, longer-long, whole-same, told_list-prefix c.args.notice _ (c.meets.ensures.this (omega arith))))
 
 pub returns-then-self-notice-clause-seen : goal.returns-then-self-notice-clause-seen
 returns-then-self-notice-clause-seen c = grind (arith, ints, returns-then-self-notice-clause-learnt c, cases_lt, longer-shorter, longer-long)
