@@ -8,7 +8,7 @@ use Rattle.std.proofs.lemmas.List.Elements.{All-cons, All-head, All-nil, All-tai
 use Rattle.mf_text.specs.Limits.{percent_sign}
 use Rattle.mf_text.specs.Token as token
 use Rattle.mf_text.specs.Tokens.{SizedToken, first_token, token_at, tokens_from, tokens_within, is_blank, PlacedToken, Token}
-use Rattle.mf_text.specs.TokenTexts.{AreTokens, IsEnd, IsTokenText, OtherByte}
+use Rattle.mf_text.specs.TokenTexts.{AreTokens, IsEnd, IsTokenText}
 use Rattle.mf_text.proofs.LineTokens.{rest_shorter, tokens-step, tokens_at_comment}
 use Rattle.mf_text.proofs.TokenTexts.{BeginsToken, Front, Other, Text, begins, front, text_first}
 
@@ -68,15 +68,7 @@ first-token : (column b : ℕ) (bs : List ℕ) (ps : List PlacedToken) → is_bl
     → AreTokens column (b ∷ bs) (token_at column (first_token (b ∷ bs)) ∷ ps)
 first-token column b bs ps blank comment (Text t text rest parts is) = one-token column (b ∷ bs) ps t text rest parts is
 first-token column b bs ps blank comment (Other no_letter no_digit none) =
-    one-token column (b ∷ bs) ps token.Unknown (b ∷ []) bs refl (OtherByte (record {
-      byte = b;
-      one = refl;
-      no_letter = no_letter;
-      no_digit = no_digit;
-      no_blank = blank;
-      no_comment = λ same. false≢true (sym comment ∙ ap (λ n. eqb n percent_sign) same);
-      no_mark = none;
-    }) refl)
+    one-token column (b ∷ bs) ps token.Unknown (b ∷ []) bs refl (grind (arith, ints, false≢true))
 
 cut-within : (n column : ℕ) (bs : List ℕ) → length bs ≤ n → AreTokens column bs (tokens_within n column bs)
 unfolding tokens_within
@@ -109,17 +101,13 @@ one_passed : (p : PlacedToken) (text rest : List ℕ) → IsTokenText p.token te
     → tokens_from p.column (text ++ rest) ≡ p ∷ tokens_from p.after rest
 one_passed p [] rest is begun after = absurd (omega (arith, begun.some))
 one_passed p (b ∷ bs) rest is begun after =
-    tokens-step p.column b (bs ++ rest) begun.clear begun.no_comment
-    ∙ rw (text_first p.token (b ∷ bs) rest is, drop-append_seam (b ∷ bs) rest, sym after) refl
+    tokens-step p.column b (bs ++ rest) begun.clear begun.no_comment ∙ rw (text_first p.token (b ∷ bs) rest is, drop-append_seam (b ∷ bs) rest, sym after) refl
 
 -- bytes are cut into these tokens alone
 pub one_cut : (column : ℕ) (bs : List ℕ) (ps : List PlacedToken) → AreTokens column bs ps → ps ≡ tokens_from column bs
-one_cut column bs [] end =
-    sym (ap (tokens_from column) end.parts ∙ blanks_passed column end.blanks end.rest end.blank ∙ none_left (column + length end.blanks) end.rest end.end)
+one_cut column bs [] end = grind (arith, ints, blanks_passed, none_left)
 one_cut column bs (p ∷ ps) (cut, later) =
     let xs : List ℕ = cut.text ++ cut.rest in
     ap (λ (qs : List PlacedToken). p ∷ qs) (one_cut p.after cut.rest ps later)
-    ∙ sym (one_passed p cut.text cut.rest cut.token (begins p.token cut.text cut.rest cut.token) cut.after_is)
-    ∙ ap (λ n. tokens_from n xs) cut.column_is
-    ∙ sym (blanks_passed column cut.blanks xs cut.blank)
-    ∙ sym (ap (tokens_from column) cut.parts)
+    ∙ sym (one_passed p cut.text cut.rest cut.token (begins p.token cut.text cut.rest cut.token) cut.after_is) ∙ ap (λ n. tokens_from n xs) cut.column_is
+    ∙ sym (blanks_passed column cut.blanks xs cut.blank) ∙ sym (ap (tokens_from column) cut.parts)

@@ -1,17 +1,16 @@
 -- Rows of at most nine digits, and their numbers.
-use Rattle.std.proofs.Common.{◌≡◌, ◌≢◌, inl, inr, ℕ, ◌+◌, ◌-◌, ◌*◌, ◌^◌, ◌<◌, ◌≤◌, true, false, nat_lt}
+use Rattle.std.proofs.Common.{◌≡◌, ◌≢◌, ℕ, ◌+◌, ◌-◌, ◌*◌, ◌^◌, ◌<◌, ◌≤◌, true, false, nat_lt}
 use Rattle.std.proofs.Common.{if◌then◌else◌, None, Some, List, length, get_or, take, sym, subst, arith}
 use Rattle.std.proofs.lemmas.Int.{ints}
 use Rattle.std.specs.Char.{digit_value, is_ascii_digit}
 use Rattle.std.specs.List.{prefix_len, take_while}
 use Rattle.std.specs.Str.Parse.{AllDigits, digits_value}
-use Rattle.std.proofs.Math.Nat.{eq-or-lt_of_le}
 use Rattle.std.proofs.lemmas.Bool.{cond_both, le-leb, ltb-false, ltb-true}
 use Rattle.std.proofs.lemmas.Bool.Decides.{nat_tests}
 use Rattle.std.proofs.lemmas.Int.Digits.{digits_more, digits_value_more}
 use Rattle.std.proofs.lemmas.List.{length-take-le}
 use Rattle.std.proofs.lemmas.List.Folds.{length-prefix_len}
-use Rattle.std.proofs.lemmas.List.Sums.{prefix_len-le-length, prefix_len_passes, prefix_len_stops}
+use Rattle.std.proofs.lemmas.List.Sums.{prefix_len-le-length, prefix_len_stops}
 use Rattle.std.proofs.lemmas.Str.{digit_value_digit}
 use Rattle.std.proofs.lemmas.Str.Parse.{numerals_by_value, tells_digits, digits_value_short, digit_from_value}
 use Rattle.mf_text.specs.Limits.{most_digits}
@@ -36,15 +35,7 @@ digit_goes_on : (text : List ℕ) (i : ℕ) → i ≤ prefix_len is_ascii_digit 
 digit_goes_on text i in_prefix inside digit =
     let stops : i ≡ prefix_len is_ascii_digit text → is_ascii_digit (get_or text i 0) ≡ false =
     λ ends. subst (λ n. is_ascii_digit (get_or text n 0) ≡ false) (sym ends) (prefix_len_stops is_ascii_digit text 0 (omega (arith, ends, inside))) in
-    elim (eq-or-lt_of_le in_prefix) [
-      | inl ends ↦ absurd (let no = stops ends in cc)
-      | inr goes_on ↦ goes_on
-    ]
-
--- a byte at i that is not a digit ends the digits before it
-pub digits_end : (text : List ℕ) (i : ℕ) → i ≤ prefix_len is_ascii_digit text → is_ascii_digit (get_or text i 0) ≡ false
-    → i ≡ prefix_len is_ascii_digit text
-digits_end text i in_prefix other = grind (arith, ints, eq-or-lt_of_le, prefix_len_passes)
+    grind (arith, ints)
 
 -- one more digit, which is not the tenth
 pub record HasNextDigit (text : List ℕ) (i value : ℕ) : Type 0 where
@@ -65,12 +56,7 @@ number-more text i value to inside digit not_last =
     record {
       digit = ranged.0;
       fits = omega (arith, value_is, digits_value_short (numerals_by_value (AllDigits 10) tells_digits) (take (i + 1) text) most_digits longer few);
-      more = record {
-        few = omega (arith, to.few, not_last);
-        in_prefix = omega (arith, digit_goes_on text i to.in_prefix inside digit);
-        digits = longer;
-        value_is = value_is;
-      };
+      more = grind (arith, ints, digit_goes_on);
     }
 
 number-ends : (text : List ℕ) (i value : ℕ) → IsNumberTo text i value → i ≡ prefix_len is_ascii_digit text
@@ -90,5 +76,4 @@ number-found text i value to ends =
 -- with a tenth digit there is no number
 pub number-long : (text : List ℕ) (i value : ℕ) → IsNumberTo text i value → i ≡ most_digits → i < length text
     → is_ascii_digit (get_or text i 0) ≡ true → value_in (first_token text).token ≡ None
-number-long text i value to last inside digit =
-    number_lacking text (λ some few. omega (arith, few, last, digit_goes_on text i to.in_prefix inside digit))
+number-long text i value to last inside digit = number_lacking text (λ some few. omega (arith, few, last, digit_goes_on text i to.in_prefix inside digit))

@@ -73,8 +73,7 @@ small_lacking bs never = letter_lacking bs (λ n is. never is.some is.least is.g
 
 pub letters_longer : (bs : List ℕ) → 1 ≤ length bs → first_is is_ascii_alphabetic (take (length bs - 1) (drop 1 bs)) ≡ true
     → letter_in (first_token bs).token ≡ None
-letters_longer bs some longer =
-    letter_lacking bs (λ n is. false≢true (sym is.longest ∙ ap (first_is is_ascii_alphabetic) (sym (take_rest bs 1)) ∙ longer))
+letters_longer bs some longer = letter_lacking bs (λ n is. false≢true (sym is.longest ∙ ap (first_is is_ascii_alphabetic) (sym (take_rest bs 1)) ∙ longer))
 
 pub letter_found : (bs : List ℕ) → 1 ≤ length bs → letter_a ≤ get_or bs 0 0 → get_or bs 0 0 ≤ letter_z
     → first_is is_ascii_alphabetic (take (length bs - 1) (drop 1 bs)) ≡ false

@@ -25,9 +25,7 @@ pub read_is_line : (ts : List Token) (l : Line) → reads (Some line) ts ≡ Som
 read_is_line ts l is = sym (spelled ts [] line l spells_line is)
 
 pub line_is_read : (ts : List Token) (l : Line) → ts ≡ spell_line l → reads (Some line) ts ≡ Some l
-line_is_read ts l is =
-    let some = line_to l in
-    ap (reads (Some line)) (is ∙ spelled some.tokens [] line l spells_line some.read) ∙ some.read
+line_is_read ts l is = let some = line_to l in ap (reads (Some line)) (is ∙ spelled some.tokens [] line l spells_line some.read) ∙ some.read
 
 -- a list of tokens is at most one line
 pub same_line : (l m : Line) → spell_line l ≡ spell_line m → l ≡ m
@@ -87,8 +85,7 @@ at_token r past t ps column None is wrong after_it = grind (arith, ints, rest_en
 at_token r past t ps column (Some s) is wrong after_it = let stops = after_it s wrong in record {
   place = suc stops.place;
   at = later r t.token (without_columns ps) stops.place (subst (λ q. Wrong q (without_columns ps) stops.place) (sym is) stops.at);
-  column_is = stops.column_is
-      ∙ ap (λ q. reported (is_code_number_at q (without_columns ps) stops.place) (ahead_after stops.place ps t.after)) (sym is);
+  column_is = stops.column_is ∙ ap (λ q. reported (is_code_number_at q (without_columns ps) stops.place) (ahead_after stops.place ps t.after)) (sym is);
 }
 
 stops : (r : Rest) (past : ℕ) (ps : List PlacedToken) (column : ℕ) → follow (Ok r) past ps ≡ Err column → Stops r past ps column

@@ -62,17 +62,12 @@ starts-sooner ts j k below begun =
 
 -- tokens do not go wrong at two places
 not_before : (ts : List Token) (j k : ℕ) → IsWrongAt ts j → IsWrongAt ts k → j < k → ⊥
-not_before ts j k p q before =
-    let within = q.within in
-    p.wrong (omega arith) (starts-sooner ts (suc j) k (omega arith) q.starts)
-
-one_place : (ts : List Token) (j k : ℕ) → IsWrongAt ts j → IsWrongAt ts k → j ≡ k
-one_place ts j k p q = grind (arith, ints, cases_order, not_before)
+not_before ts j k p q before = let within = q.within in p.wrong (omega arith) (starts-sooner ts (suc j) k (omega arith) q.starts)
 
 one_column : (ahead : Ahead) (one other : ℕ) → IsSyntaxFault ahead one → IsSyntaxFault ahead other → one ≡ other
 one_column ahead one other p q =
     let ts = without_columns ahead.tokens in
-    p.column_is ∙ ap (λ k. token_column ahead (report_place ts k)) (one_place ts p.place q.place p.at q.at) ∙ sym q.column_is
+    p.column_is ∙ ap (λ k. token_column ahead (report_place ts k)) (grind (arith, ints, cases_order, not_before, p.at, q.at)) ∙ sym q.column_is
 
 pub wrong_is_no_line : (ahead : Ahead) (column : ℕ) → IsSyntaxFault ahead column → IsLine (without_columns ahead.tokens) → ⊥
 wrong_is_no_line ahead column wrong line = not_wrong (without_columns ahead.tokens) wrong.place wrong.at line where
@@ -141,8 +136,7 @@ given-cause : (bytes : List ℕ) (given : Command) (fault : TextFault) → Gives
 given-cause bytes given fault p (TooLong _ long) = omega (arith, long, p.line_is.text.short)
 given-cause bytes given fault p (NoText _ _ bad) = text_is_text bytes p.line_is.text bad
 given-cause bytes given fault p (NoLine column _ _ wrong) = no_line-line bytes column p.line wrong p.line_is
-given-cause bytes given fault p (BadValues q) =
-    not_both (meaning q.line.form) given fault (same_form bytes (λ form. Means (meaning form) given) _ p q) q.so
+given-cause bytes given fault p (BadValues q) = not_both (meaning q.line.form) given fault (same_form bytes (λ form. Means (meaning form) given) _ p q) q.so
 
 pub given_or_refused : (bytes : List ℕ) (given : Command) (fault : TextFault) → fault ≢ faults.OutOfMemory → Gives bytes given → IsRefused bytes fault
     → ⊥

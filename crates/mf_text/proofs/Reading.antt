@@ -28,10 +28,6 @@ at_first : {A : Type 0} (f : Token → Option A) (a : A) (P : List PlacedToken �
 at_first f a P there [] after is = absurd (none-some (a, after) is)
 at_first {A} f a P there (p ∷ ps) after is = grind (arith, ints, none-some, same_Some)
 
--- where no value is taken, the first token has none
-lacks : {A : Type 0} (f : Token → Option A) (p : PlacedToken) (ps : List PlacedToken) → next_value f (p ∷ ps) ≡ None → f p.token ≡ None
-lacks {A} f p ps is = grind (arith, ints, none-some)
-
 -- what a line gives where its next token has a value
 passes : (r : Rest) (k : Kind) (next : Of k → Rest) → ((t : Token) (a : Of k) → value k t ≡ Some a → step r t ≡ Some (next a))
     → (old new : Tokens) (a : Of k) → TakesValue (value k) old new (Some a) → from r (ahead old) ≡ from (next a) (ahead new)
@@ -44,7 +40,7 @@ misses : (r : Rest) (k : Kind) (out : Ahead → Result Line ℕ)
     → ((p : PlacedToken) (ps : List PlacedToken) (past : ℕ) → value k p.token ≡ None
     → from r (record { tokens = p ∷ ps; past = past }) ≡ out (record { tokens = p ∷ ps; past = past }))
     → (old new : Tokens) → TakesValue (value k) old new None → from r (ahead old) ≡ out (ahead new)
-misses r k out ended goes_on old new (none, same) = grind (arith, ints, lacks)
+misses r k out ended goes_on old new (none, same) = grind (arith, ints, none-some)
 
 -- the line goes wrong at its next token
 abbrev stuck : Ahead → Result Line ℕ
@@ -122,7 +118,7 @@ no_name t other none = refl
 pub no_name_taken : (ps : List PlacedToken) → next_value (this_in (token.Word word.CurrentPicture)) ps ≡ None → next_value letter_in ps ≡ None
     → next_value name_in ps ≡ None
 no_name_taken [] other none = refl
-no_name_taken (p ∷ ps) other none = grind (arith, ints, no_name, lacks)
+no_name_taken (p ∷ ps) other none = grind (arith, ints, no_name, none-some)
 
 -- a given name is the next token exactly where it is the name that the token is
 pub this_name : (name : Name) (ps : List PlacedToken) (after : Ahead) → next_value name_in ps ≡ Some (name, after)

@@ -1,12 +1,12 @@
 -- The registers that a line names are letters.
-use Rattle.std.proofs.Common.{ℕ, ◌<◌, List, [], ◌∷◌, ◌++◌, subst, arith}
+use Rattle.std.proofs.Common.{ℕ, ◌<◌, List, [], ◌∷◌, ◌++◌, arith}
 use Rattle.std.specs.List.{AllByRecursion}
 use Rattle.mf_rows.specs.declared.sign.Sign.{Sign}
 use Rattle.mf_rows.specs.declared.sign.Sign.TheVariants.{Plus, Minus}
 use Rattle.mf_text.specs.Token as token
 use Rattle.mf_text.specs.Grammar.{Form, AddContour, AddPicture, CullKeeping, CullDropping, Clear, Move, ShowTotal}
 use Rattle.mf_text.specs.Grammar.{ShowPicture, ShowProof, ShipOut, Shifted, spell_name, spell_source, spell_signed}
-use Rattle.mf_text.specs.Grammar.{spell_form, spell_end, Name, Current, Register, Source, Null, Named}
+use Rattle.mf_text.specs.Grammar.{spell_form, Name, Current, Register, Source, Null, Named}
 use Rattle.mf_text.specs.Lines.{Gives}
 use Rattle.mf_text.specs.Meaning.{Meaning, Is, If, Turns, Means, meaning, Command}
 use Rattle.mf_text.specs.Registers.{IsName, IsSource, HasNames, register_count}
@@ -14,6 +14,7 @@ use Rattle.mf_text.specs.Tokens.{without_columns, tokens, PlacedToken, Token}
 use Rattle.mf_text.specs.TokenTexts.{AreTokens}
 use Rattle.mf_text.proofs.Cuts.{are_tokens}
 use Rattle.mf_text.proofs.TokenTexts.{IsSaid, text_says}
+use Rattle.std.proofs.lemmas.Int.{ints}
 
 -- ---- every letter of a line is one of 26
 
@@ -82,14 +83,10 @@ form_names (Move name other) all = first_name name _ _ (of_first _ _ all)
 form_names (ShowTotal source) all = source_is source all.1.1
 form_names (ShowPicture source) all = source_is source all.1
 form_names (ShowProof source) all = source_is source all.1
-form_names (ShipOut source code dx width) all =
-    source_is source (of_first _ _ (of_first _ _ (of_first _ _ (of_first _ _ (of_first _ _ (of_first _ _ all.1))))))
+form_names (ShipOut source code dx width) all = source_is source (of_first _ _ (of_first _ _ (of_first _ _ (of_first _ _ (of_first _ _ (of_first _ _ all.1))))))
 form_names form all = tt
 
 -- ---- the command of a line of bytes
 
 pub names_given : (bytes : List ℕ) (given : Command) → Gives bytes given → HasNames given
-names_given bytes given gives =
-    let line = gives.line in
-    let letters = subst AreLetters gives.line_is.spelled (all_letters 1 bytes (tokens bytes) (are_tokens bytes)) in
-    names_meant (meaning line.form) given (form_names line.form (of_first (spell_form line.form) (spell_end line.ended) letters)) gives.so
+names_given bytes given gives = grind (arith, ints, all_letters 1 bytes (tokens bytes) (are_tokens bytes), are_tokens, names_meant, form_names, of_first)

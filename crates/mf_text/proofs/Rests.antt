@@ -38,8 +38,7 @@ this_same : (u : Token) → this_in u u ≡ Some tt
 this_same u = rw (same_token u) refl
 
 pub this_only : (u t : Token) → this_in u t ≡ Some tt → t ≡ u
-this_only u t is =
-    token_is t u (true_from_ne_false _ (λ other. let none : this_in u t ≡ None = rw other refl in none-some tt (sym none ∙ is)))
+this_only u t is = token_is t u (true_from_ne_false _ (λ other. let none : this_in u t ≡ None = rw other refl in none-some tt (sym none ∙ is)))
 
 pub name_of : (name : Name) → name_in (name_token name) ≡ Some name
 name_of Current = refl
@@ -73,8 +72,7 @@ code_says negative m c (Some n) of is = grind (arith, ints, int_of-is, code_of-i
 pub value_is : (k : Kind) (t : Token) (a : Of k) → value k t ≡ Some a → Says k t a
 value_is (This u) t a is = (tt, this_only u t is)
 value_is Names t name is = (tt, name_is t name is)
-value_is (Numbers negative) (token.Number m) n is =
-    let number = int_of-is negative m n is in (number.0, ap token.Number (sym number.1))
+value_is (Numbers negative) (token.Number m) n is = let number = int_of-is negative m n is in (number.0, ap token.Number (sym number.1))
 value_is (Numbers negative) t n is = absurd (none-some n is)
 value_is (Codes negative) (token.Number m) c is = code_says negative m c (int_of negative m) refl is
 value_is (Codes negative) t c is = absurd (none-some c is)
@@ -227,8 +225,7 @@ unfolding reads
 some_line (Ends l) = (l, record { tokens = []; read = refl })
 some_line (One u this) = let end = some_line this in (end.0, one_to end.1)
 some_line (Or u this other) = let end = some_line this in (end.0, or_to end.1)
-some_line (Take k next) =
-    let some = some_value k in let end = some_line (next some.1.0) in (end.0, kind_to k next None some.0 some.1.0 refl some.1.1 end.1)
+some_line (Take k next) = let some = some_value k in let end = some_line (next some.1.0) in (end.0, kind_to k next None some.0 some.1.0 refl some.1.1 end.1)
 some_line (OrTake k next other) =
     let some = some_value k in
     let end = some_line (next some.1.0) in

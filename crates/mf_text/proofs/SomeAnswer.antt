@@ -1,5 +1,5 @@
 -- Each line of bytes has an answer: a command, or a refusal.
-use Rattle.std.proofs.Common.{◌≡◌, ◌≢◌, ◌⊎◌, inl, inr, ℕ, ℤ, pos, List, Option, Some, None, Result, Ok, Err, length, refl, sym, ◌∙◌, arith}
+use Rattle.std.proofs.Common.{◌≡◌, ◌≢◌, ◌⊎◌, inl, inr, ℕ, ℤ, pos, List, Option, Some, None, Result, Ok, Err, length, refl, arith}
 use lib.IntN.{ℤ_discrete}
 use Rattle.std.specs.List.{list_all}
 use Rattle.std.proofs.lemmas.Bool.{cases_Bool, cases_lt}
@@ -11,7 +11,7 @@ use Rattle.mf_geom.specs.declared.cycle.CycleFault.{CycleFault}
 use Rattle.mf_geom.specs.declared.point.Point.{Point}
 use Rattle.mf_ops.specs.ContourWeight.{IsContourWeight}
 use Rattle.mf_ops.specs.Cull.{IsLawfulCull}
-use Rattle.mf_ops.specs.Moves.{AreFactors, Factors, IsFactor, degrees}
+use Rattle.mf_ops.specs.Moves.{IsFactor, degrees}
 use Rattle.mf_ops.specs.declared.cull.CullRule.{CullRule}
 use Rattle.mf_ops.specs.declared.cull.CullRule.TheVariants.{Keeping, Dropping}
 use Rattle.mf_ops.specs.declared.quarter.Quarter.{Quarter}
@@ -41,9 +41,6 @@ factor_or_not f = elim (ℤ_discrete f (pos 0)) [
   | yes zero ↦ inr (λ is. is.nonzero zero)
   | no nonzero ↦ grind (arith, ints, by_lt_z)
 ]
-
-factors_or_not : (s : Factors) → AreFactors s ⊎ (AreFactors s → ⊥)
-factors_or_not s = grind (arith, ints, factor_or_not)
 
 cull_or_not : (rule : CullRule) → IsLawfulCull rule ⊎ (IsLawfulCull rule → ⊥)
 cull_or_not (Keeping a b w) = grind (arith, ints, by_lt_z)
@@ -75,10 +72,7 @@ cycle_or_not : (points : List Point) (found : Option CycleFault) → form_fault 
 cycle_or_not points None is = inl (is_cycle points is)
 cycle_or_not points (Some cause) is = inr (
   faults.Cycle cause,
-  record {
-    unlawful = λ cycle. none-some cause (sym (no_form_fault points cycle) ∙ is);
-    is = record { cause = cause; fault = is; is = refl };
-  },
+  grind (arith, ints, none-some, no_form_fault),
 )
 
 or_refused : (value : Value) (fault : TextFault) → HasRefusal value fault → IsLawfulValue value ⊎ (IsLawfulValue value → ⊥) → IsChecked value
@@ -89,7 +83,7 @@ lawful_or_not : (value : Value) → IsChecked value
 lawful_or_not (Points points) = cycle_or_not points (form_fault points) refl
 lawful_or_not (AWeight weight) = or_refused (AWeight weight) faults.BadWeight refl (weight_or_not weight)
 lawful_or_not (ACull rule) = or_refused (ACull rule) faults.BadCull refl (cull_or_not rule)
-lawful_or_not (AScale factors) = or_refused (AScale factors) faults.BadScale refl (factors_or_not factors)
+lawful_or_not (AScale factors) = or_refused (AScale factors) faults.BadScale refl (grind (arith, ints, factor_or_not))
 lawful_or_not (Angle angle) = or_refused (Angle angle) faults.BadTurn refl (turn_or_not angle)
 
 -- ---- forms have a command or a refusal
@@ -115,12 +109,10 @@ answered (Turns name angle) = turned name angle (lawful_or_not (Angle angle))
 -- ---- lines have an answer
 
 abbrev HasAnswer : List ℕ → Type 0
-HasAnswer bytes =
-    ((given : Command) × Gives bytes given) ⊎ ((fault : TextFault) × (fault ≢ faults.OutOfMemory) × IsRefused bytes fault)
+HasAnswer bytes = ((given : Command) × Gives bytes given) ⊎ ((fault : TextFault) × (fault ≢ faults.OutOfMemory) × IsRefused bytes fault)
 
 line_answered : (bytes : List ℕ) → IsText bytes → (line : IsLine (without_columns (tokens bytes))) → MeansSomething (meaning line.tree.form) → HasAnswer bytes
-line_answered bytes text line (inl (given, is)) =
-    inl (given, record { line = line.tree; line_is = record { text = text; spelled = line.spelled }; so = is })
+line_answered bytes text line (inl (given, is)) = inl (given, record { line = line.tree; line_is = record { text = text; spelled = line.spelled }; so = is })
 line_answered bytes text line (inr (fault, is)) =
     let (other, refused) = of_values fault (refusals_of_values (meaning line.tree.form) fault is) in
     inr (fault, other, refused bytes (record { line = line.tree; line_is = record { text = text; spelled = line.spelled }; so = is }))

@@ -180,8 +180,7 @@ sound_transform : (name : Name) → Sound ((spell_name name ++ token.Mark mark.B
 sound_transform name = grind (arith, ints, sound_or, sound_pair, sound_end, append_assoc, sound_int, sound_one)
 
 sound_assignment : (name : Name) → Sound (spell_name name) (assignment name)
-sound_assignment name =
-    sound_one (sound_or (sound_end (Clear name) refl) (sound_one (sound_at (name_tokens _ name) (sound_transform name))))
+sound_assignment name = sound_one (sound_or (sound_end (Clear name) refl) (sound_one (sound_at (name_tokens _ name) (sound_transform name))))
 
 -- a source is one token
 source_token : (s : Source) → (t : Token)

@@ -1,6 +1,6 @@
 -- The token at the front of bytes, and the text that it has there.
 use Rattle.std.proofs.Common.{◌≡◌, ◌⊎◌, inl, inr, ℕ, suc, ◌+◌, ◌-◌, ◌<◌, ◌≤◌, Bool, true, false, not, bytes_eq, eqb, leb, List, [], ◌∷◌}
-use Rattle.std.proofs.Common.{◌++◌, Option, None, Some, length, get_or, take, drop, if◌then◌else◌, refl, sym, ap, subst, ◌∙◌, arith, rules}
+use Rattle.std.proofs.Common.{◌++◌, Option, None, Some, length, get_or, drop, refl, sym, ap, subst, ◌∙◌, arith, rules}
 use Rattle.std.proofs.lemmas.Int.{ints}
 use Rattle.std.specs.Char.{is_ascii_alphabetic, is_ascii_digit}
 use Rattle.std.specs.List.{All, list_all, prefix_len, starts_with, take_while}
@@ -9,9 +9,9 @@ use Rattle.std.proofs.lemmas.Bool.{and_parts, cases_Bool, cases_lt, cond_both, e
 use Rattle.std.proofs.lemmas.Bool.{false≢true, leb-true, lt-ltb, ne_eqb, true_from_ne_false}
 use Rattle.std.proofs.lemmas.Bool.Decides.{Decides-eqb, nat_tests}
 use Rattle.std.proofs.lemmas.List.{take-append-drop}
-use Rattle.std.proofs.lemmas.List.Elements.{All-cons, All-head, All-nil, All-tail}
+use Rattle.std.proofs.lemmas.List.Elements.{All-head, All-nil, All-tail}
 use Rattle.std.proofs.lemmas.List.Folds.{length-prefix_len}
-use Rattle.std.proofs.lemmas.List.Sums.{AllPass-from_list_all, take_while-cons}
+use Rattle.std.proofs.lemmas.List.Sums.{take_while-cons}
 use Rattle.std.proofs.lemmas.Option.{none-some, same_Some}
 use Rattle.std.proofs.lemmas.Slice.Eq.{bytes_eq-Decides, starts_is}
 use Rattle.mf_text.specs.declared.token.Mark.TheVariants as mark
@@ -45,12 +45,10 @@ front_row p [] = (All-nil (λ c. p c ≡ true), refl)
 front_row p (b ∷ bs) =
     let later = front_row p bs in
     let longer : 1 + prefix_len p bs ≡ suc (prefix_len p bs) = omega arith in
-    cond_both (p b) (1 + prefix_len p bs) 0 (λ n. All (λ c. p c ≡ true) (take n (b ∷ bs)) × (first_is p (drop n (b ∷ bs)) ≡ false))
-    (λ is. rw longer (All-cons (λ c. p c ≡ true) b (take_while p bs) is later.0, later.1)) (λ none. (All-nil (λ c. p c ≡ true), none))
+    grind (arith, ints, cond_both)
 
 pub row : (p : ℕ → Bool) (bs : List ℕ) → 0 < prefix_len p bs → IsRow p (take_while p bs) (drop (prefix_len p bs) bs)
-row p bs some =
-    let found = front_row p bs in record { some = omega (arith, some, length-prefix_len p bs); all = found.0; longest = found.1 }
+row p bs some = let found = front_row p bs in record { some = omega (arith, some, length-prefix_len p bs); all = found.0; longest = found.1 }
 
 -- where the row at the front is empty, no byte of its kind is there
 no_row : (p : ℕ → Bool) (bs : List ℕ) → prefix_len p bs ≤ 0 → first_is p bs ≡ false
@@ -68,18 +66,13 @@ pub digits_first : (bs : List ℕ) → 0 < prefix_len is_ascii_digit bs
     → first_token bs ≡ record { token = number_token (take_while is_ascii_digit bs); bytes = length (take_while is_ascii_digit bs) }
 unfolding first_token
 digits_first [] some = absurd (omega arith)
-digits_first (b ∷ bs) some =
-    let digit : is_ascii_digit b ≡ true =
-    true_from_ne_false _ (λ other. let none : prefix_len is_ascii_digit (b ∷ bs) ≡ 0 = rw other refl in omega (arith, none, some)) in
-    let letter : is_ascii_alphabetic b ≡ false = grind (arith, nat_tests) in
-    rw (letter, lt-ltb 0 _ (row is_ascii_digit (b ∷ bs) some).some) refl
+digits_first (b ∷ bs) some = grind (arith, ints, row is_ascii_digit (b ∷ bs) some, true_from_ne_false, nat_tests, lt-ltb)
 
 -- the text of a mark is found as that mark, unless a longer mark is there
 counts : (m : Mark) (rest : List ℕ) → is_longer m (mark_text m ++ rest) ≡ false
     → first_token (mark_text m ++ rest) ≡ record { token = token.Mark m; bytes = length (mark_text m) }
 unfolding first_token mark_among
-counts mark.Minus rest short =
-    ap (λ (b : Bool). if b then record { token = token.Mark mark.Join; bytes = 2 } else record { token = token.Mark mark.Minus; bytes = 1 }) short
+counts mark.Minus rest short = grind (arith, ints)
 counts m rest short = refl
 
 -- where neither a letter, a digit nor a mark is at the front, the token there is unknown
@@ -90,17 +83,11 @@ unknown_first [] no_letter no_digit none = refl
 unknown_first (b ∷ bs) no_letter no_digit none =
     rw (no_letter, no_digit, none mark.Becomes, none mark.Close, none mark.Comma, none mark.Join, none mark.Minus, none mark.Open, none mark.Semicolon) refl
 
-row_first : (p : ℕ → Bool) (f : List ℕ → Token)
-    → ((bs : List ℕ) → 0 < prefix_len p bs → first_token bs ≡ record { token = f (take_while p bs); bytes = length (take_while p bs) })
-    → (t : Token) (text rest : List ℕ) → IsRow p text rest → t ≡ f text → first_token (text ++ rest) ≡ record { token = t; bytes = length text }
-row_first p f first t text rest row is = grind (arith, ints, row, row_count, row_text)
-
 -- a text at the front is that of the token there
 pub text_first : (t : Token) (text rest : List ℕ) → IsTokenText t text rest → first_token (text ++ rest) ≡ record { token = t; bytes = length text }
-text_first t text rest (Letters row is) = row_first is_ascii_alphabetic word_token letters_first t text rest row is
-text_first t text rest (Digits row is) = row_first is_ascii_digit number_token digits_first t text rest row is
-text_first t text rest (AMark m written longest is) =
-    rw (is, written) (counts m rest (subst (λ ts. is_longer m (ts ++ rest) ≡ false) written longest))
+text_first t text rest (Letters row is) = grind (arith, ints, row, row_count, row_text, letters_first, is)
+text_first t text rest (Digits row is) = grind (arith, ints, row, row_count, row_text, digits_first, is)
+text_first t text rest (AMark m written longest is) = rw (is, written) (counts m rest (subst (λ ts. is_longer m (ts ++ rest) ≡ false) written longest))
 text_first t text rest (OtherByte other is) = rw (is, other.one) (unknown_first (other.byte ∷ rest) other.no_letter other.no_digit other.no_mark)
 
 -- ---- the text of a token
@@ -200,9 +187,7 @@ written w = record { letters = refl; some = omega arith; word = refl }
 
 -- the text of a word, which no other letter follows
 pub word_letters : (w : Word) (rest : List ℕ) → first_is is_ascii_alphabetic rest ≡ false → IsTokenText (token.Word w) (word_text w) rest
-word_letters w rest ends =
-    let is = written w in
-    Letters (record { some = is.some; all = AllPass-from_list_all is_ascii_alphabetic (word_text w) is.letters; longest = ends }) (sym is.word)
+word_letters w rest ends = grind (arith, ints, written w)
 
 same_bytes : (xs ys : List ℕ) → bytes_eq xs ys ≡ true → xs ≡ ys
 same_bytes xs ys same = search (rules, bytes_eq-Decides)
@@ -256,15 +241,13 @@ digits_say text rest row = grind (arith, ints, row_count, row, cond_both, leb-tr
 pub text_says : (t : Token) (text rest : List ℕ) → IsTokenText t text rest → IsSaid t (text ++ rest)
 text_says t text rest (Letters row is) = subst (λ u. IsSaid u (text ++ rest)) (sym is) (letters_say text rest row.longest)
 text_says t text rest (Digits row is) = subst (λ u. IsSaid u (text ++ rest)) (sym is) (digits_say text rest row)
-text_says t text rest (AMark m written longest is) =
-    subst (λ u. IsSaid u (text ++ rest)) (sym is) (starts-append (text ++ rest) (mark_text m) rest (ap (λ ts. ts ++ rest) written), longest)
+text_says t text rest (AMark m written longest is) = grind (arith, ints, starts-append, written)
 text_says t text rest (OtherByte other is) = subst (λ u. IsSaid u (text ++ rest)) (sym is) tt
 
 pub mark_length : (m : Mark) (text rest : List ℕ) → IsTokenText (token.Mark m) text rest → length text ≡ length (mark_text m)
 mark_length m text rest is =
     let said = text_says (token.Mark m) text rest is in
-    let parts = starts-drop (text ++ rest) (mark_text m) said.0 in
-    ap (λ (f : SizedToken). f.bytes) (sym (text_first (token.Mark m) text rest is) ∙ ap first_token parts ∙ counts m _ (ap (is_longer m) (sym parts) ∙ said.1))
+    grind (arith, ints, starts-drop (text ++ rest) (mark_text m) said.0, text_first (token.Mark m) text rest is, counts)
 
 pub said : (bs : List ℕ) → IsSaid (first_token bs).token bs
 said bs = by_front (front bs) where

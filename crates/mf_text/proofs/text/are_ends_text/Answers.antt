@@ -2,8 +2,8 @@ use Rattle.std.proofs.Common.{◌≡◌, ◌∙◌, ◌-◌, ◌≤◌, ◌&&◌
 use Rattle.std.proofs.lemmas.List.{take_rest}
 use Rattle.std.proofs.Math.Bool.{and_assoc}
 use Rattle.std.specs.List.{list_all}
-use Rattle.mf_text.specs.Lines.{is_text_byte}
 use Rattle.mf_text.proofs.text.are_ends_text.Goals as goal
+use Rattle.std.proofs.lemmas.Int.{ints}
 
 and_shared : (a b c : Bool) → (b && c) ≡ c → ((a && b) && (a && c)) ≡ (a && c)
 and_shared true b c same = same
@@ -26,6 +26,4 @@ ends-all is_so (suc size) (suc from) (x ∷ all) touch =
     ∙ ap (λ rest. is_so x && rest) (ends-all is_so size from all (omega (arith, touch)))
 
 pub returns : goal.returns
-returns g =
-    rw (g.are_text-front.ensures, g.are_text-back.ensures, take_rest g.args.line.now (length g.args.line.now - g.args.size)) (
-    ends-all is_text_byte g.args.size (length g.args.line.now - g.args.size) g.args.line.now (omega (arith, g.requires.whole)))
+returns g = grind (arith, ints, take_rest g.args.line.now (length g.args.line.now - g.args.size), ends-all)

@@ -1,12 +1,15 @@
 use Rattle.std.proofs.Common.{◌≡◌, ◌∙◌, length, sym, arith}
-use Rattle.mf_text.proofs.Digits.{digits_end, number-found, number-long, number-more, number-whole}
+use Rattle.mf_text.proofs.Digits.{number-found, number-long, number-more, number-whole}
 use Rattle.mf_text.proofs.tokens.front.number_at.Goals as goal
+use Rattle.std.proofs.lemmas.Int.{ints}
+use Rattle.std.proofs.Math.Nat.{eq-or-lt_of_le}
+use Rattle.std.proofs.lemmas.List.Sums.{prefix_len_passes}
 
 pub returns-then-not-is_ascii_digit : goal.returns-then-not-is_ascii_digit
 returns-then-not-is_ascii_digit c =
     rw c.number_of.ensures
     (number-found _ _ _ c.loop-digits.invariant
-    (digits_end c.args.text.now _ c.loop-digits.invariant.in_prefix (sym c.is_ascii_digit.ensures.value ∙ c.if-not-is_ascii_digit.true)))
+    (grind (arith, ints, eq-or-lt_of_le, prefix_len_passes, sym c.is_ascii_digit.ensures.value ∙ c.if-not-is_ascii_digit.true)))
 
 pub returns-then-digits-eq-MAX_DIGITS : goal.returns-then-digits-eq-MAX_DIGITS
 returns-then-digits-eq-MAX_DIGITS c =
@@ -14,16 +17,10 @@ returns-then-digits-eq-MAX_DIGITS c =
     (sym c.is_ascii_digit.ensures.value ∙ c.if-not-is_ascii_digit.false)
 
 pub overflow_mul-value : goal.overflow_mul-value
-overflow_mul-value c =
-    let digit = sym c.is_ascii_digit.ensures.value ∙ c.if-not-is_ascii_digit.false in
-    let goes_on = number-more _ _ _ c.loop-digits.invariant c.loop-digits-test.true digit c.if-digits-eq-MAX_DIGITS.false in
-    omega (arith, goes_on.fits)
+overflow_mul-value c = grind (arith, ints, number-more)
 
 pub overflow_add-value : goal.overflow_add-value
-overflow_add-value c =
-    let digit = sym c.is_ascii_digit.ensures.value ∙ c.if-not-is_ascii_digit.false in
-    let goes_on = number-more _ _ _ c.loop-digits.invariant c.loop-digits-test.true digit c.if-digits-eq-MAX_DIGITS.false in
-    omega (arith, goes_on.fits, c.from.ensures)
+overflow_add-value c = grind (arith, ints, number-more)
 
 pub loop-digits-preserved : goal.loop-digits-preserved
 loop-digits-preserved c =
