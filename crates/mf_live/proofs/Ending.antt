@@ -1,5 +1,5 @@
 -- What a writer has accepted once an operation or the end mark is added.
-use Rattle.std.proofs.Common.{◌≡◌, ◌∙◌, ◌+◌, ◌≤◌, true, false, ℕ, [], ◌∷◌, ◌++◌, refl, sym, ap}
+use Rattle.std.proofs.Common.{◌≡◌, ◌∙◌, ◌+◌, ◌≤◌, true, false, ℕ, [], ◌∷◌, ◌++◌, refl, sym, ap, arith}
 use Rattle.std.proofs.lemmas.Bool.{or_from, or_right}
 use Rattle.mf_ops.specs.declared.op.Op.{Op}
 use Rattle.mf_live.specs.declared.holder.Holder.{Holder}
@@ -7,7 +7,6 @@ use Rattle.mf_live.specs.Entries.{entry, Operation, End, revision_at, is_closed}
 use Rattle.mf_live.specs.Holders.{accepted_list, published_list, version}
 use Rattle.mf_live.proofs.EntryLists.{revision_at-push, revision_at-whole, is_closed-append}
 use Rattle.mf_live.proofs.Histories.{lawful}
-use Rattle.std.proofs.Common.{arith}
 use Rattle.std.proofs.lemmas.Int.{ints}
 
 -- no more is published than is accepted

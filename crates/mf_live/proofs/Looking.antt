@@ -15,8 +15,7 @@ use Rattle.mf_live.specs.Entries.{Entry, is_closed, is_nothing_after_end}
 use Rattle.mf_live.specs.Prefixes.{IsWholePrefix, longer}
 use Rattle.mf_live.specs.Rule.{IsKnowledgeOf, IsLook, seen_knowledge, events_of}
 use Rattle.mf_live.specs.Sheets.{HasLearnt}
-use Rattle.mf_live.specs.Viewers.{Extends, IsPublished, SeesTheSame, learnt_list, look_events, looked_at_list}
-use Rattle.mf_live.specs.Viewers.{notice_events, seen_list, shown_list, told_list}
+use Rattle.mf_live.specs.Viewers.{Extends, IsPublished, SeesTheSame, learnt_list, look_events, looked_at_list, notice_events, seen_list, shown_list, told_list}
 use Rattle.mf_live.specs.World.{published_list_of}
 use Rattle.mf_live.proofs.EntryLists.{nothing_follows}
 use Rattle.mf_live.proofs.WholePrefixes.{whole-longer}

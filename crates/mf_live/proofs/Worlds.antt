@@ -3,11 +3,9 @@ use Rattle.std.proofs.Common.{◌≡◌, ℕ, List, [], ◌∷◌, ◌++◌, ref
 use Rattle.mf_live.specs.declared.event.Event.{Event}
 use Rattle.mf_live.specs.Prefixes.{IsWholePrefix}
 use Rattle.mf_live.specs.World.{World, new_world, Happen, May, after_event, world_after, IsLawful, EverySchedule, StaysLawful, published_list_of}
-use Rattle.mf_live.proofs.Lawfulness.{lawful_event, published-event, shows_more}
-use Rattle.mf_live.proofs.WholePrefixes.{whole-self, whole-trans}
+use Rattle.mf_live.proofs.Lawfulness.{lawful_event, published-event, shows_more, none_pending}
+use Rattle.mf_live.proofs.WholePrefixes.{whole-self, whole-trans, whole-nil}
 use Rattle.mf_live.proofs.Blank.{revision_at-none}
-use Rattle.mf_live.proofs.Lawfulness.{none_pending}
-use Rattle.mf_live.proofs.WholePrefixes.{whole-nil}
 use Rattle.std.proofs.lemmas.List.Elements.{All-nil}
 
 pub world_after-append : (w : World) (xs ys : List Event) → world_after w (xs ++ ys) ≡ world_after (world_after w xs) ys

@@ -1,9 +1,8 @@
 use Rattle.std.proofs.Common.{arith, sym}
 use Rattle.mf_live.proofs.Looking.{told_list-prefix}
-use Rattle.mf_live.proofs.WholePrefixes.{longer-of_whole, whole-trans, whole-longer}
+use Rattle.mf_live.proofs.WholePrefixes.{longer-of_whole, whole-trans, whole-longer, longer-long, longer-shorter, whole-same}
 use Rattle.mf_live.proofs.viewer.Viewer.learn.Goals as goal
 use Rattle.std.proofs.lemmas.Int.{ints}
-use Rattle.mf_live.proofs.WholePrefixes.{longer-long, longer-shorter, whole-same}
 use Rattle.std.proofs.lemmas.Bool.{cases_lt}
 
 pub returns-then-self-notice-clause-learnt : goal.returns-then-self-notice-clause-learnt
