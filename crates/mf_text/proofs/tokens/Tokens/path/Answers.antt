@@ -1,9 +1,8 @@
-use Rattle.std.proofs.Common.{◌++◌, ◌∷◌, [], ◌∙◌, true, false, ap, map, refl, subst, sym, rules}
+use Rattle.std.proofs.Common.{◌++◌, ◌∷◌, [], ◌∙◌, true, false, ap, map, refl, subst, sym, rules, arith}
 use Rattle.mf_text.specs.Grammar.{pair_value}
 use Rattle.mf_text.specs.Reads.{HasPoints}
 use Rattle.mf_text.proofs.Reading.{corners_go_on, one_longer, one_more, path_wrong}
 use Rattle.mf_text.proofs.tokens.Tokens.path.Goals as goal
-use Rattle.std.proofs.Common.{arith}
 use Rattle.std.proofs.lemmas.Int.{ints}
 
 pub corners-init : goal.corners-init
