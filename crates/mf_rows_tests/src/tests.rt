@@ -52,7 +52,7 @@ fn push_all(rt: &impl Abort, builder: &mut RowBuilder, runs: &[Run]) {
 }
 
 /// The picture that was made; there must have been room for it.
-fn made(rt: &impl Abort, picture: Result<Picture, OutOfMemory>) -> Picture {
+fn expect_picture(rt: &impl Abort, picture: Result<Picture, OutOfMemory>) -> Picture {
     picture.expect(rt, "there is room for the picture")
 }
 
@@ -65,12 +65,12 @@ fn sum_of(alloc: Global, left: &Picture, right: &Picture) -> Result<Picture, Add
 
 /// The picture of these runs, each of which must fit.
 fn picture_of<R: Abort + AllocGlobal>(rt: &R, runs: &[Run]) -> Picture {
-    made(rt, builder_of(rt, runs).finish())
+    expect_picture(rt, builder_of(rt, runs).finish())
 }
 
 /// A copy of a picture.
 fn copy_of<R: Abort + AllocGlobal>(rt: &R, picture: &Picture) -> Picture {
-    made(rt, picture.copy(rt.alloc()))
+    expect_picture(rt, picture.copy(rt.alloc()))
 }
 
 /// Two rows of three pixels, one below the other.

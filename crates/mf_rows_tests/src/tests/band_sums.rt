@@ -1,7 +1,7 @@
 //! Sums of pictures that have bands, or groups, at the same places and at others.
 
 use super::slow::{SlowPicture, both_forms};
-use super::{assert_runs_in, copy_of, made, make_run, picture_of, sum_of};
+use super::{assert_runs_in, copy_of, expect_picture, make_run, picture_of, sum_of};
 use crate::tests::assertions::assert_same;
 use mf_base::OutOfMemory;
 use mf_edges::{Choice, WeightMap};
@@ -67,13 +67,13 @@ const CULL: Choice = Choice {
 };
 
 /// What that makes of a weight.
-fn culled(weight: i32) -> i32 {
+fn cull(weight: i32) -> i32 {
     if weight >= 2 { 7 } else { 0 }
 }
 
 /// Asserts the sum of the pictures of two lists of runs, whichever is added to the other, that one of them is left where the other is
 /// subtracted again, and that the picture that is added stays as it is. Answers the sum.
-fn assert_sum<R: Abort + AllocGlobal>(
+fn assert_sum_of_runs<R: Abort + AllocGlobal>(
     rt: &R,
     left: &[Run],
     right: &[Run],
@@ -100,7 +100,7 @@ fn assert_sum<R: Abort + AllocGlobal>(
 }
 
 /// Asserts the sum of the pictures with these weights at these places, and what is left of it when it is culled.
-fn assert_at<R: Abort + AllocGlobal>(
+fn assert_sum_at<R: Abort + AllocGlobal>(
     rt: &R,
     places: &[(i32, i32); 3],
     left: AtPlaces,
@@ -111,14 +111,14 @@ fn assert_at<R: Abort + AllocGlobal>(
         left.1.wrapping_add(right.1),
         left.2.wrapping_add(right.2),
     );
-    let sum = assert_sum(
+    let sum = assert_sum_of_runs(
         rt,
         &runs_at(rt, places, left),
         &runs_at(rt, places, right),
         &runs_at(rt, places, weights),
     );
-    let few = made(rt, sum.map_weights(rt.alloc(), &WeightMap::Choose(CULL)));
-    let weights = AtPlaces(culled(weights.0), culled(weights.1), culled(weights.2));
+    let few = expect_picture(rt, sum.map_weights(rt.alloc(), &WeightMap::Choose(CULL)));
+    let weights = AtPlaces(cull(weights.0), cull(weights.1), cull(weights.2));
     assert_runs_in(rt, 4, &few, &runs_at(rt, places, weights));
 }
 
@@ -129,7 +129,7 @@ fn assert_all_at<R: Abort + AllocGlobal>(rt: &R, places: &[(i32, i32); 3]) {
             for three in WEIGHTS {
                 let left = AtPlaces(one.0, two.0, three.0);
                 let right = AtPlaces(one.1, two.1, three.1);
-                assert_at(rt, places, left, right);
+                assert_sum_at(rt, places, left, right);
             }
         }
     }

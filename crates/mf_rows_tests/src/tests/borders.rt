@@ -1,10 +1,10 @@
 //! Rectangles that end at borders between bands, at borders between groups, and next to these. A band has 16 rows and a
 //! group 256, counted from the top of the field.
 
-use super::moves::{assert_stays_inside, columns_mirrored, rows_mirrored, stretch, turned};
-use super::rectangle_sums::assert_sum;
-use super::rectangles::{Rectangle, at_once, make_rectangle, negated};
-use super::{assert_all_runs, assert_bounds, assert_weights, made, make_run, sum_of};
+use super::moves::{assert_stays_inside, mirror_columns, mirror_rows, stretch, turn};
+use super::rectangle_sums::assert_sum_of_rectangles;
+use super::rectangles::{Rectangle, at_once, make_rectangle, negate};
+use super::{assert_all_runs, assert_bounds, assert_weights, expect_picture, make_run, sum_of};
 use mf_base::OutOfMemory;
 use mf_edges::{FIELD_END, FIELD_START, Stretch, WeightMap};
 use mf_rows::{Box4, Picture, Run};
@@ -68,7 +68,7 @@ fn point_of(stretch: &Stretch, point: i32) -> i32 {
 }
 
 /// A stretched rectangle.
-fn stretched(rectangle: Rectangle, columns: &Stretch, rows: &Stretch) -> Rectangle {
+fn stretch_rectangle(rectangle: Rectangle, columns: &Stretch, rows: &Stretch) -> Rectangle {
     Rectangle {
         left: point_of(columns, rectangle.left),
         bottom: point_of(rows, rectangle.bottom),
@@ -79,7 +79,7 @@ fn stretched(rectangle: Rectangle, columns: &Stretch, rows: &Stretch) -> Rectang
 }
 
 /// The runs of a rectangle.
-fn runs_of(alloc: Global, rectangle: Rectangle) -> Result<Vec<Run>, OutOfMemory> {
+fn runs_of_rectangle(alloc: Global, rectangle: Rectangle) -> Result<Vec<Run>, OutOfMemory> {
     let mut runs = Vec::new(alloc);
     let len = rectangle.right.abs_diff(rectangle.left);
     for y in (rectangle.bottom..rectangle.top).rev() {
@@ -101,7 +101,7 @@ fn assert_sides(rt: &impl Abort, picture: &Picture, rectangle: Rectangle) {
 
 /// Asserts that a picture is that of a rectangle.
 fn assert_shows<R: Abort + AllocGlobal>(rt: &R, picture: &Picture, rectangle: Rectangle) {
-    let runs = runs_of(rt.alloc(), rectangle).expect(rt, "there is room for the runs");
+    let runs = runs_of_rectangle(rt.alloc(), rectangle).expect(rt, "there is room for the runs");
     let bounds = Box4 {
         min_x: rectangle.left,
         max_x: rectangle.right.wrapping_sub(1),
@@ -117,8 +117,8 @@ fn assert_shows<R: Abort + AllocGlobal>(rt: &R, picture: &Picture, rectangle: Re
 /// left.
 fn assert_cancels<R: Abort + AllocGlobal>(rt: &R, rectangle: Rectangle) {
     let picture = at_once(rt, &[rectangle]);
-    let negative = made(rt, picture.map_weights(rt.alloc(), &WeightMap::Negate));
-    assert_shows(rt, &negative, negated(rectangle));
+    let negative = expect_picture(rt, picture.map_weights(rt.alloc(), &WeightMap::Negate));
+    assert_shows(rt, &negative, negate(rectangle));
     let none = sum_of(rt.alloc(), &picture, &negative);
     let none = none.expect(rt, "opposite weights cancel");
     assert_all_runs(rt, 0, &none, &[]);
@@ -127,20 +127,16 @@ fn assert_cancels<R: Abort + AllocGlobal>(rt: &R, rectangle: Rectangle) {
 }
 
 /// Asserts that the picture of a rectangle, reflected, is that of the reflected rectangle.
-fn assert_reflected<R: Abort + AllocGlobal>(rt: &R, rectangle: Rectangle) {
+fn assert_rectangle_reflected<R: Abort + AllocGlobal>(rt: &R, rectangle: Rectangle) {
     let picture = at_once(rt, &[rectangle]);
-    assert_shows(rt, &rows_mirrored(rt, &picture), upside_down(rectangle));
-    assert_shows(
-        rt,
-        &columns_mirrored(rt, &picture),
-        right_to_left(rectangle),
-    );
+    assert_shows(rt, &mirror_rows(rt, &picture), upside_down(rectangle));
+    assert_shows(rt, &mirror_columns(rt, &picture), right_to_left(rectangle));
 }
 
 /// Asserts that the picture of a rectangle, turned once, is that of the turned rectangle.
-fn assert_turned<R: Abort + AllocGlobal>(rt: &R, rectangle: Rectangle) {
+fn assert_rectangle_turned<R: Abort + AllocGlobal>(rt: &R, rectangle: Rectangle) {
     let picture = at_once(rt, &[rectangle]);
-    assert_shows(rt, &turned(rt, &picture, 1), on_its_side(rectangle));
+    assert_shows(rt, &turn(rt, &picture, 1), on_its_side(rectangle));
 }
 
 /// Asserts the sums of a rectangle and of a pole that goes on a row above and below it, and that the pole is left when the
@@ -150,8 +146,8 @@ fn assert_on_a_pole<R: Abort + AllocGlobal>(rt: &R, rectangle: Rectangle) {
     let top = rectangle.top.wrapping_add(1).min(FIELD_END);
     let area = make_rectangle(rectangle.left, bottom, rectangle.right, top, 0);
     let pole = make_rectangle(-1, bottom, 0, top, 2);
-    assert_sum(rt, 0, &[area, pole, rectangle]);
-    assert_sum(rt, 1, &[area, pole, rectangle, negated(rectangle)]);
+    assert_sum_of_rectangles(rt, 0, &[area, pole, rectangle]);
+    assert_sum_of_rectangles(rt, 1, &[area, pole, rectangle, negate(rectangle)]);
 }
 
 /// Asserts all this of rectangles whose lowest row is this one.
@@ -160,10 +156,10 @@ fn assert_from<R: Abort + AllocGlobal>(rt: &R, bottom: i32) {
         let top = bottom.wrapping_add(height).min(FIELD_END);
         let rectangle = make_rectangle(-2, bottom, 0, top, 1);
         assert_cancels(rt, rectangle);
-        assert_reflected(rt, rectangle);
+        assert_rectangle_reflected(rt, rectangle);
     }
     let row = make_rectangle(-2, bottom, 0, bottom.wrapping_add(1), 1);
-    assert_turned(rt, row);
+    assert_rectangle_turned(rt, row);
     assert_on_a_pole(rt, row);
 }
 
@@ -186,8 +182,8 @@ fn rectangles_are_as_high_as_groups(rt: HostRuntime) {
     for (bottom, top) in TALL {
         let rectangle = make_rectangle(-1, bottom, 0, top, -3);
         assert_cancels(&rt, rectangle);
-        assert_reflected(&rt, rectangle);
-        assert_turned(&rt, rectangle);
+        assert_rectangle_reflected(&rt, rectangle);
+        assert_rectangle_turned(&rt, rectangle);
     }
 }
 
@@ -208,7 +204,7 @@ const STRETCHES: [(i32, i32); 12] = [
 ];
 
 /// Asserts that a stretched picture of a rectangle is that of the stretched rectangle.
-fn assert_stretched<R: Abort + AllocGlobal>(
+fn assert_rectangle_stretched<R: Abort + AllocGlobal>(
     rt: &R,
     rectangle: Rectangle,
     columns: &Stretch,
@@ -216,8 +212,8 @@ fn assert_stretched<R: Abort + AllocGlobal>(
 ) {
     let picture = at_once(rt, &[rectangle]);
     assert_stays_inside(rt, &picture, columns, rows);
-    let new = made(rt, picture.stretch(rt.alloc(), columns, rows));
-    assert_shows(rt, &new, stretched(rectangle, columns, rows));
+    let new = expect_picture(rt, picture.stretch(rt.alloc(), columns, rows));
+    assert_shows(rt, &new, stretch_rectangle(rectangle, columns, rows));
 }
 
 /// Asserts this of all these stretches, and of rectangles whose bottoms are at and next to a border.
@@ -226,7 +222,7 @@ fn assert_stretched_near<R: Abort + AllocGlobal>(rt: &R, border: i32) {
         let bottom = border.wrapping_add(end);
         let rectangle = make_rectangle(-1, bottom, 0, bottom.wrapping_add(16), 1);
         for (factor, offset) in STRETCHES {
-            assert_stretched(rt, rectangle, &stretch(2, 5), &stretch(factor, offset));
+            assert_rectangle_stretched(rt, rectangle, &stretch(2, 5), &stretch(factor, offset));
         }
     }
 }
@@ -239,6 +235,6 @@ fn rectangles_are_stretched_over_borders(rt: HostRuntime) {
     // Half a group becomes a group, or reaches a row into the next one.
     for offset in [-1, 0, 1, 2] {
         let half = make_rectangle(-1, -1, 0, 127, 1);
-        assert_stretched(&rt, half, &stretch(1, 0), &stretch(2, offset));
+        assert_rectangle_stretched(&rt, half, &stretch(1, 0), &stretch(2, offset));
     }
 }

@@ -1,7 +1,7 @@
 //! Rectangles added to pictures by their corners.
 
 use super::rectangles::{
-    Rectangle, at_once, corners_of, field, make_corner, make_rectangle, negated, one_by_one,
+    Rectangle, at_once, corners_of, field, make_corner, make_rectangle, negate, one_by_one,
     try_all, weight_of_all, with_all,
 };
 use super::slow::{SlowPicture, both_forms};
@@ -69,8 +69,8 @@ fn assert_cancel<R: Abort + AllocGlobal>(rt: &R, case: usize, rectangles: &[Rect
 fn cancel_to_the_blank_picture(rt: HostRuntime) {
     let low = make_rectangle(0, 0, 4, 4, 1);
     let high = make_rectangle(2, 2, 6, 6, 2);
-    let whole = [field(3), field(-3), low, negated(low)];
-    let overlapping = [low, high, negated(low), negated(high)];
+    let whole = [field(3), field(-3), low, negate(low)];
+    let overlapping = [low, high, negate(low), negate(high)];
     let in_pieces = [
         low,
         make_rectangle(4, 0, 8, 4, 1),
@@ -91,14 +91,14 @@ fn cancel_to_the_blank_picture(rt: HostRuntime) {
 
 /// Asserts that a picture to which a rectangle is added differs from the picture, and that it is equal again when the
 /// rectangle is taken away. Answers the last of these pictures.
-fn added_and_taken_away<R: Abort + AllocGlobal>(
+fn add_and_take_away<R: Abort + AllocGlobal>(
     rt: &R,
     picture: &Picture,
     rectangle: Rectangle,
 ) -> Picture {
     let both = with_all(rt, picture, &[rectangle]);
     assert_equality(rt, &both, picture, false, "with the rectangle");
-    let again = with_all(rt, &both, &[negated(rectangle)]);
+    let again = with_all(rt, &both, &[negate(rectangle)]);
     assert_equality(rt, &again, picture, true, "without it again");
     again
 }
@@ -107,7 +107,7 @@ fn added_and_taken_away<R: Abort + AllocGlobal>(
 fn assert_blank_without<R: Abort + AllocGlobal>(rt: &R, picture: &Picture, rectangle: Rectangle) {
     let blank = Picture::blank(rt.alloc());
     assert_equality(rt, picture, &blank, false, "the first and none");
-    let none = with_all(rt, picture, &[negated(rectangle)]);
+    let none = with_all(rt, picture, &[negate(rectangle)]);
     assert_equality(rt, &none, &blank, true, "none and none again");
 }
 
@@ -118,7 +118,7 @@ fn give_an_equal_picture_back_when_taken_away(rt: HostRuntime) {
     let first = at_once(&rt, &[low]);
     let runs = picture_of(&rt, &block());
     assert_equality(&rt, &first, &runs, true, "corners and runs");
-    let again = added_and_taken_away(&rt, &first, high);
+    let again = add_and_take_away(&rt, &first, high);
     assert_blank_without(&rt, &again, low);
 }
 
@@ -176,7 +176,7 @@ fn add_in_place<R: Abort + AllocGlobal>(
 
 /// Asserts what comes of adding this weight at the pixel (1, y) to a picture, both to a copy and in place: the weight
 /// there afterwards, or a refusal. A refusal leaves the picture as it was, which is compared with its slow form.
-fn assert_added<R: Abort + AllocGlobal>(
+fn assert_weight_added<R: Abort + AllocGlobal>(
     rt: &R,
     (picture, slow): &(Picture, SlowPicture),
     y: i32,
@@ -213,7 +213,7 @@ const ADDED: [(i32, i32, Result<i32, AddFault>); 6] = [
 /// Asserts all of these of a picture.
 fn assert_all_added<R: Abort + AllocGlobal>(rt: &R, forms: &(Picture, SlowPicture)) {
     for (y, weight, expected) in ADDED {
-        assert_added(rt, forms, y, weight, expected);
+        assert_weight_added(rt, forms, y, weight, expected);
     }
 }
 

@@ -33,7 +33,7 @@ impl Derived {
         match self {
             Derived::Copy => picture.copy(alloc),
             Derived::Negated => picture.map_weights(alloc, &WeightMap::Negate),
-            Derived::Chosen => chosen(alloc, picture),
+            Derived::Chosen => choose(alloc, picture),
             Derived::ColumnsMirrored => picture.mirror_columns(alloc),
             Derived::RowsMirrored => picture.mirror_rows(alloc),
             Derived::Turned => picture.turn(alloc),
@@ -42,7 +42,7 @@ impl Derived {
 }
 
 /// The picture in which weights 1 and 2 become 3, and all others 0.
-fn chosen(alloc: Global, picture: &Picture) -> Result<Picture, OutOfMemory> {
+fn choose(alloc: Global, picture: &Picture) -> Result<Picture, OutOfMemory> {
     let choice = Choice {
         low: 1,
         high: 2,

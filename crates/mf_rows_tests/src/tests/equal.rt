@@ -148,7 +148,7 @@ fn blank_pictures_equal_only_each_other(rt: HostRuntime) {
 }
 
 /// Adds up to two random short runs in a row.
-fn push_runs(chance: &mut Chance, runs: &mut Vec<Run>, y: i32) -> Result<(), OutOfMemory> {
+fn push_few_runs(chance: &mut Chance, runs: &mut Vec<Run>, y: i32) -> Result<(), OutOfMemory> {
     let mut x = 0i32;
     for _ in 0..chance.below(3) {
         x = x.wrapping_add(chance.below(2) as i32);
@@ -163,8 +163,8 @@ fn push_runs(chance: &mut Chance, runs: &mut Vec<Run>, y: i32) -> Result<(), Out
 fn few_random_runs(alloc: Global, seed: u32) -> Result<Vec<Run>, OutOfMemory> {
     let mut chance = Chance::new(seed);
     let mut runs = Vec::new(alloc);
-    push_runs(&mut chance, &mut runs, 1)?;
-    push_runs(&mut chance, &mut runs, 0)?;
+    push_few_runs(&mut chance, &mut runs, 1)?;
+    push_few_runs(&mut chance, &mut runs, 0)?;
     Ok(runs)
 }
 

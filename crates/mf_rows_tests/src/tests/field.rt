@@ -1,6 +1,6 @@
 //! Pictures that reach the corners of the field: single pixels there, and the whole field but for some rows.
 
-use super::moves::{columns_mirrored, rows_mirrored, turned};
+use super::moves::{mirror_columns, mirror_rows, turn};
 use super::rectangles::{Rectangle, at_once, field, make_rectangle, with_all};
 use super::slow::both_forms;
 use super::{
@@ -28,7 +28,7 @@ const CORNERS: [AtCorners; 7] = [
 ];
 
 /// Adds a pixel to a list of runs, unless its weight is 0.
-pub(super) fn push_pixel(
+pub(super) fn push_pixel_run(
     runs: &mut Vec<Run>,
     x: i32,
     y: i32,
@@ -44,16 +44,16 @@ impl AtCorners {
     /// The runs of the picture with these weights.
     fn runs(self, alloc: Global) -> Result<Vec<Run>, OutOfMemory> {
         let mut runs = Vec::new(alloc);
-        push_pixel(&mut runs, -4095, 4094, self.0)?;
-        push_pixel(&mut runs, 4094, 4094, self.1)?;
-        push_pixel(&mut runs, -4095, -4095, self.2)?;
-        push_pixel(&mut runs, 4094, -4095, self.3)?;
+        push_pixel_run(&mut runs, -4095, 4094, self.0)?;
+        push_pixel_run(&mut runs, 4094, 4094, self.1)?;
+        push_pixel_run(&mut runs, -4095, -4095, self.2)?;
+        push_pixel_run(&mut runs, 4094, -4095, self.3)?;
         Ok(runs)
     }
 }
 
 /// Asserts that a picture has these weights.
-fn assert_at<R: Abort + AllocGlobal>(rt: &R, picture: &Picture, corners: AtCorners) {
+fn assert_corners<R: Abort + AllocGlobal>(rt: &R, picture: &Picture, corners: AtCorners) {
     let runs = corners.runs(rt.alloc()).expect(rt, "there is room");
     let (_, slow) = both_forms(rt, &runs);
     slow.assert_answers_of(rt, 1, picture);
@@ -64,32 +64,20 @@ fn assert_corners_moved<R: Abort + AllocGlobal>(rt: &R, corners: AtCorners) {
     let AtCorners(one, two, three, five) = corners;
     let runs = corners.runs(rt.alloc()).expect(rt, "there is room");
     let picture = picture_of(rt, &runs);
-    assert_at(rt, &picture, corners);
-    assert_at(
+    assert_corners(rt, &picture, corners);
+    assert_corners(
         rt,
-        &rows_mirrored(rt, &picture),
+        &mirror_rows(rt, &picture),
         AtCorners(three, five, one, two),
     );
-    assert_at(
+    assert_corners(
         rt,
-        &columns_mirrored(rt, &picture),
+        &mirror_columns(rt, &picture),
         AtCorners(two, one, five, three),
     );
-    assert_at(
-        rt,
-        &turned(rt, &picture, 1),
-        AtCorners(two, five, one, three),
-    );
-    assert_at(
-        rt,
-        &turned(rt, &picture, 2),
-        AtCorners(five, three, two, one),
-    );
-    assert_at(
-        rt,
-        &turned(rt, &picture, 3),
-        AtCorners(three, one, five, two),
-    );
+    assert_corners(rt, &turn(rt, &picture, 1), AtCorners(two, five, one, three));
+    assert_corners(rt, &turn(rt, &picture, 2), AtCorners(five, three, two, one));
+    assert_corners(rt, &turn(rt, &picture, 3), AtCorners(three, one, five, two));
 }
 
 #[test]
@@ -139,7 +127,7 @@ fn assert_taken<R: Abort + AllocGlobal>(rt: &R, bottom: i32, top: i32) {
     let full = at_once(rt, &[field(1)]);
     let picture = with_all(rt, &full, &[full_rows(bottom, top, -1)]);
     assert_without(rt, &picture, bottom, top);
-    let mirrored = rows_mirrored(rt, &picture);
+    let mirrored = mirror_rows(rt, &picture);
     assert_without(rt, &mirrored, top.wrapping_neg(), bottom.wrapping_neg());
 }
 
@@ -153,7 +141,7 @@ fn rows_are_taken_from_the_field(rt: HostRuntime) {
 #[test]
 fn the_field_is_moved_to_itself(rt: HostRuntime) {
     let full = at_once(&rt, &[field(1)]);
-    assert_equality(&rt, &rows_mirrored(&rt, &full), &full, true, "rows");
-    assert_equality(&rt, &columns_mirrored(&rt, &full), &full, true, "columns");
-    assert_equality(&rt, &turned(&rt, &full, 1), &full, true, "a turn");
+    assert_equality(&rt, &mirror_rows(&rt, &full), &full, true, "rows");
+    assert_equality(&rt, &mirror_columns(&rt, &full), &full, true, "columns");
+    assert_equality(&rt, &turn(&rt, &full, 1), &full, true, "a turn");
 }

@@ -2,7 +2,7 @@
 
 use super::chance::Chance;
 use super::slow::{SlowPicture, both_forms};
-use super::{assert_runs, assert_weights, copy_of, made, make_run};
+use super::{assert_runs, assert_weights, copy_of, expect_picture, make_run};
 use crate::tests::assertions::assert_holds;
 use mf_base::OutOfMemory;
 use mf_edges::FIELD_START;
@@ -133,7 +133,7 @@ fn blank_pictures_answer_like_their_slow_form(rt: HostRuntime) {
     let blank = Picture::blank(rt.alloc());
     slow.assert_answers_of(&rt, 0, &blank);
     slow.assert_answers_of(&rt, 1, &copy_of(&rt, &blank));
-    let empty = made(&rt, RowBuilder::new(rt.alloc()).finish());
+    let empty = expect_picture(&rt, RowBuilder::new(rt.alloc()).finish());
     slow.assert_answers_of(&rt, 2, &empty);
 }
 

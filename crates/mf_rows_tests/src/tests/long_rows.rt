@@ -2,13 +2,13 @@
 
 ghost use Rattle.mf_edges.specs.WeightMaps.{IsWeightMap};
 
-use super::field::push_pixel;
-use super::moves::{Move, assert_row_moved, columns_mirrored, rows_mirrored, turned};
+use super::field::push_pixel_run;
+use super::moves::{Move, assert_row_moved, mirror_columns, mirror_rows, turn};
 use super::slow::{SlowPicture, both_forms};
 use super::sums::choice;
 use super::{
-    assert_all_runs, assert_bounds, assert_total, assert_weights, copy_of, made, make_run,
-    picture_of, sum_of,
+    assert_all_runs, assert_bounds, assert_total, assert_weights, copy_of, expect_picture,
+    make_run, picture_of, sum_of,
 };
 use crate::tests::assertions::assert_same;
 use mf_base::OutOfMemory;
@@ -22,7 +22,7 @@ use std::process::Abort;
 type Stripes = (i32, i32);
 
 /// The runs of such a row, which is row y.
-fn striped_runs(alloc: Global, y: i32, (one, two): Stripes) -> Result<Vec<Run>, OutOfMemory> {
+fn runs_of_stripes(alloc: Global, y: i32, (one, two): Stripes) -> Result<Vec<Run>, OutOfMemory> {
     let mut runs = Vec::new(alloc);
     if one == two && one != 0 {
         runs.push(make_run(y, -4095, 8190, one))?;
@@ -30,23 +30,23 @@ fn striped_runs(alloc: Global, y: i32, (one, two): Stripes) -> Result<Vec<Run>, 
     }
     let mut x = FIELD_START;
     for _ in 0..4095 {
-        push_pixel(&mut runs, x, y, one)?;
-        push_pixel(&mut runs, x.wrapping_add(1), y, two)?;
+        push_pixel_run(&mut runs, x, y, one)?;
+        push_pixel_run(&mut runs, x.wrapping_add(1), y, two)?;
         x = x.wrapping_add(2);
     }
     Ok(runs)
 }
 
 /// The picture of such a row.
-fn striped<R: Abort + AllocGlobal>(rt: &R, y: i32, stripes: Stripes) -> Picture {
-    let runs = striped_runs(rt.alloc(), y, stripes);
+fn picture_of_stripes<R: Abort + AllocGlobal>(rt: &R, y: i32, stripes: Stripes) -> Picture {
+    let runs = runs_of_stripes(rt.alloc(), y, stripes);
     picture_of(rt, &runs.expect(rt, "there is room for the runs"))
 }
 
 /// Asserts that a picture is that of such a row.
 fn assert_striped<R: Abort + AllocGlobal>(rt: &R, picture: &Picture, y: i32, stripes: Stripes) {
     let (one, two) = stripes;
-    let runs = striped_runs(rt.alloc(), y, stripes).expect(rt, "there is room for the runs");
+    let runs = runs_of_stripes(rt.alloc(), y, stripes).expect(rt, "there is room for the runs");
     assert_all_runs(rt, runs.len(), picture, &runs);
     assert_total(rt, picture, 4095 * (i64::from(one) + i64::from(two)));
     let pixels = [
@@ -77,7 +77,10 @@ const SUMS: [(Stripes, Stripes); 7] = [
 
 /// Asserts the sum of two such rows, whichever is added to the other.
 fn assert_stripes_added<R: Abort + AllocGlobal>(rt: &R, y: i32, left: Stripes, right: Stripes) {
-    let (one, other) = (striped(rt, y, left), striped(rt, y, right));
+    let (one, other) = (
+        picture_of_stripes(rt, y, left),
+        picture_of_stripes(rt, y, right),
+    );
     let stripes = (left.0.wrapping_add(right.0), left.1.wrapping_add(right.1));
     let sum = sum_of(rt.alloc(), &one, &other).expect(rt, "the sum is made");
     assert_striped(rt, &sum, y, stripes);
@@ -94,13 +97,13 @@ fn rows_of_all_edges_are_added(rt: HostRuntime) {
 }
 
 /// The runs of such a row after a turn: a column of single pixels, from the top down.
-fn turned_runs(alloc: Global, y: i32, (one, two): Stripes) -> Result<Vec<Run>, OutOfMemory> {
+fn runs_of_turn(alloc: Global, y: i32, (one, two): Stripes) -> Result<Vec<Run>, OutOfMemory> {
     let mut runs = Vec::new(alloc);
     let x = (-1i32).wrapping_sub(y);
     let mut row = FIELD_END - 1;
     for _ in 0..4095 {
-        push_pixel(&mut runs, x, row, two)?;
-        push_pixel(&mut runs, x, row.wrapping_sub(1), one)?;
+        push_pixel_run(&mut runs, x, row, two)?;
+        push_pixel_run(&mut runs, x, row.wrapping_sub(1), one)?;
         row = row.wrapping_sub(2);
     }
     Ok(runs)
@@ -108,15 +111,15 @@ fn turned_runs(alloc: Global, y: i32, (one, two): Stripes) -> Result<Vec<Run>, O
 
 /// Asserts where such a row goes when it is reflected and turned.
 fn assert_stripes_moved<R: Abort + AllocGlobal>(rt: &R, y: i32, stripes: Stripes) {
-    let picture = striped(rt, y, stripes);
+    let picture = picture_of_stripes(rt, y, stripes);
     let opposite = (-1i32).wrapping_sub(y);
     let swapped = (stripes.1, stripes.0);
-    assert_striped(rt, &columns_mirrored(rt, &picture), y, swapped);
-    assert_striped(rt, &rows_mirrored(rt, &picture), opposite, stripes);
-    let once = turned(rt, &picture, 1);
-    let runs = turned_runs(rt.alloc(), y, stripes).expect(rt, "there is room for the runs");
+    assert_striped(rt, &mirror_columns(rt, &picture), y, swapped);
+    assert_striped(rt, &mirror_rows(rt, &picture), opposite, stripes);
+    let once = turn(rt, &picture, 1);
+    let runs = runs_of_turn(rt.alloc(), y, stripes).expect(rt, "there is room for the runs");
     assert_all_runs(rt, 1, &once, &runs);
-    assert_striped(rt, &turned(rt, &once, 1), opposite, swapped);
+    assert_striped(rt, &turn(rt, &once, 1), opposite, swapped);
 }
 
 #[test]
@@ -130,9 +133,9 @@ fn rows_of_all_edges_are_moved(rt: HostRuntime) {
 fn assert_stripes_chosen<R: Abort + AllocGlobal>(rt: &R, choice: Choice, stripes: Stripes)
     requires { IsWeightMap (WeightMap.Choose choice) }
 {
-    let picture = striped(rt, -1, (1, 2));
+    let picture = picture_of_stripes(rt, -1, (1, 2));
     let new = picture.map_weights(rt.alloc(), &WeightMap::Choose(choice));
-    assert_striped(rt, &made(rt, new), -1, stripes);
+    assert_striped(rt, &expect_picture(rt, new), -1, stripes);
 }
 
 #[test]
@@ -172,7 +175,7 @@ fn push_teeth(runs: &mut Vec<Run>, (y, edges, last): Teeth) -> Result<(), OutOfM
 }
 
 /// The runs of rows.
-fn runs_of(alloc: Global, rows: &[Teeth]) -> Result<Vec<Run>, OutOfMemory> {
+fn runs_of_rows(alloc: Global, rows: &[Teeth]) -> Result<Vec<Run>, OutOfMemory> {
     let mut runs = Vec::new(alloc);
     for row in rows {
         push_teeth(&mut runs, *row)?;
@@ -182,12 +185,12 @@ fn runs_of(alloc: Global, rows: &[Teeth]) -> Result<Vec<Run>, OutOfMemory> {
 
 /// Both forms of the picture of rows.
 fn forms_of<R: Abort + AllocGlobal>(rt: &R, rows: &[Teeth]) -> (Picture, SlowPicture) {
-    let runs = runs_of(rt.alloc(), rows).expect(rt, "there is room for the runs");
+    let runs = runs_of_rows(rt.alloc(), rows).expect(rt, "there is room for the runs");
     both_forms(rt, &runs)
 }
 
 /// The sum of two slow forms, or their difference where the factor is -1.
-fn slow_sum(
+fn slow_sum_or_difference(
     alloc: Global,
     left: &SlowPicture,
     right: &SlowPicture,
@@ -219,16 +222,22 @@ fn assert_runs_of<R: Abort + AllocGlobal>(
 }
 
 /// Asserts the sum and the difference of two pictures.
-fn assert_pair<R: Abort + AllocGlobal>(
+fn assert_sum_and_difference<R: Abort + AllocGlobal>(
     rt: &R,
     (left, slow_left): &(Picture, SlowPicture),
     (right, slow_right): &(Picture, SlowPicture),
 ) {
-    let slow = slow_sum(rt.alloc(), slow_left, slow_right, 1).expect(rt, "there is room");
+    let slow = slow_sum_or_difference(rt.alloc(), slow_left, slow_right, 1).expect(
+        rt,
+        "there is room",
+    );
     let sum = sum_of(rt.alloc(), left, right).expect(rt, "the sum is made");
     assert_runs_of(rt, 0, &sum, &slow);
-    let slow = slow_sum(rt.alloc(), slow_left, slow_right, -1).expect(rt, "there is room");
-    let negative = made(rt, right.map_weights(rt.alloc(), &WeightMap::Negate));
+    let slow = slow_sum_or_difference(rt.alloc(), slow_left, slow_right, -1).expect(
+        rt,
+        "there is room",
+    );
+    let negative = expect_picture(rt, right.map_weights(rt.alloc(), &WeightMap::Negate));
     let sum = sum_of(rt.alloc(), left, &negative);
     assert_runs_of(rt, 1, &sum.expect(rt, "the sum is made"), &slow);
     let mut difference = copy_of(rt, left);
@@ -243,7 +252,7 @@ fn assert_with_all<R: Abort + AllocGlobal>(rt: &R, rows: &[Teeth]) {
     slow.assert_answers_of(rt, rows.len(), &picture);
     let forms = (picture, slow);
     for others in LISTS {
-        assert_pair(rt, &forms, &forms_of(rt, others));
+        assert_sum_and_difference(rt, &forms, &forms_of(rt, others));
     }
 }
 
@@ -255,7 +264,13 @@ fn rows_of_about_as_many_edges_as_a_band_keeps_are_added(rt: HostRuntime) {
 }
 
 /// Asserts that rows are moved rightly by a reflection.
-fn assert_moved(rt: &impl Abort, rows: &[Teeth], picture: &Picture, moved: &Picture, how: Move) {
+fn assert_rows_reflected(
+    rt: &impl Abort,
+    rows: &[Teeth],
+    picture: &Picture,
+    moved: &Picture,
+    how: Move,
+) {
     assert_total(rt, moved, picture.total());
     for (y, _, _) in rows {
         assert_row_moved(rt, (-1, *y), picture, moved, how);
@@ -266,10 +281,10 @@ fn assert_moved(rt: &impl Abort, rows: &[Teeth], picture: &Picture, moved: &Pict
 /// Asserts this of the reflections of rows.
 fn assert_all_moved<R: Abort + AllocGlobal>(rt: &R, rows: &[Teeth]) {
     let (picture, _) = forms_of(rt, rows);
-    let across = columns_mirrored(rt, &picture);
-    assert_moved(rt, rows, &picture, &across, Move::ColumnsMirrored);
-    let up = rows_mirrored(rt, &picture);
-    assert_moved(rt, rows, &picture, &up, Move::RowsMirrored);
+    let across = mirror_columns(rt, &picture);
+    assert_rows_reflected(rt, rows, &picture, &across, Move::ColumnsMirrored);
+    let up = mirror_rows(rt, &picture);
+    assert_rows_reflected(rt, rows, &picture, &up, Move::RowsMirrored);
 }
 
 #[test]
@@ -288,7 +303,10 @@ fn a_row_of_128_edges_grows_and_shrinks(rt: HostRuntime) {
     for (x, weight) in STEPS {
         let (pixel, slow_pixel) = both_forms(&rt, &[make_run(-1, x, 1, weight)]);
         assert_same(&rt, picture.add(rt.alloc(), &pixel), Ok(()), (x, weight));
-        slow = slow_sum(rt.alloc(), &slow, &slow_pixel, 1).expect(&rt, "there is room");
+        slow = slow_sum_or_difference(rt.alloc(), &slow, &slow_pixel, 1).expect(
+            &rt,
+            "there is room",
+        );
         slow.assert_answers_of(&rt, 0, &picture);
     }
 }

@@ -6,7 +6,9 @@ ghost use Rattle.mf_rows.specs.Moves.{PixelsStayInside};
 use super::chance::Chance;
 use super::generated::{ROWS, STARTS, random_picture};
 use super::slow::{SlowPicture, both_forms};
-use super::{assert_equality, assert_total, assert_weights, copy_of, made, make_run, picture_of};
+use super::{
+    assert_equality, assert_total, assert_weights, copy_of, expect_picture, make_run, picture_of,
+};
 use mf_base::OutOfMemory;
 use mf_edges::Stretch;
 use mf_rows::{Picture, Run};
@@ -73,43 +75,43 @@ fn assert_moved(rt: &impl Abort, start: i32, picture: &Picture, moved: &Picture,
 }
 
 /// A picture with its columns reflected.
-pub(super) fn columns_mirrored<R: Abort + AllocGlobal>(rt: &R, picture: &Picture) -> Picture {
-    made(rt, picture.mirror_columns(rt.alloc()))
+pub(super) fn mirror_columns<R: Abort + AllocGlobal>(rt: &R, picture: &Picture) -> Picture {
+    expect_picture(rt, picture.mirror_columns(rt.alloc()))
 }
 
 /// A picture with its rows reflected.
-pub(super) fn rows_mirrored<R: Abort + AllocGlobal>(rt: &R, picture: &Picture) -> Picture {
-    made(rt, picture.mirror_rows(rt.alloc()))
+pub(super) fn mirror_rows<R: Abort + AllocGlobal>(rt: &R, picture: &Picture) -> Picture {
+    expect_picture(rt, picture.mirror_rows(rt.alloc()))
 }
 
 /// A picture turned `times` times.
-pub(super) fn turned<R: Abort + AllocGlobal>(rt: &R, picture: &Picture, times: u32) -> Picture {
+pub(super) fn turn<R: Abort + AllocGlobal>(rt: &R, picture: &Picture, times: u32) -> Picture {
     let mut turned = copy_of(rt, picture);
     for _ in 0..times {
-        turned = made(rt, turned.turn(rt.alloc()));
+        turned = expect_picture(rt, turned.turn(rt.alloc()));
     }
     turned
 }
 
 /// Asserts that a picture is reflected rightly, and that a second reflection undoes the first.
 fn assert_reflected<R: Abort + AllocGlobal>(rt: &R, start: i32, picture: &Picture) {
-    let across = columns_mirrored(rt, picture);
+    let across = mirror_columns(rt, picture);
     assert_moved(rt, start, picture, &across, Move::ColumnsMirrored);
-    let up = rows_mirrored(rt, picture);
+    let up = mirror_rows(rt, picture);
     assert_moved(rt, start, picture, &up, Move::RowsMirrored);
-    let back = columns_mirrored(rt, &across);
+    let back = mirror_columns(rt, &across);
     assert_equality(rt, &back, picture, true, "columns");
-    let back = rows_mirrored(rt, &up);
+    let back = mirror_rows(rt, &up);
     assert_equality(rt, &back, picture, true, "rows");
 }
 
 /// Asserts that a picture is turned rightly, and that four turns leave it as before.
 fn assert_turned<R: Abort + AllocGlobal>(rt: &R, start: i32, picture: &Picture) {
-    let once = turned(rt, picture, 1);
+    let once = turn(rt, picture, 1);
     assert_moved(rt, start, picture, &once, Move::TurnedOnce);
-    let twice = turned(rt, &once, 1);
+    let twice = turn(rt, &once, 1);
     assert_moved(rt, start, picture, &twice, Move::TurnedTwice);
-    let again = turned(rt, &twice, 2);
+    let again = turn(rt, &twice, 2);
     assert_equality(rt, &again, picture, true, "four turns");
 }
 
@@ -143,7 +145,7 @@ fn turning_four_times_changes_nothing(rt: HostRuntime) {
 
 /// Asserts that the picture of these runs is turned into that of the others.
 fn assert_turns_to<R: Abort + AllocGlobal>(rt: &R, runs: &[Run], others: &[Run], case: &str) {
-    let turned = turned(rt, &picture_of(rt, runs), 1);
+    let turned = turn(rt, &picture_of(rt, runs), 1);
     assert_equality(rt, &turned, &picture_of(rt, others), true, case);
 }
 
@@ -168,7 +170,11 @@ fn an_l_is_turned(rt: HostRuntime) {
 }
 
 /// Adds up to two random runs in a row.
-fn push_runs(chance: &mut Chance, runs: &mut Vec<Run>, y: i32) -> Result<(), OutOfMemory> {
+fn push_runs_in_the_middle(
+    chance: &mut Chance,
+    runs: &mut Vec<Run>,
+    y: i32,
+) -> Result<(), OutOfMemory> {
     let mut x = -SIDE;
     for _ in 0..chance.below(3) {
         x = x.wrapping_add(chance.below(5) as i32);
@@ -184,7 +190,7 @@ fn runs_near_the_middle(alloc: Global, seed: u32) -> Result<Vec<Run>, OutOfMemor
     let mut chance = Chance::new(seed);
     let mut runs = Vec::new(alloc);
     for y in (-SIDE..SIDE).rev() {
-        push_runs(&mut chance, &mut runs, y)?;
+        push_runs_in_the_middle(&mut chance, &mut runs, y)?;
     }
     Ok(runs)
 }
@@ -197,7 +203,7 @@ fn first_of(stretch: &Stretch, place: i32) -> i32 {
 }
 
 /// Adds the pixels of a row, stretched to the row `new_y`.
-fn push_stretched(
+fn push_stretch(
     stretched: &mut SlowPicture,
     slow: &SlowPicture,
     y: i32,
@@ -215,7 +221,7 @@ fn push_stretched(
 }
 
 /// The slow form of a stretched picture: each pixel becomes a rectangle.
-fn slow_stretched(
+fn slow_stretch(
     alloc: Global,
     slow: &SlowPicture,
     columns: &Stretch,
@@ -225,7 +231,7 @@ fn slow_stretched(
     for y in (-SIDE..SIDE).rev() {
         for up in (0..rows.factor).rev() {
             let new_y = first_of(rows, y).wrapping_add(up);
-            push_stretched(&mut stretched, slow, y, new_y, columns)?;
+            push_stretch(&mut stretched, slow, y, new_y, columns)?;
         }
     }
     Ok(stretched)
@@ -277,8 +283,8 @@ fn assert_stretched<R: Abort + AllocGlobal>(
     rows: &Stretch,
 ) {
     assert_stays_inside(rt, picture, columns, rows);
-    let stretched = made(rt, picture.stretch(rt.alloc(), columns, rows));
-    let slow = slow_stretched(rt.alloc(), slow, columns, rows);
+    let stretched = expect_picture(rt, picture.stretch(rt.alloc(), columns, rows));
+    let slow = slow_stretch(rt.alloc(), slow, columns, rows);
     slow.expect(rt, "there is room for the pixels")
         .assert_answers_of(rt, seed as usize, &stretched);
 }

@@ -125,7 +125,7 @@ impl Drawing {
     }
 
     /// The same picture, made from its runs, with no contour apart.
-    pub(crate) fn settled<R: Abort + AllocGlobal>(&self, rt: &R) -> Picture {
+    pub(crate) fn picture_of_runs<R: Abort + AllocGlobal>(&self, rt: &R) -> Picture {
         let runs = self.slow(rt).runs(rt.alloc());
         picture_of(rt, &runs.expect(rt, "there is room for the runs"))
     }
@@ -150,7 +150,7 @@ impl Drawing {
 }
 
 /// Asserts that a picture to which these combs are added, one after another, answers like its slow form after each.
-fn assert_drawn<R: Abort + AllocGlobal>(rt: &R, combs: &[Comb]) {
+fn assert_drawing<R: Abort + AllocGlobal>(rt: &R, combs: &[Comb]) {
     let mut drawing = Drawing::blank(rt);
     for (case, comb) in combs.iter().enumerate() {
         drawing.draw(rt, comb);
@@ -179,14 +179,14 @@ const ON_LONG: [Comb; 10] = [
 
 #[test]
 fn contours_are_added_to_long_rows(rt: HostRuntime) {
-    assert_drawn(&rt, &ON_LONG);
+    assert_drawing(&rt, &ON_LONG);
 }
 
 /// The long rows have 720 edges. The contour apart from them has 90, all of them in columns where the long rows have one, too.
 #[test]
 fn counts_the_edges_of_contours_apart(rt: HostRuntime) {
     let drawing = Drawing::of(&rt, &[ON_LONG[0], ON_LONG[1]]);
-    let settled = drawing.settled(&rt);
+    let settled = drawing.picture_of_runs(&rt);
     assert_same(&rt, drawing.picture.edge_count(), 810, "edges of both");
     assert_same(&rt, settled.edge_count(), 720, "edges of the sum");
 }
@@ -204,7 +204,7 @@ const BECOME_LONG: [Comb; 6] = [
 
 #[test]
 fn rows_become_long(rt: HostRuntime) {
-    assert_drawn(&rt, &BECOME_LONG);
+    assert_drawing(&rt, &BECOME_LONG);
 }
 
 /// A contour of forty short rows, which has too many edges to stay apart. After it, the rows have few edges on average.
@@ -217,7 +217,7 @@ const BECOME_SHORT: [Comb; 4] = [
 
 #[test]
 fn long_rows_become_few(rt: HostRuntime) {
-    assert_drawn(&rt, &BECOME_SHORT);
+    assert_drawing(&rt, &BECOME_SHORT);
 }
 
 /// Contours with a row of 140 edges, which has a list of its own like each of the long rows. The first one of them stays apart, on a short
@@ -233,7 +233,7 @@ const OWN_LISTS: [Comb; 5] = [
 
 #[test]
 fn contours_have_long_rows(rt: HostRuntime) {
-    assert_drawn(&rt, &OWN_LISTS);
+    assert_drawing(&rt, &OWN_LISTS);
 }
 
 /// Contours that cancel long rows, one after another, until nothing is left. None of them stays apart: each has 240 edges.
@@ -246,7 +246,7 @@ const CANCELLED: [Comb; 4] = [
 
 #[test]
 fn contours_cancel_long_rows(rt: HostRuntime) {
-    assert_drawn(&rt, &CANCELLED);
+    assert_drawing(&rt, &CANCELLED);
 }
 
 /// Long rows and contours apart from them. The first two contours reach long rows and change or cancel their edges; row 0 has none of

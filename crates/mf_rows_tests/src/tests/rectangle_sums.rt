@@ -1,7 +1,7 @@
 //! Rectangles that are added together, compared with their slow form.
 
 use super::chance::Chance;
-use super::rectangles::{Rectangle, at_once, make_rectangle, negated, one_by_one, weight_of_all};
+use super::rectangles::{Rectangle, at_once, make_rectangle, negate, one_by_one, weight_of_all};
 use super::slow::SlowPicture;
 use mf_base::OutOfMemory;
 use std::alloc::Global;
@@ -37,7 +37,11 @@ pub(super) fn slow_form_of(
 
 /// Asserts that rectangles make the picture of their slow form, both when added at once and when added one after
 /// another.
-pub(super) fn assert_sum<R: Abort + AllocGlobal>(rt: &R, case: usize, rectangles: &[Rectangle]) {
+pub(super) fn assert_sum_of_rectangles<R: Abort + AllocGlobal>(
+    rt: &R,
+    case: usize,
+    rectangles: &[Rectangle],
+) {
     let slow = slow_form_of(rt.alloc(), rectangles).expect(rt, "there is room for the pixels");
     slow.assert_answers_of(rt, case, &at_once(rt, rectangles));
     slow.assert_answers_of(rt, case, &one_by_one(rt, rectangles));
@@ -55,14 +59,14 @@ fn assert_sum_with<R: Abort + AllocGlobal>(
         .expect(rt, "there is room for the rectangles");
     all.push(last)
         .expect(rt, "there is room for the last rectangle");
-    assert_sum(rt, case, &all);
+    assert_sum_of_rectangles(rt, case, &all);
 }
 
 /// Asserts the same of the first rectangles with each of the others, and with each of the others negated.
 fn assert_sums<R: Abort + AllocGlobal>(rt: &R, first: &[Rectangle], others: &[Rectangle]) {
     for (case, other) in others.iter().enumerate() {
         assert_sum_with(rt, case, first, *other);
-        assert_sum_with(rt, case, first, negated(*other));
+        assert_sum_with(rt, case, first, negate(*other));
     }
 }
 
@@ -93,7 +97,7 @@ fn random_rectangles(alloc: Global, seed: u32) -> Result<Vec<Rectangle>, OutOfMe
 fn assert_random_sums<R: Abort + AllocGlobal>(rt: &R) {
     for seed in 0..LISTS {
         let rectangles = random_rectangles(rt.alloc(), seed);
-        assert_sum(
+        assert_sum_of_rectangles(
             rt,
             seed as usize,
             &rectangles.expect(rt, "there is room for the rectangles"),

@@ -35,7 +35,7 @@ pub(crate) fn make_rectangle(
     }
 }
 
-pub(super) fn negated(rectangle: Rectangle) -> Rectangle {
+pub(super) fn negate(rectangle: Rectangle) -> Rectangle {
     Rectangle {
         weight: rectangle.weight.wrapping_neg(),
         ..rectangle

@@ -1,7 +1,7 @@
 //! The slow form of a picture: the list of its pixels. Its answers are worked out pixel by pixel, and tests compare
 //! those of pictures with them.
 
-use super::{assert_equality, assert_runs_in, made};
+use super::{assert_equality, assert_runs_in, expect_picture};
 use crate::tests::assertions::assert_same;
 use mf_base::OutOfMemory;
 use mf_rows::{Box4, Picture, RowBuilder, Run};
@@ -38,7 +38,7 @@ impl Pixel {
     }
 
     /// The least box round a box, if there is one, and this pixel.
-    fn widened(&self, bounds: Option<Box4>) -> Box4 {
+    fn widen(&self, bounds: Option<Box4>) -> Box4 {
         let bounds = bounds.unwrap_or(Box4 {
             min_x: self.x,
             max_x: self.x,
@@ -112,7 +112,7 @@ impl SlowPicture {
     pub(crate) fn bounds(&self) -> Option<Box4> {
         let mut bounds = None;
         for pixel in &self.pixels {
-            bounds = Some(pixel.widened(bounds));
+            bounds = Some(pixel.widen(bounds));
         }
         bounds
     }
@@ -122,7 +122,7 @@ impl SlowPicture {
         let mut bounds = None;
         for pixel in &self.pixels {
             if pixel.weight > 0 {
-                bounds = Some(pixel.widened(bounds));
+                bounds = Some(pixel.widen(bounds));
             }
         }
         bounds
@@ -232,7 +232,7 @@ fn picture_of_pixels<R: Abort + AllocGlobal>(rt: &R, pixels: &[Pixel]) -> Pictur
     for pixel in pixels {
         push_if_it_fits(rt, &mut builder, pixel.as_run());
     }
-    made(rt, builder.finish())
+    expect_picture(rt, builder.finish())
 }
 
 /// Pushes a run on a builder if it fits. Answers whether it does.
@@ -258,5 +258,5 @@ pub(crate) fn both_forms<R: Abort + AllocGlobal>(rt: &R, runs: &[Run]) -> (Pictu
             slow.push_run(run).expect(rt, "there is room for pixels");
         }
     }
-    (made(rt, builder.finish()), slow)
+    (expect_picture(rt, builder.finish()), slow)
 }

@@ -5,7 +5,7 @@ ghost use Rattle.mf_edges.specs.WeightMaps.{IsWeightMap};
 
 use super::generated::{ROWS, SMALL_WEIGHTS, STARTS, WEIGHTS, forms_of_weights, random_forms};
 use super::slow::SlowPicture;
-use super::{assert_equality, assert_total, made, sum_of};
+use super::{assert_equality, assert_total, expect_picture, sum_of};
 use crate::tests::assertions::{assert_holds, assert_same};
 use mf_base::OutOfMemory;
 use mf_edges::{Choice, WeightMap};
@@ -57,7 +57,7 @@ fn assert_sum<R: Abort + AllocGlobal>(
 
 /// Asserts that two random pictures, whose rows begin at this column, have the sum of their slow forms, whichever of
 /// them is added to the other. Answers whether there is a sum.
-fn assert_pair<R: Abort + AllocGlobal>(rt: &R, start: i32, seed: u32) -> bool {
+fn assert_random_pair<R: Abort + AllocGlobal>(rt: &R, start: i32, seed: u32) -> bool {
     // Nearly all sums of large weights are refused, so most pairs have small ones.
     let weights = if seed % 4 == 0 {
         WEIGHTS
@@ -80,7 +80,7 @@ fn count_sums<R: Abort + AllocGlobal>(rt: &R) -> (u32, u32) {
     let (mut sums, mut refusals) = (0u32, 0u32);
     for start in STARTS {
         for seed in 0..PAIRS {
-            if assert_pair(rt, start, seed) {
+            if assert_random_pair(rt, start, seed) {
                 sums = sums.wrapping_add(1);
             } else {
                 refusals = refusals.wrapping_add(1);
@@ -99,7 +99,7 @@ fn sums_are_those_of_their_slow_forms(rt: HostRuntime) {
 
 /// Asserts that a picture and its negated one cancel, and that a picture that is subtracted from the blank one becomes this.
 fn assert_negated<R: Abort + AllocGlobal>(rt: &R, picture: &Picture, slow: &SlowPicture) {
-    let negated = made(rt, picture.map_weights(rt.alloc(), &WeightMap::Negate));
+    let negated = expect_picture(rt, picture.map_weights(rt.alloc(), &WeightMap::Negate));
     assert_total(rt, &negated, slow.total().wrapping_neg());
     let mut difference = Picture::blank(rt.alloc());
     let subtracted = difference.subtract(rt.alloc(), picture);
@@ -129,7 +129,7 @@ fn negated_pictures_cancel(rt: HostRuntime) {
 }
 
 /// The slow form after each of its weights is chosen.
-fn slow_chosen(
+fn slow_choose(
     alloc: Global,
     slow: &SlowPicture,
     choice: &Choice,
@@ -155,11 +155,11 @@ fn assert_chosen<R: Abort + AllocGlobal>(rt: &R, choice: Choice)
 {
     for seed in 0..PAIRS {
         let (picture, slow) = random_forms(rt, seed, -9);
-        let chosen = slow_chosen(rt.alloc(), &slow, &choice).expect(
+        let chosen = slow_choose(rt.alloc(), &slow, &choice).expect(
             rt,
             "there is room for the pixels",
         );
-        let new = made(
+        let new = expect_picture(
             rt,
             picture.map_weights(rt.alloc(), &WeightMap::Choose(choice)),
         );

@@ -2,7 +2,7 @@
 
 use super::APART;
 use crate::tests::runs::assert_fits;
-use crate::tests::{assert_runs, assert_weights, builder_of, made, push_all};
+use crate::tests::{assert_runs, assert_weights, builder_of, expect_picture, push_all};
 use mf_base::OutOfMemory;
 use mf_rows::{RowBuilder, Run};
 use mf_testing::{grow_again, refuse_growths};
@@ -104,7 +104,7 @@ const TOUCHING: Push = Push {
 };
 
 /// Pushes a run, which must fit, while allocations fail.
-fn push_refused<R: Abort + AllocGlobal>(
+fn push_while_refused<R: Abort + AllocGlobal>(
     rt: &R,
     builder: &mut RowBuilder,
     run: Run,
@@ -127,23 +127,23 @@ fn assert_fits_as_before(rt: &impl Abort, builder: &RowBuilder, push: &Push) {
 fn assert_pushed<R: Abort + AllocGlobal>(rt: &R, push: &Push) {
     let mut builder = builder_of(rt, push.before);
     assert_fits_as_before(rt, &builder, push);
-    if push_refused(rt, &mut builder, push.run).is_err() {
+    if push_while_refused(rt, &mut builder, push.run).is_err() {
         assert_fits_as_before(rt, &builder, push);
         push_all(rt, &mut builder, &[push.run]);
     }
     push_all(rt, &mut builder, push.after);
-    assert_runs(rt, &made(rt, builder.finish()), push.all);
+    assert_runs(rt, &expect_picture(rt, builder.finish()), push.all);
 }
 
 /// Asserts that a builder that refused the run makes the picture without it. If one edge of the run stayed alone, it
 /// would be in no run, but would show in the weight of the run's pixels.
 fn assert_left_out<R: Abort + AllocGlobal>(rt: &R, push: &Push) {
     let mut builder = builder_of(rt, push.before);
-    let (runs, weight) = match push_refused(rt, &mut builder, push.run) {
+    let (runs, weight) = match push_while_refused(rt, &mut builder, push.run) {
         Ok(()) => (push.all, push.run.weight),
         Err(_) => (push.before, 0),
     };
-    let picture = made(rt, builder.finish());
+    let picture = expect_picture(rt, builder.finish());
     assert_runs(rt, &picture, runs);
     assert_weights(rt, &picture, &[(push.run.x, push.run.y, weight)]);
 }
@@ -193,7 +193,7 @@ fn assert_finished<R: Abort + AllocGlobal>(rt: &R, runs: &[Run]) {
     let picture = builder.finish();
     grow_again(rt.alloc());
     let picture = picture.or_else(|_| builder_of(rt, runs).finish());
-    assert_runs(rt, &made(rt, picture), runs);
+    assert_runs(rt, &expect_picture(rt, picture), runs);
 }
 
 #[test]

@@ -3,7 +3,7 @@
 use super::APART;
 use crate::tests::derived::Derived;
 use crate::tests::moves::assert_stays_inside;
-use crate::tests::{assert_runs, made, picture_of};
+use crate::tests::{assert_runs, expect_picture, picture_of};
 use mf_edges::Stretch;
 use mf_rows::Run;
 use mf_testing::{grow_again, refuse_growths};
@@ -16,7 +16,7 @@ fn assert_makes<R: Abort + AllocGlobal>(rt: &R, what: Derived, runs: &[Run]) {
     let new = what.of(rt.alloc(), &picture);
     grow_again(rt.alloc());
     assert_runs(rt, &picture, APART);
-    let new = made(rt, new.or_else(|_| what.of(rt.alloc(), &picture)));
+    let new = expect_picture(rt, new.or_else(|_| what.of(rt.alloc(), &picture)));
     assert_runs(rt, &new, runs);
     assert_runs(rt, &picture, APART);
 }
@@ -99,7 +99,7 @@ fn assert_stretches<R: Abort + AllocGlobal>(
     assert_runs(rt, &picture, APART);
     let new = match new {
         Ok(new) => new,
-        Err(_) => made(rt, picture.stretch(rt.alloc(), columns, rows)),
+        Err(_) => expect_picture(rt, picture.stretch(rt.alloc(), columns, rows)),
     };
     assert_runs(rt, &new, runs);
     assert_runs(rt, &picture, APART);

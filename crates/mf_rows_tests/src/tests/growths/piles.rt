@@ -3,13 +3,13 @@
 use crate::tests::assertions::{assert_holds, assert_same};
 use crate::tests::derived::Derived;
 use crate::tests::piles::{APART, Comb, Drawing, LAST, MANY_APART, OTHERS};
-use crate::tests::{assert_equality, made};
+use crate::tests::{assert_equality, expect_picture};
 use mf_rows::AddFault;
 use mf_testing::{grow_again, refuse_growths};
 use std::process::Abort;
 
 /// Asserts that a contour is added to a picture of combs, or refused and then added again.
-fn assert_drawn<R: Abort + AllocGlobal>(rt: &R, combs: &[Comb], last: &Comb) {
+fn assert_contour_added<R: Abort + AllocGlobal>(rt: &R, combs: &[Comb], last: &Comb) {
     let mut drawing = Drawing::of(rt, combs);
     let corners = last.corners(rt).expect(rt, "there is room for corners");
     refuse_growths(rt.alloc());
@@ -29,13 +29,13 @@ fn assert_drawn<R: Abort + AllocGlobal>(rt: &R, combs: &[Comb], last: &Comb) {
 /// The contour is kept apart.
 #[test]
 fn a_contour_is_added_apart(rt: HostRuntime) {
-    assert_drawn(&rt, &APART, &LAST);
+    assert_contour_added(&rt, &APART, &LAST);
 }
 
 /// The contours that are apart leave too little room for this one, so all of them are added to the long rows.
 #[test]
 fn contours_are_added_to_long_rows(rt: HostRuntime) {
-    assert_drawn(&rt, &MANY_APART, &LAST);
+    assert_contour_added(&rt, &MANY_APART, &LAST);
 }
 
 /// Where an allocation fails, nothing is refused: contours stay apart.
@@ -51,7 +51,7 @@ fn a_picture_is_settled(rt: HostRuntime) {
 }
 
 /// Asserts that the second picture of combs is added to the first one, or refused and then added again. The second one stays as it is.
-fn assert_added<R: Abort + AllocGlobal>(rt: &R, combs: &[Comb], others: &[Comb]) {
+fn assert_combs_added<R: Abort + AllocGlobal>(rt: &R, combs: &[Comb], others: &[Comb]) {
     let (mut drawing, other) = (Drawing::of(rt, combs), Drawing::of(rt, others));
     refuse_growths(rt.alloc());
     let added = drawing.picture.add(rt.alloc(), &other.picture);
@@ -71,33 +71,33 @@ fn assert_added<R: Abort + AllocGlobal>(rt: &R, combs: &[Comb], others: &[Comb])
 
 #[test]
 fn pictures_with_contours_apart_are_added(rt: HostRuntime) {
-    assert_added(&rt, &APART, &OTHERS);
+    assert_combs_added(&rt, &APART, &OTHERS);
 }
 
 /// Asserts what is made from a picture with contours apart while allocations fail, and that this one stays as it is.
-fn assert_makes<R: Abort + AllocGlobal>(rt: &R, what: Derived) {
+fn assert_makes_apart<R: Abort + AllocGlobal>(rt: &R, what: Derived) {
     let drawing = Drawing::of(rt, &APART);
-    let expected = made(rt, what.of(rt.alloc(), &drawing.settled(rt)));
+    let expected = expect_picture(rt, what.of(rt.alloc(), &drawing.picture_of_runs(rt)));
     refuse_growths(rt.alloc());
     let new = what.of(rt.alloc(), &drawing.picture);
     grow_again(rt.alloc());
     drawing.assert_answers(rt, 0);
-    let new = made(rt, new.or_else(|_| what.of(rt.alloc(), &drawing.picture)));
+    let new = expect_picture(rt, new.or_else(|_| what.of(rt.alloc(), &drawing.picture)));
     assert_equality(rt, &new, &expected, true, what);
     drawing.assert_answers(rt, 1);
 }
 
 #[test]
 fn a_picture_with_contours_apart_is_copied(rt: HostRuntime) {
-    assert_makes(&rt, Derived::Copy);
+    assert_makes_apart(&rt, Derived::Copy);
 }
 
 #[test]
 fn weights_with_contours_apart_are_chosen(rt: HostRuntime) {
-    assert_makes(&rt, Derived::Chosen);
+    assert_makes_apart(&rt, Derived::Chosen);
 }
 
 #[test]
 fn contours_apart_are_mirrored(rt: HostRuntime) {
-    assert_makes(&rt, Derived::RowsMirrored);
+    assert_makes_apart(&rt, Derived::RowsMirrored);
 }

@@ -5,7 +5,7 @@ use crate::tests::assertions::assert_same;
 use crate::tests::derived::Derived;
 use crate::tests::moves::{assert_stays_inside, stretch};
 use crate::tests::rectangles::make_rectangle;
-use crate::tests::{assert_equality, made, make_run, picture_of};
+use crate::tests::{assert_equality, expect_picture, make_run, picture_of};
 use mf_edges::Stretch;
 use mf_rows::{AddFault, Picture};
 use std::process::Abort;
@@ -22,13 +22,13 @@ const REST: [Comb; 3] = [
 
 /// The picture in which those teeth are left: a sum, which has its rows in the place of long ones, since one of the two pictures does. As
 /// many edges may be kept apart from them as from those of either picture: 192.
-fn mostly_cancelled<R: Abort + AllocGlobal>(rt: &R) -> Drawing {
+fn little_left<R: Abort + AllocGlobal>(rt: &R) -> Drawing {
     Drawing::of(rt, &[LONG]).with(rt, &Drawing::of(rt, &[MOST]))
 }
 
 /// A picture of which nothing is left. The contours that cancel the last teeth have 180 edges, so they stay apart.
-fn cancelled<R: Abort + AllocGlobal>(rt: &R) -> Drawing {
-    let mut drawing = mostly_cancelled(rt);
+fn nothing_left<R: Abort + AllocGlobal>(rt: &R) -> Drawing {
+    let mut drawing = little_left(rt);
     for comb in &REST {
         drawing.draw(rt, comb);
     }
@@ -37,7 +37,7 @@ fn cancelled<R: Abort + AllocGlobal>(rt: &R) -> Drawing {
 
 #[test]
 fn contours_apart_cancel_rows(rt: HostRuntime) {
-    let mut drawing = mostly_cancelled(&rt);
+    let mut drawing = little_left(&rt);
     drawing.assert_answers(&rt, 0);
     for (case, comb) in REST.iter().enumerate() {
         drawing.draw(&rt, comb);
@@ -48,8 +48,8 @@ fn contours_apart_cancel_rows(rt: HostRuntime) {
 /// Asserts that what is made from a picture is what is made from another one, which has the same weights.
 fn assert_makes_equal<R: Abort + AllocGlobal>(rt: &R, picture: &Picture, other: &Picture) {
     for how in Derived::ALL {
-        let one = made(rt, how.of(rt.alloc(), picture));
-        let same = made(rt, how.of(rt.alloc(), other));
+        let one = expect_picture(rt, how.of(rt.alloc(), picture));
+        let same = expect_picture(rt, how.of(rt.alloc(), other));
         assert_equality(rt, &one, &same, true, how);
     }
 }
@@ -57,19 +57,19 @@ fn assert_makes_equal<R: Abort + AllocGlobal>(rt: &R, picture: &Picture, other: 
 #[test]
 fn pictures_are_made_from_contours_apart(rt: HostRuntime) {
     let drawing = Drawing::of(&rt, &APART);
-    assert_makes_equal(&rt, &drawing.picture, &drawing.settled(&rt));
+    assert_makes_equal(&rt, &drawing.picture, &drawing.picture_of_runs(&rt));
     drawing.assert_answers(&rt, 0);
 }
 
 #[test]
 fn pictures_are_made_from_nothing_that_is_left(rt: HostRuntime) {
-    let drawing = cancelled(&rt);
+    let drawing = nothing_left(&rt);
     assert_makes_equal(&rt, &drawing.picture, &Picture::blank(rt.alloc()));
     drawing.assert_answers(&rt, 0);
 }
 
 /// Asserts that a picture is stretched as another one, which has the same weights.
-fn assert_stretched<R: Abort + AllocGlobal>(
+fn assert_stretched_alike<R: Abort + AllocGlobal>(
     rt: &R,
     picture: &Picture,
     other: &Picture,
@@ -77,27 +77,27 @@ fn assert_stretched<R: Abort + AllocGlobal>(
     rows: &Stretch,
 ) {
     assert_stays_inside(rt, picture, columns, rows);
-    let one = made(rt, picture.stretch(rt.alloc(), columns, rows));
+    let one = expect_picture(rt, picture.stretch(rt.alloc(), columns, rows));
     assert_stays_inside(rt, other, columns, rows);
-    let same = made(rt, other.stretch(rt.alloc(), columns, rows));
+    let same = expect_picture(rt, other.stretch(rt.alloc(), columns, rows));
     assert_equality(rt, &one, &same, true, (*columns, *rows));
 }
 
 #[test]
 fn contours_apart_are_stretched(rt: HostRuntime) {
     let drawing = Drawing::of(&rt, &APART);
-    let settled = drawing.settled(&rt);
+    let settled = drawing.picture_of_runs(&rt);
     for (columns, rows) in [
         (stretch(3, -1), stretch(2, 5)),
         (stretch(1, 0), stretch(1, -7)),
     ] {
-        assert_stretched(&rt, &drawing.picture, &settled, &columns, &rows);
+        assert_stretched_alike(&rt, &drawing.picture, &settled, &columns, &rows);
     }
     drawing.assert_answers(&rt, 0);
 }
 
 /// Asserts the sum of two pictures, to which a contour is added then. Neither of the two changes.
-fn assert_added<R: Abort + AllocGlobal>(rt: &R, left: &Drawing, right: &Drawing) {
+fn assert_sum_and_contour<R: Abort + AllocGlobal>(rt: &R, left: &Drawing, right: &Drawing) {
     let mut sum = left.with(rt, right);
     sum.assert_answers(rt, 0);
     sum.draw(rt, &LAST);
@@ -109,21 +109,21 @@ fn assert_added<R: Abort + AllocGlobal>(rt: &R, left: &Drawing, right: &Drawing)
 #[test]
 fn contours_apart_are_added(rt: HostRuntime) {
     let (one, other) = (Drawing::of(&rt, &APART), Drawing::of(&rt, &OTHERS));
-    assert_added(&rt, &one, &other);
-    assert_added(&rt, &other, &one);
-    assert_added(&rt, &one, &one);
-    let none = cancelled(&rt);
-    assert_added(&rt, &one, &none);
-    assert_added(&rt, &none, &one);
+    assert_sum_and_contour(&rt, &one, &other);
+    assert_sum_and_contour(&rt, &other, &one);
+    assert_sum_and_contour(&rt, &one, &one);
+    let none = nothing_left(&rt);
+    assert_sum_and_contour(&rt, &one, &none);
+    assert_sum_and_contour(&rt, &none, &one);
 }
 
 #[test]
 fn contours_apart_are_added_to_settled_rows(rt: HostRuntime) {
     let one = Drawing::of(&rt, &APART);
     let mut other = Drawing::of(&rt, &OTHERS);
-    other.picture = other.settled(&rt);
-    assert_added(&rt, &one, &other);
-    assert_added(&rt, &other, &one);
+    other.picture = other.picture_of_runs(&rt);
+    assert_sum_and_contour(&rt, &one, &other);
+    assert_sum_and_contour(&rt, &other, &one);
 }
 
 /// Asserts that a picture stays as it is when it is settled, and that a contour is added to it after that.
@@ -142,7 +142,7 @@ fn pictures_are_settled(rt: HostRuntime) {
         let mut drawing = Drawing::of(&rt, combs);
         assert_settled(&rt, &mut drawing);
     }
-    let mut drawing = cancelled(&rt);
+    let mut drawing = nothing_left(&rt);
     assert_settled(&rt, &mut drawing);
 }
 
@@ -207,7 +207,7 @@ fn heavy<R: Abort + AllocGlobal>(rt: &R, weight: i32) -> Drawing {
         .rectangles
         .push(make_rectangle(-2, -2, -1, 1, weight))
         .expect(rt, "there is room for the column");
-    drawing.picture = drawing.settled(rt);
+    drawing.picture = drawing.picture_of_runs(rt);
     drawing
 }
 
