@@ -1,4 +1,4 @@
--- From the texts that clap's parsers accept to numbers and flags, and from these to what the typed getters give.
+-- From the texts that clap's parsers accept to numbers, and from these to what the typed getter gives.
 use Rattle.std.proofs.Common.{◌≡◌, ◌∙◌, ◌<◌, ◌≤◌, ◌^◌, ℕ, Bool, cond, IfSome, List, [], ◌∷◌, None, Ok, Err, Option}
 use Rattle.std.proofs.Common.{Result, Some, arith, drop, false, pos, refl, subst, sym, true, unwrap_or}
 use Rattle.std.proofs.lemmas.Bool.{ne_eqb}

@@ -8,7 +8,7 @@ pub seven_digits-padded : (n : ℕ) → padded_integral (format_spec 32 0 4 7 (2
 unfolding padded_integral char_count
 seven_digits-padded n = grind (arith, append-nil)
 
--- a path is laid out in this order
+-- the parts of a path, however they are grouped
 pub path-parts : (folder digits extension : List ℕ)
     → folder ++ (codes "/" ++ (digits ++ (codes "." ++ extension))) ≡ folder ++ codes "/" ++ digits ++ codes "." ++ extension
 path-parts folder digits extension = simp append_assoc
