@@ -50,12 +50,12 @@ locators_found words comment cs short fits =
     let numbers = post_text words (box_of_all cs) place in
     let after = bytes_after_post words comment cs in
     let file = file_of words comment cs in
-    let opcode : slice_index file place ≡ gf.post =
-    ap (λ bytes. slice_index bytes place) (file_of-parts words comment cs) ∙ get_or-append_seam characters gf.post _ 0 in
-    let rest : drop (place + gf.post_size) file ≡ after =
-    ap (drop (place + gf.post_size)) (file_of-parts words comment cs ∙ sym (append_assoc characters numbers after))
+    let opcode : slice_index file place ≡ 248 =
+    ap (λ bytes. slice_index bytes place) (file_of-parts words comment cs) ∙ get_or-append_seam characters 248 _ 0 in
+    let rest : drop (place + 37) file ≡ after =
+    ap (drop (place + 37)) (file_of-parts words comment cs ∙ sym (append_assoc characters numbers after))
     ∙ ap (λ n. drop n ((characters ++ numbers) ++ after)) (sym (length-append characters numbers)) ∙ drop-append_seam (characters ++ numbers) after in
     ap (option_and_then (λ at. locators_after at file)) (post_is_found words comment cs short)
-    ∙ cond-true (slice_index file place == gf.post) (locators_within (code_count + 1) (drop (place + gf.post_size) file)) None (eq-eqb _ _ opcode)
+    ∙ cond-true (slice_index file place == 248) (locators_within (code_count + 1) (drop (place + 37) file)) None (eq-eqb _ _ opcode)
     ∙ ap (locators_within (code_count + 1)) rest
     ∙ within-reads (shipments comment cs) fits place (length (body words comment cs)) 0 code_count (code_count + 1) (omega arith)

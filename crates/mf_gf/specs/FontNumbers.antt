@@ -1,5 +1,5 @@
 -- What a reader finds in a finished file besides its characters: the comment in the preamble, and what post says (The METAFONTbook,
--- Appendix G; gftype.web). The opcodes are numerals, so that the law does not rest on those of `Format`, which files are made with.
+-- Appendix G; gftype.web).
 use Rattle.std.specs.Prelude.{◌≡◌, ◌+◌, ◌-◌, ◌*◌, ◌==◌, ◌&&◌, ℕ, ℤ, ◌≤ℤ◌, All, Any, List, take, drop, slice_index, Option, None, Some, if◌then◌else◌}
 use Rattle.std.specs.Option.{option_and_then}
 use Rattle.mf_gf.specs.declared.boxes.CharacterBox.{CharacterBox}
@@ -11,7 +11,7 @@ use Rattle.mf_gf.specs.Pointers.{post_place}
 
 -- ---- the reader
 
--- the comment: before it come pre, the identification byte, and the length of the comment in one byte
+-- the comment: before it come pre (247), the identification byte (131), and the length of the comment in one byte
 unfoldable pub comment_of : List ℕ → Option (List ℕ)
 comment_of file = if slice_index file 0 == 247 && slice_index file 1 == 131 then Some (take (slice_index file 2) (drop 3 file)) else None
 
@@ -39,7 +39,7 @@ read_post bytes = record {
 abbrev pub post_at : ℕ → List ℕ → Option Post
 post_at place file = if slice_index file place == 248 then Some (read_post (drop place file)) else None
 
--- post, at the place that the end of the file names
+-- post (248), at the place that the end of the file names
 unfoldable pub post_of : List ℕ → Option Post
 post_of file = option_and_then (λ place. post_at place file) (post_place file)
 
@@ -49,7 +49,7 @@ post_of file = option_and_then (λ place. post_at place file) (post_place file)
 abbrev pub HasPost : List ℕ → (Post → Type 0) → Type 0
 HasPost file Says = (post : Post) × (post_of file ≡ Some post) × Says post
 
--- the byte before this place is eoc, which ends a character
+-- the byte before this place is eoc (69), which ends a character
 abbrev pub IsAfterEoc : List ℕ → ℕ → Type 0
 IsAfterEoc file place = slice_index file (place - 1) ≡ 69
 

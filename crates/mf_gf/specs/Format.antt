@@ -7,12 +7,9 @@ use Rattle.std.specs.Prelude.{ℕ}
 abbrev pub most_painted : ℕ
 most_painted = 63
 
--- paint1 paints as many pixels as its parameter of one byte says; paint2 and paint3 follow it, with two and three bytes
+-- paint1 paints as many pixels as its parameter of one byte says; paint2 follows it, with two bytes
 abbrev pub paint1 : ℕ
 paint1 = 64
-
-abbrev pub paint3 : ℕ
-paint3 = 66
 
 -- boc begins a character; boc1 is shorter
 abbrev pub boc : ℕ
@@ -25,15 +22,12 @@ boc1 = 68
 abbrev pub eoc : ℕ
 eoc = 69
 
--- skip0 skips no row; skip1 skips as many as its parameter of one byte says; skip2 and skip3 follow it, with two and three bytes
+-- skip0 skips no row; skip1 skips as many as its parameter of one byte says; skip2 follows it, with two bytes
 abbrev pub skip0 : ℕ
 skip0 = 70
 
 abbrev pub skip1 : ℕ
 skip1 = 71
-
-abbrev pub skip3 : ℕ
-skip3 = 73
 
 -- new_row_0 goes to the left end of the next row; the others follow it, up to new_row_164
 abbrev pub new_row_0 : ℕ
@@ -76,26 +70,9 @@ least_padding = 4
 abbrev pub most_padding : ℕ
 most_padding = 7
 
--- the number of bytes after the opcode in boc, boc1, char_loc and char_loc0
-abbrev pub boc_size : ℕ
-boc_size = 24
-
-abbrev pub boc1_size : ℕ
-boc1_size = 5
-
-abbrev pub char_loc_size : ℕ
-char_loc_size = 17
-
-abbrev pub char_loc0_size : ℕ
-char_loc0_size = 10
-
 -- the number of bytes in the ending before the padding
 abbrev pub ending_size : ℕ
 ending_size = 6
-
--- the number of bytes in the postamble before the locators
-abbrev pub post_size : ℕ
-post_size = 37
 
 -- one pixel in the units of an escapement (mf.web)
 abbrev pub unity : ℕ

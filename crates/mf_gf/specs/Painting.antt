@@ -1,12 +1,12 @@
 -- The painting machine: which pixels the bytes of a character make black (gftype.web; The METAFONTbook, Appendix G). It has the
--- commands that paint or move. A character with specials, or with commands that do nothing, is not read.
+-- commands that paint or move. A character with specials, or with commands that do nothing, is not read. The opcodes are numerals, as
+-- in `Pointers` and `FontNumbers`, so that the laws do not rest on those of `Format`, which files are made with.
 use Rattle.std.specs.Prelude.{◌==◌, ◌&&◌, ◌+◌, ◌-◌, ◌*◌, Bool, true, false, not, ℕ, zero, suc, nat_le, ℤ, pos, negsuc, ◌+ℤ◌, ◌-ℤ◌}
 use Rattle.std.specs.Prelude.{List, [], ◌∷◌, ◌++◌, length, drop, slice_index, Option, None, Some, option_map, if◌then◌else◌}
 use Rattle.byteorder.specs.Endian.{big_number}
 use Rattle.mf_rows.specs.Dots.{Dot}
 use Rattle.mf_rows.specs.Runs.{equal_dots}
 use Rattle.mf_gf.specs.declared.boxes.CharacterBox.{CharacterBox}
-use Rattle.mf_gf.specs.Format as gf
 use Rattle.mf_gf.specs.Numbers.{word_at, word_size}
 
 -- a painting command: paint k pixels, skip k rows and go to the one after them, or go to the next row at offset k
@@ -24,17 +24,17 @@ pub record Read : Type 0 where
 abbrev pub with_bytes : (ℕ → Stroke) → ℕ → List ℕ → Read
 with_bytes command n bytes = record { stroke = Some (command (big_number n bytes)); rest = drop n bytes }
 
--- the command with which the bytes start: paint_0 to paint_63, paint1 to paint3, eoc, skip0, skip1 to skip3, or new_row_0 to
--- new_row_164
+-- the command with which the bytes start: paint_0 to paint_63 (0 to 63), paint1 to paint3 (64 to 66), eoc (69), skip0 (70), skip1 to
+-- skip3 (71 to 73), or new_row_0 to new_row_164 (74 to 238)
 unfoldable pub read_stroke : List ℕ → Option Read
 read_stroke [] = None
 read_stroke (b ∷ bytes) =
-    if nat_le b gf.most_painted then Some (record { stroke = Some (Paint b); rest = bytes })
-    else (if nat_le b gf.paint3 then Some (with_bytes Paint (b - gf.most_painted) bytes)
-    else (if b == gf.eoc then Some (record { stroke = None; rest = bytes })
-    else (if b == gf.skip0 then Some (record { stroke = Some (Skip 0); rest = bytes })
-    else (if nat_le gf.skip1 b && nat_le b gf.skip3 then Some (with_bytes Skip (b - gf.skip0) bytes)
-    else (if nat_le gf.new_row_0 b && nat_le b (gf.new_row_0 + gf.most_new_row) then Some (record { stroke = Some (NewRow (b - gf.new_row_0)); rest = bytes })
+    if nat_le b 63 then Some (record { stroke = Some (Paint b); rest = bytes })
+    else (if nat_le b 66 then Some (with_bytes Paint (b - 63) bytes)
+    else (if b == 69 then Some (record { stroke = None; rest = bytes })
+    else (if b == 70 then Some (record { stroke = Some (Skip 0); rest = bytes })
+    else (if nat_le 71 b && nat_le b 73 then Some (with_bytes Skip (b - 70) bytes)
+    else (if nat_le 74 b && nat_le b 238 then Some (record { stroke = Some (NewRow (b - 74)); rest = bytes })
     else None)))))
 
 -- the end of a character, where no bytes come after it
@@ -90,7 +90,7 @@ pub record Head : Type 0 where
   pub earlier : ℤ
   pub box : CharacterBox
 
--- the head of boc1: the code, greatest less least m, greatest m, greatest less least n, and greatest n, one byte each; there is
+-- the head of boc1 (68): the code, greatest less least m, greatest m, greatest less least n, and greatest n, one byte each; there is
 -- no earlier character
 abbrev pub head_of_boc1 : List ℕ → Head
 head_of_boc1 bytes = record {
@@ -104,7 +104,7 @@ head_of_boc1 bytes = record {
   };
 }
 
--- the head of boc: the code, the place of the last earlier character with this code, and the least and greatest m and n, four
+-- the head of boc (67): the code, the place of the last earlier character with this code, and the least and greatest m and n, four
 -- bytes each
 abbrev pub head_of_boc : List ℕ → Head
 head_of_boc bytes = record {
@@ -121,7 +121,7 @@ head_of_boc bytes = record {
 -- the head of a character
 unfoldable pub head_of : List ℕ → Option Head
 head_of [] = None
-head_of (b ∷ bytes) = if b == gf.boc1 then Some (head_of_boc1 bytes) else (if b == gf.boc then Some (head_of_boc bytes) else None)
+head_of (b ∷ bytes) = if b == 68 then Some (head_of_boc1 bytes) else (if b == 67 then Some (head_of_boc bytes) else None)
 
 -- the pixels that commands make black, when they start at the left end and the top of a box
 abbrev pub pixels_from : ℤ → ℤ → List ℕ → Option (List Dot)
@@ -134,5 +134,5 @@ pixels_in b bytes = pixels_from b.min_m b.max_n bytes
 unfoldable pub pixels_of_character : List ℕ → Option (List Dot)
 pixels_of_character [] = None
 pixels_of_character (b ∷ bytes) =
-    if b == gf.boc1 then pixels_in (head_of_boc1 bytes).box (drop gf.boc1_size bytes)
-    else (if b == gf.boc then pixels_in (head_of_boc bytes).box (drop gf.boc_size bytes) else None)
+    if b == 68 then pixels_in (head_of_boc1 bytes).box (drop 5 bytes)
+    else (if b == 67 then pixels_in (head_of_boc bytes).box (drop 24 bytes) else None)

@@ -7,19 +7,18 @@ use Rattle.std.specs.Option.{option_and_then}
 use Rattle.mf_gf.specs.declared.locator.Locator.{Locator}
 use Rattle.mf_gf.specs.Boxes.{box_of_pixels}
 use Rattle.mf_gf.specs.Files.{Character, bytes_so_far}
-use Rattle.mf_gf.specs.Format as gf
 use Rattle.mf_gf.specs.Numbers.{IsWord, code_count, greatest_word, unsigned_at, word_at, word_size}
 use Rattle.mf_gf.specs.Painting.{head_of, pixels_of_character}
 use Rattle.mf_gf.specs.Pixels.{IsPixelSet}
 
 -- ---- the reader
 
--- the place of post: the four bytes before the identification byte, after which there is only padding; this list has the last
--- byte first
+-- the place of post: the four bytes before the identification byte (131), after which there is only padding (223); this list has the
+-- last byte first
 unfoldable pub post_place_back : List ℕ → Option ℕ
 post_place_back [] = None
 post_place_back (b ∷ bytes) =
-    if b == gf.padding_byte then post_place_back bytes else (if b == gf.id_byte then Some (unsigned_at 0 (reverse (take word_size bytes))) else None)
+    if b == 223 then post_place_back bytes else (if b == 131 then Some (unsigned_at 0 (reverse (take word_size bytes))) else None)
 
 abbrev pub post_place : List ℕ → Option ℕ
 post_place file = post_place_back (reverse file)
@@ -29,30 +28,30 @@ pub record Item : Type 0 where
   pub locator : Option Locator
   pub rest : List ℕ
 
--- char_loc has its code in one byte, and dx, dy, the width and the place in four bytes each; char_loc0 has its code and dx in
--- pixels in one byte each, and the width and the place in four; post_post begins the ending. (The reader ignores dy.)
+-- char_loc (245) has its code in one byte, and dx, dy, the width and the place in four bytes each; char_loc0 (246) has its code and dx
+-- in pixels in one byte each, and the width and the place in four; post_post (249) begins the ending. (The reader ignores dy.)
 unfoldable pub read_item : List ℕ → Option Item
 read_item [] = None
 read_item (b ∷ bytes) =
-    if b == gf.char_loc then Some (record {
+    if b == 245 then Some (record {
       locator = Some (record {
         code = slice_index bytes 0;
         dx = word_at 1 bytes;
         width = word_at (1 + 2 * word_size) bytes;
         place = unsigned_at (1 + 3 * word_size) bytes;
       });
-      rest = drop gf.char_loc_size bytes;
+      rest = drop 17 bytes;
     })
-    else (if b == gf.char_loc0 then Some (record {
+    else (if b == 246 then Some (record {
       locator = Some (record {
         code = slice_index bytes 0;
-        dx = pos (gf.unity * slice_index bytes 1);
+        dx = pos (65536 * slice_index bytes 1);
         width = word_at 2 bytes;
         place = unsigned_at (2 + word_size) bytes;
       });
-      rest = drop gf.char_loc0_size bytes;
+      rest = drop 10 bytes;
     })
-    else (if b == gf.post_post then Some (record { locator = None; rest = bytes }) else None))
+    else (if b == 249 then Some (record { locator = None; rest = bytes }) else None))
 
 -- the locators up to the ending, where the ending is one of the first n items
 unfoldable pub locators_within : ℕ → List ℕ → Option (List Locator)
@@ -65,9 +64,9 @@ locators_within (suc n) bytes = elim (read_item bytes) [
   ]
 ]
 
--- the locators after the numbers of post: one for each of at most as many codes as there are, and then the ending
+-- the locators after the numbers of post (248): one for each of at most as many codes as there are, and then the ending
 abbrev pub locators_after : ℕ → List ℕ → Option (List Locator)
-locators_after place file = if slice_index file place == gf.post then locators_within (code_count + 1) (drop (place + gf.post_size) file) else None
+locators_after place file = if slice_index file place == 248 then locators_within (code_count + 1) (drop (place + 37) file) else None
 
 abbrev pub locators_of : List ℕ → Option (List Locator)
 locators_of file = option_and_then (λ place. locators_after place file) (post_place file)
