@@ -8,11 +8,9 @@ use Rattle.mf_rows.proofs.DotsLemmas.{weight_at-before}
 use Rattle.mf_gf.specs.Pixels.{black}
 use Rattle.mf_gf.proofs.BlackDots.{black-from}
 
--- 1 where a weight is positive, else 0
-abbrev pub is_black : ℤ → ℤ
-is_black w = if int_lt (pos 0) w then pos 1 else pos 0
-
-pub black_at : (low : ℤ) (ds : List Dot) (x y : ℤ) → AreDotsFrom low ds → weight_at (black ds) x y ≡ is_black (weight_at ds x y)
+-- the weight is 1 where it was positive, else 0
+pub black_at : (low : ℤ) (ds : List Dot) (x y : ℤ) → AreDotsFrom low ds
+    → weight_at (black ds) x y ≡ (if int_lt (pos 0) (weight_at ds x y) then pos 1 else pos 0)
 unfolding black weight_at
 black_at low [] x y dots = refl
 black_at low (d ∷ ds) x y dots =

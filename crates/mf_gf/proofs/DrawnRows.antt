@@ -33,16 +33,14 @@ abbrev pub AreNext : ℤ → ℤ → ℤ → List Run → Type 0
 AreNext left row column [] = Unit {0}
 AreNext left row column (r ∷ rs) = IsNext left row column r × AreNext left r.y (r.x +ℤ pos r.len) rs
 
--- the machine at a row and column, in white or black
+-- the machine at a row and column, in white
 abbrev white_at : ℤ → ℤ → ℤ → Machine
 white_at left row column = record { row = row; column = column; left = left; is_black = false }
 
-abbrev black_at : ℤ → ℤ → ℤ → Machine
-black_at left row column = record { row = row; column = column; left = left; is_black = true }
-
 -- while it is black, the machine paints a run
 draws_run : (left y x : ℤ) (r : Run) (others : List Stroke) → y ≡ r.y → x ≡ r.x → r.weight ≡ pos 1
-    → pixels_of_strokes (black_at left y x) (Paint r.len ∷ others) ≡ dots_of r ++ pixels_of_strokes (white_at left r.y (r.x +ℤ pos r.len)) others
+    → pixels_of_strokes (record (white_at left y x) { is_black = true }) (Paint r.len ∷ others)
+    ≡ dots_of r ++ pixels_of_strokes (white_at left r.y (r.x +ℤ pos r.len)) others
 unfolding pixels_of_strokes dots_of
 draws_run left y x r others row column weight = rw (row, column, weight) refl
 

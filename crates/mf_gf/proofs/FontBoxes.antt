@@ -20,16 +20,16 @@ pub record FitsWords (b : CharacterBox) : Type 0 where
   pub bottom : IsWord b.min_n
   pub top : IsWord b.max_n
 
-box_fits : (c : Character) → IsShippable c → FitsWords (box_of_character c)
-box_fits c shippable =
+character_fits : (c : Character) → IsShippable c → FitsWords (box_of_character c)
+character_fits c shippable =
     let range = box_in_range c.black shippable.black.picture in
     omega (arith, ints, range.columns.0, range.columns.1, range.rows.0, range.rows.1)
 
 pub all_fit : (c : Character) (cs : List Character) → All IsShippable (c ∷ cs) → FitsWords (box_of_all (c ∷ cs))
 unfolding box_of_all
-all_fit c [] each = box_fits c (All-head IsShippable c [] each)
+all_fit c [] each = character_fits c (All-head IsShippable c [] each)
 all_fit c (d ∷ cs) each =
-    grind (arith, ints, either_min, either_max, box_fits c (All-head IsShippable c (d ∷ cs) each), all_fit d cs (All-tail IsShippable c (d ∷ cs) each))
+    grind (arith, ints, either_min, either_max, character_fits c (All-head IsShippable c (d ∷ cs) each), all_fit d cs (All-tail IsShippable c (d ∷ cs) each))
 
 -- ---- it is the least one around the boxes
 

@@ -21,8 +21,8 @@ split P false at_true at_false = at_false refl
 
 -- ---- one locator
 
--- a locator whose numbers fit into its bytes
-pub record IsReadable (l : Locator) : Type 0 where
+-- the numbers of a locator fit into its fields
+pub record FitsFields (l : Locator) : Type 0 where
   pub dx : IsWord l.dx
   pub width : IsWord l.width
   pub place : l.place ≤ greatest_word
@@ -31,7 +31,7 @@ abbrev read_as : Locator → List ℕ → Option Item
 read_as l rest = Some (record { locator = Some l; rest = rest })
 
 -- the bytes of char_loc0 and of char_loc are read back
-head_reads : (l : Locator) (rest : List ℕ) (short : Option ℕ) → IsReadable l → short_dx l.dx ≡ short
+head_reads : (l : Locator) (rest : List ℕ) (short : Option ℕ) → FitsFields l → short_dx l.dx ≡ short
     → read_item (locator_head l.code l.dx short ++ (word l.width ++ (word (pos l.place) ++ rest))) ≡ read_as l rest
 unfolding read_item
 head_reads l rest (Some pixels) fits short = grind (arith, ints, sym, short_dx-is, word-reads_back)
@@ -41,7 +41,7 @@ head_reads l rest None fits short =
     let place = big_number-reads_back 4 l.place rest (omega (arith, fits.place)) in
     λ t. Some (record { locator = Some (record { code = l.code; dx = dx t; width = width t; place = place t }); rest = rest })
 
-locator_reads : (l : Locator) (rest : List ℕ) → IsReadable l → read_item (locator_text l ++ rest) ≡ read_as l rest
+locator_reads : (l : Locator) (rest : List ℕ) → FitsFields l → read_item (locator_text l ++ rest) ≡ read_as l rest
 locator_reads l rest fits = grind (arith, ints, append_assoc, head_reads)
 
 -- ---- all locators
@@ -71,7 +71,7 @@ unfolding locators_within read_item
 end_within zero place before some = absurd (omega (arith, some))
 end_within (suc n) place before some = refl
 
-module _ (shipped : List Shipment) (fits : (code : ℕ) (s : Shipment) → last_shipment code shipped ≡ Some s → IsReadable (locator_of s)) (place before : ℕ) where
+module _ (shipped : List Shipment) (fits : (code : ℕ) (s : Shipment) → last_shipment code shipped ≡ Some s → FitsFields (locator_of s)) (place before : ℕ) where
   one_read : (code n m : ℕ) (last : Option Shipment) → suc n < m → last_shipment code shipped ≡ last
       → ((k : ℕ) → n < k → locators_within k (locators_from (code + 1) n shipped ++ ending place before) ≡ Some (lasts_from (code + 1) n shipped))
       → locators_within m (locator_if (option_map locator_of last) ++ locators_from (code + 1) n shipped ++ ending place before)

@@ -14,7 +14,7 @@ use Rattle.mf_gf.specs.Files.{last_shipment, locator_of, padding, post_text, shi
 use Rattle.mf_gf.specs.Format as gf
 use Rattle.mf_gf.specs.Numbers.{code_count, greatest_word, word}
 use Rattle.mf_gf.specs.Pointers.{locators_after, locators_of, locators_within, post_place, post_place_back}
-use Rattle.mf_gf.proofs.LocatorsRead.{IsReadable, lasts_from, within-reads}
+use Rattle.mf_gf.proofs.LocatorsRead.{FitsFields, lasts_from, within-reads}
 use Rattle.mf_gf.proofs.Shipped.{bytes_after_post, file_of-parts}
 
 -- the reader passes over the padding
@@ -42,7 +42,7 @@ post_is_found words comment cs short = place_found (body words comment cs) _ (pa
 
 -- what a reader finds after post
 pub locators_found : (words : FontWords) (comment : List ℕ) (cs : List Character) → length (bytes_so_far comment cs) ≤ greatest_word
-    → ((code : ℕ) (s : Shipment) → last_shipment code (shipments comment cs) ≡ Some s → IsReadable (locator_of s))
+    → ((code : ℕ) (s : Shipment) → last_shipment code (shipments comment cs) ≡ Some s → FitsFields (locator_of s))
     → locators_of (file_of words comment cs) ≡ Some (lasts_from 0 code_count (shipments comment cs))
 locators_found words comment cs short fits =
     let characters = bytes_so_far comment cs in

@@ -85,14 +85,14 @@ pixels_of_strokes machine (stroke ∷ strokes) = pixels_of_stroke machine stroke
 
 -- what a character says before its commands: its code, the place of the last earlier character with this code (-1 where there is
 -- none), and its box
-pub record Head : Type 0 where
+pub record CharacterHead : Type 0 where
   pub code : ℤ
   pub earlier : ℤ
   pub box : CharacterBox
 
 -- the head of boc1 (68): the code, greatest less least m, greatest m, greatest less least n, and greatest n, one byte each; there is
 -- no earlier character
-abbrev pub head_of_boc1 : List ℕ → Head
+abbrev pub head_of_boc1 : List ℕ → CharacterHead
 head_of_boc1 bytes = record {
   code = pos (slice_index bytes 0);
   earlier = negsuc 0;
@@ -106,7 +106,7 @@ head_of_boc1 bytes = record {
 
 -- the head of boc (67): the code, the place of the last earlier character with this code, and the least and greatest m and n, four
 -- bytes each
-abbrev pub head_of_boc : List ℕ → Head
+abbrev pub head_of_boc : List ℕ → CharacterHead
 head_of_boc bytes = record {
   code = word_at 0 bytes;
   earlier = word_at word_size bytes;
@@ -119,7 +119,7 @@ head_of_boc bytes = record {
 }
 
 -- the head of a character
-unfoldable pub head_of : List ℕ → Option Head
+unfoldable pub head_of : List ℕ → Option CharacterHead
 head_of [] = None
 head_of (b ∷ bytes) = if b == 68 then Some (head_of_boc1 bytes) else (if b == 67 then Some (head_of_boc bytes) else None)
 

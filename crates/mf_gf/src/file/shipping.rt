@@ -19,8 +19,8 @@ use mf_base::OutOfMemory;
 use mf_rows::Picture;
 use std::alloc::Global;
 
-/// The greatest number of bytes in a file. With it each place is a signed number of four bytes.
-const MAX_BYTES: u32 = 2_147_483_647;
+/// The greatest number of four bytes with a sign, and so of bytes in a file: each place is such a number.
+const GREATEST_WORD: u32 = 2_147_483_647;
 
 /// The greatest number of bytes in a comment: its length is written in one byte.
 const MAX_COMMENT: usize = 255;
@@ -43,7 +43,7 @@ impl GfFile {
             ↔ (result ≡ Err GfFault.CommentTooLong) }
         ensures fault { IfErr result (λ fault. (fault ≡ GfFault.FileTooLong) ⊎ (fault ≡ GfFault.CommentTooLong) ⊎ (fault ≡ GfFault.OutOfMemory)) }
     {
-        let max_bytes = max_bytes.min(MAX_BYTES);
+        let max_bytes = max_bytes.min(GREATEST_WORD);
         if comment.len().saturating_add(PREAMBLE) > max_bytes as usize {
             return Err(GfFault::FileTooLong);
         }

@@ -11,7 +11,7 @@ use Rattle.mf_gf.specs.Pointers.{AreShippable, HasCode, LeadsBack, LeadsToAll, c
 use Rattle.mf_gf.specs.Spelling.{pointer}
 use Rattle.mf_gf.proofs.CharactersRead.{AllStand, all_before, character_of, has_last, stand_from, characters_with}
 use Rattle.mf_gf.proofs.CharactersRead.{has_last-shipped, last_is_first, last_stands, leads_back, of_code}
-use Rattle.mf_gf.proofs.LocatorsRead.{IsLastFrom, IsReadable, lasts_are_last, lasts_from, lasts_have, lasts_rise}
+use Rattle.mf_gf.proofs.LocatorsRead.{FitsFields, IsLastFrom, lasts_are_last, lasts_from, lasts_have, lasts_rise}
 use Rattle.mf_gf.proofs.PostFound.{locators_found}
 use Rattle.mf_gf.proofs.Shipped.{file-begins}
 use Rattle.mf_gf.proofs.laws.characters_are_read_back.Goals as goal
@@ -34,7 +34,7 @@ module _ (words : FontWords) (comment : List ℕ) (cs : List Character) (shippab
   stand : AllStand (bytes_so_far comment cs) shipped
   stand = stand_from _ cs shippable.each tt
 
-  readable : (code : ℕ) (s : Shipment) → last_shipment code shipped ≡ Some s → IsReadable (locator_of s)
+  readable : (code : ℕ) (s : Shipment) → last_shipment code shipped ≡ Some s → FitsFields (locator_of s)
   readable code s is =
       let there = (last_stands (bytes_so_far comment cs) code s shipped stand is).stands in
       record { dx = there.shippable.dx; width = there.shippable.width; place = omega (arith, there.before, shippable.short) }
