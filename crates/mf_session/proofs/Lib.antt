@@ -2,4 +2,4 @@ mod OneTranscript
 pub mod Performing
 mod SomeAnswer
 mod Standing
-mod WithoutContour
+pub mod WithoutContour

@@ -1,5 +1,5 @@
 -- What a line of a script answers: what it prints, and the state after it.
-use Rattle.std.specs.Prelude.{◌≡◌, ◌≢◌, ◌⊎◌, ℕ, List, [], ◌++◌, codes}
+use Rattle.std.specs.Prelude.{◌≡◌, ◌≢◌, ◌⊎◌, ℕ, List, [], ◌++◌, codes, IfErr, IfOk, Result}
 use Rattle.std.specs.Fmt.{signed_decimal}
 use Rattle.mf_gf.specs.Keeping.{character}
 use Rattle.mf_rows.specs.Dots.{Dot, total_of}
@@ -75,6 +75,11 @@ pub record IsRefusedLine (s : State) (line : List ℕ) (a : Answer) : Type 0 whe
   pub printable : fault ≢ OutOfMemory
   pub refused : IsRefused line fault
   pub answer : Prints s (refusal_line (Line fault)) a
+
+-- reading a line may say this: the command that it gives, or why it is refused
+pub record IsReading (line : List ℕ) (read : Result Command TextFault) : Type 0 where
+  pub given : IfOk read (Gives line)
+  pub refused : IfErr read (IsRefused line)
 
 -- what a line answers in a state
 abbrev pub Answers : Limits → State → List ℕ → Answer → Type 0

@@ -6,7 +6,7 @@ use mf_geom::Check;
 use mf_gf::{GfFault, GfFile};
 use mf_live::{CloseFault, Closing, Desk, Ended, Writer};
 use mf_rows::Picture;
-use mf_text::{Name, TextFault, read_command};
+use mf_text::{Command, Name, TextFault, read_command};
 use std::alloc::Global;
 use std::sync::Wait;
 
@@ -30,14 +30,14 @@ pub enum EndFault {
 }
 
 impl Session {
-    ghost use Rattle.std.specs.Prelude.{◌≡◌, ◌⊎◌, ◌<◌, ◌≤◌, ◌↔◌, Err, IfErr, IfOk, IsOk, OnErr};
+    ghost use Rattle.std.specs.Prelude.{◌≡◌, ◌⊎◌, ◌<◌, ◌≤◌, ◌↔◌, ℕ, Err, IfErr, IfOk, IsOk, List, Ok, OnErr};
     ghost use Rattle.mf_geom.specs.declared.check.Check.{Check};
     ghost use Rattle.mf_live.specs.Desks.{desk_identity, most_places, remaining_viewers};
     ghost use Rattle.mf_live.specs.Entries.{revision_at};
     ghost use Rattle.mf_text.specs.Lines.{Gives};
-    ghost use Rattle.mf_text.specs.Registers.{IsName};
+    ghost use Rattle.mf_text.specs.Registers.{HasNames, IsName};
     ghost use Rattle.mf_text.specs.declared.command.Command.TheVariants as commands;
-    ghost use Rattle.mf_session.specs.Answers.{Answers};
+    ghost use Rattle.mf_session.specs.Answers.{Answers, IsReading};
     ghost use Rattle.mf_session.specs.Changes.{IsClearable};
     ghost use Rattle.mf_session.specs.Endings.{HasEnded, IsHandedBack, IsKept};
     ghost use Rattle.mf_session.specs.Pictures.{picture};
@@ -97,7 +97,7 @@ impl Session {
     /// happens to a line with no command, to one that sets the turning check, or to a clear that is accepted.
     // As a function of its own, it costs each line some thirty instructions more.
     #[inline(always)]
-    #[tactic(auto, using(crate::proofs::WithoutContour::is_not_refused, mf_text::proofs::OneAnswer::gives_one))]
+    #[tactic(auto, using(mf_text::proofs::Registers::names_given))]
     pub fn command<R: Wait>(
         &mut self,
         rt: &R,
@@ -113,7 +113,30 @@ impl Session {
         ensures limits { limits self.new ≡ limits self.old }
         ensures identity { identity self.new ≡ identity self.old }
     {
-        match read_command(alloc, line) {
+        self.answer_to(rt, alloc, read_command(alloc, line))
+    }
+
+    /// Performs a line as `command` does, once `read_command` has read it: takes what that has answered, so that the caller may look
+    /// at it first. Requires the number of a register to be at most 25, as it is in every line.
+    #[inline(always)]
+    pub fn answer_to<R: Wait>(
+        &mut self,
+        rt: &R,
+        alloc: Global,
+        read: Result<Command, TextFault>,
+    ) -> Result<Vec<u8>, OutOfMemory>
+        requires { IfOk read HasNames }
+        ensures answer { IfOk result (λ text. (s : State) (line : List ℕ) → StandsFor self.old s → IsReading line read
+            → HasAnswered self.new text.items (Answers (limits self.old) s line)) }
+        ensures nothing { read ≡ Ok commands.Nothing → IsOk result }
+        ensures turning { (check : Check) → read ≡ Ok (commands.Turning check) → IsOk result }
+        ensures clears { (s : State) (name : Name) → StandsFor self.old s → read ≡ Ok (commands.Clear name)
+            → IsClearable (limits self.old).max_ops s.pictures name → IsOk result }
+        ensures unchanged { OnErr result ((s : State) → StandsFor self.old s → StandsFor self.new s) }
+        ensures limits { limits self.new ≡ limits self.old }
+        ensures identity { identity self.new ≡ identity self.old }
+    {
+        match read {
             Ok(command) => self.perform(rt, alloc, command),
             Err(TextFault::OutOfMemory) => Err(OutOfMemory),
             Err(fault) => refusal_line(alloc, Refusal::Line(fault)),
