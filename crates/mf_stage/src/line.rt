@@ -1,14 +1,12 @@
 //! The lines of a script, as they are read.
 ghost use Rattle.std.specs.Io.KnownBytes.{IsAtEnd};
-ghost use Rattle.std.specs.Prelude.{◌≡◌, ◌≢◌, ◌⊎◌, ◌↔◌, false, true, IfErr, IfOk, IfSome, None};
+ghost use Rattle.std.specs.Prelude.{◌≡◌, ◌⊎◌, ◌↔◌, true, IfErr, IfOk, IfSome, None, Ok};
 ghost use Rattle.mf_stage.specs.Lines.{IsReadLine, Reads, without_ending};
-ghost use Rattle.mf_text.specs.Lines.{Gives};
 ghost use Rattle.mf_text.specs.declared.command.Command.TheVariants as commands;
 
 use crate::fault::StageFault;
-use mf_base::OutOfMemory;
 use mf_session::before_line_feed;
-use mf_text::{Command, TextFault, read_command};
+use mf_text::{Command, TextFault};
 use std::alloc::Global;
 use std::io::{BufRead, Error, ErrorKind};
 
@@ -48,29 +46,9 @@ pub fn without_ending(line: &[u8]) -> &[u8]
     }
 }
 
-/// Whether a line gives the command to publish. Refused where an allocation fails.
-pub fn publishes(alloc: Global, line: &[u8]) -> Result<bool, OutOfMemory>
-    ensures { IfOk result (λ yes. (yes ≡ true) ↔ Gives line.now commands.Publish) }
+/// Whether a line was read as the command to publish.
+pub fn is_publish(read: &Result<Command, TextFault>) -> bool
+    ensures { (result ≡ true) ↔ (read.now ≡ Ok commands.Publish) }
 {
-    match read_command(alloc, line) {
-        Ok(command) => Ok(is_publish(&command)),
-        Err(fault) => no_publish(fault),
-    }
-}
-
-/// Whether this is the command to publish.
-fn is_publish(command: &Command) -> bool
-    ensures { (result ≡ true) ↔ (command.now ≡ commands.Publish) }
-{
-    matches!(command, Command::Publish)
-}
-
-/// A line with this fault gives no command, unless an allocation failed: then nothing is known of it.
-fn no_publish(fault: TextFault) -> Result<bool, OutOfMemory>
-    ensures { IfOk result (λ yes. (yes ≡ false) × (fault ≢ TextFault.OutOfMemory)) }
-{
-    match fault {
-        TextFault::OutOfMemory => Err(OutOfMemory),
-        _ => Ok(false),
-    }
+    matches!(read, Ok(Command::Publish))
 }

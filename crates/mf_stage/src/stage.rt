@@ -10,14 +10,14 @@ ghost use Rattle.mf_stage.specs.Scripts.{HasPerformedLine, PerformsLines, Perfor
 ghost use Rattle.mf_stage.specs.Stages.{StandsFor, identity, limits, plates_of, session_of};
 
 use crate::fault::StageFault;
-use crate::line::{next_line, publishes, without_ending};
+use crate::line::{is_publish, next_line, without_ending};
 use crate::pace::Pace;
 use crate::plate::{Plate, Plates};
 use crate::transcript::write_text;
 use mf_gf::{GfFault, GfFile};
 use mf_live::{Desk, Ended};
 use mf_session::Session;
-use mf_text::Name;
+use mf_text::{Name, read_command};
 use std::alloc::Global;
 use std::io::{BufRead, BufReader, Read, Write};
 use std::rt::Files;
@@ -147,6 +147,7 @@ impl Stage {
     /// Performs a line, writes its text and flushes it. Answers with what the line has published, if it has; the plate is made, and
     /// not written. Refused with `OutOfMemory`, before the line is performed or after its text is written; with `WriteFault`, and
     /// then the text may be cut; and where plates are asked for, with `ImageTooLarge`, after the text of a publish is written.
+    #[tactic(auto, using(mf_text::proofs::Registers::names_given))]
     pub fn answer<S: Wait, W: Write>(
         &mut self,
         rt: &S,
@@ -162,8 +163,9 @@ impl Stage {
         ensures identity { identity self.new ≡ identity self.old }
         ensures plates { plates_of self.new ≡ plates_of self.old }
     {
-        let publishes = publishes(alloc, line)?;
-        let text = self.session.command(rt, alloc, line)?;
+        let read = read_command(alloc, line);
+        let publishes = is_publish(&read);
+        let text = self.session.answer_to(rt, alloc, read)?;
         write_text(transcript, text.as_slice())?;
         if publishes {
             let publication = self.publication(alloc)?;
