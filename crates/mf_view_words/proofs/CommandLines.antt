@@ -6,17 +6,17 @@ use Rattle.mf_options.specs.Options.{number_parser}
 use Rattle.mf_options.specs.Values.{AreValuesOf}
 use Rattle.mf_view_words.specs.CommandLine.{mfview, rules}
 use Rattle.mf_view_words.specs.Ranges.{greatest_columns, greatest_design_size, greatest_pause, greatest_resolution, greatest_rows}
-use Rattle.mf_view_words.specs.Values.{IsReadable}
+use Rattle.mf_view_words.specs.Values.{HasReadableValues}
 
 pub mfview-plain : is_simple_and_free mfview ≡ true
 unfolding mfview
 mfview-plain = refl
 
-pub readable : (app : App) (found : List Row) → app ≡ mfview → AreValuesOf app.top.rules found → IsReadable found
+pub readable : (app : App) (found : List Row) → app ≡ mfview → AreValuesOf app.top.rules found → HasReadableValues found
 unfolding mfview
 readable app found same values = go (subst (λ (a : App). AreValuesOf a.top.rules found) same values)
   where
-    go : AreValuesOf rules found → IsReadable found
+    go : AreValuesOf rules found → HasReadableValues found
     go of = record {
       columns = of (codes "columns") (number_parser 1 greatest_columns) refl;
       rows = of (codes "rows") (number_parser 1 greatest_rows) refl;

@@ -5,7 +5,7 @@ use Rattle.mf_options.specs.Values.{IsFlagText, IsNumberIn}
 use Rattle.mf_view_words.specs.Ranges.{greatest_columns, greatest_design_size, greatest_pause, greatest_resolution, greatest_rows}
 
 -- the values are numbers in their ranges, and flags
-pub record IsReadable (found : List Row) : Type 0 where
+pub record HasReadableValues (found : List Row) : Type 0 where
   pub columns : IfSome (one_of (codes "columns") found) (IsNumberIn 1 greatest_columns)
   pub rows : IfSome (one_of (codes "rows") found) (IsNumberIn 1 greatest_rows)
   pub pause : IfSome (one_of (codes "pause") found) (IsNumberIn 0 greatest_pause)
