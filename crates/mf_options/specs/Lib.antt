@@ -1,4 +1,3 @@
 pub mod Faults
-pub mod Names
 pub mod Options
 pub mod Values

@@ -6,10 +6,8 @@ ghost use Rattle.mf_options.specs.declared.fault.WordsFault.TheVariants.{OutOfMe
 
 use clap::error::ErrorKind;
 use std::alloc::AllocError;
-use std::error::Error;
-use std::fmt;
 
-/// Why the words of the command line are refused. Its message is its name.
+/// Why the words of the command line are refused.
 #[derive(Clone, Copy, Debug, PartialEq, Eq)]
 pub enum WordsFault {
     /// The words are not a command line of the program.
@@ -17,22 +15,6 @@ pub enum WordsFault {
     /// An allocation failed. This may come instead of `BadWords`.
     OutOfMemory,
 }
-
-impl fmt::Display for WordsFault {
-    ghost use Rattle.std.specs.Prelude.{Some};
-    ghost use Rattle.mf_options.specs.Names.{words_fault_text};
-
-    ghost output = { λ fault. Some (words_fault_text fault) };
-
-    fn fmt<W: fmt::Write>(&self, f: &mut fmt::Formatter<W>) -> fmt::Result {
-        match self {
-            WordsFault::BadWords => f.write_str("BadWords"),
-            WordsFault::OutOfMemory => f.write_str("OutOfMemory"),
-        }
-    }
-}
-
-impl Error for WordsFault {}
 
 impl From<AllocError> for WordsFault {
     ghost from_gives = { λ _ fault. fault ≡ NoMemory };
