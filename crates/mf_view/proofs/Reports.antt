@@ -2,8 +2,7 @@
 use Rattle.std.proofs.Common.{◌≡◌, ◌⊎◌, ℕ, inl, inr, List, Option, refl, sym, arith, ⊎_elim}
 use Rattle.clap.specs.Words.{Text}
 use Rattle.mf_base.specs.Messages.{GetsFront, receipt}
-use Rattle.mf_frame.specs.Canvases.{IsLargeEnough}
-use Rattle.mf_view.specs.Faults.{EndsScript, GetsPartOfText, LacksRoom, ReportsFaultLast}
+use Rattle.mf_view.specs.Faults.{EndsScript, GetsPartOfText, ReportsFaultLast}
 use Rattle.mf_view.specs.Messages.{message_of}
 use Rattle.mf_view.specs.Performances.{ScreenStreams}
 use Rattle.mf_view.specs.Statuses.{status_of}
@@ -46,7 +45,3 @@ module _ (words : List Text) (asked : Words) (request : IsRequest words (Show as
       → EndsScript asked (record s { transcript = receipt s.transcript.held between }) fault → (fault ≡ NoPlace → IsUnread)
       → status ≡ status_of fault → GetsFront between s.transcript.holds (message_of fault) → ReportsFaultLast words status IsUnread s
   reported fault status IsUnread between s ends unread is message = grind (arith, sym)
-
-  -- all words of a script with the same values have the same size of frames
-  pub lacking : LacksRoom words → IsLargeEnough asked.columns asked.rows → ⊥
-  lacking lacks large = grind (arith, sym)
