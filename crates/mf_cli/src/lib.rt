@@ -2,7 +2,6 @@
 #![tactic(auto)]
 
 mod fault;
-pub mod laws;
 pub mod program;
 
 pub use fault::ProgramFault;

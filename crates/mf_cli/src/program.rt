@@ -15,7 +15,7 @@ use crate::fault::ProgramFault;
 use mf_base::write_text;
 use mf_desk::{Outcome, RunFault, Settings};
 use mf_gf::{FontWords, GfBytes};
-use mf_options::WordsFault;
+use mf_options::{BAD_WORDS, DONE, STREAM_FAULT, WANTING, WordsFault, refuse_words};
 use mf_session::{MAX_BYTES, MAX_OPS};
 use mf_watch::OpenGate;
 use mf_words::{USAGE, Words, read_words};
@@ -40,19 +40,6 @@ const SETTINGS: Settings = Settings {
 
 /// How often each viewer looks in its thread. When these looks happen is chance, so none of them is printed.
 const LOOKS: u32 = 16;
-
-/// Exit status after a run that reached the end of its script, and wrote the font file where one was asked for.
-pub const DONE: u8 = 0;
-
-/// Exit status where the words are not those of a command line.
-pub const BAD_WORDS: u8 = 2;
-
-/// Exit status where a stream failed or the script took too many reads, or where the font file would be too long, has no character,
-/// or could not be written.
-pub const STREAM_FAULT: u8 = 3;
-
-/// Exit status where memory, a viewer's place or a look was missing.
-pub const WANTING: u8 = 4;
 
 /// Runs the script that `reader` gives, beside as many viewers as the words ask for. It writes the transcript and then the line
 /// of each viewer to `writer`, then the font file where the words ask for one, and one message to `errors` where something went
@@ -83,7 +70,7 @@ pub fn program<S: Wait + Threads + Files, R: Read, W: Write, E: Write>(
 {
     let words = match read_words(alloc, words) {
         Ok(words) => words,
-        Err(WordsFault::BadWords) => return refuse_words(errors),
+        Err(WordsFault::BadWords) => return refuse_words(errors, USAGE),
         Err(WordsFault::OutOfMemory) => return report(errors, RunFault::OutOfMemory.into()),
     };
     match perform(rt, alloc, reader, writer, &words) {
@@ -161,16 +148,6 @@ fn write_bytes<W: Write>(out: &mut W, file: &GfBytes) -> Result<(), RunFault>
         Ok(()) => Ok(()),
         Err(fault) => Err(RunFault::WriteFault(fault.0)),
     }
-}
-
-/// Refuses the words of the command line: writes how to use the program, or a front of that where `errors` fails, and answers with
-/// the status.
-pub fn refuse_words<E: Write>(errors: &mut E) -> u8
-    ensures status { result ≡ BAD_WORDS }
-    ensures message { GetsFront (E.contents errors.old) (E.contents errors.new) usage }
-{
-    write_text(errors, USAGE);
-    BAD_WORDS
 }
 
 /// Reports a fault: writes its message, or a front of it where `errors` fails, and answers with the status.

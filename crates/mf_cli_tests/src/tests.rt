@@ -9,8 +9,9 @@ mod words;
 
 use assertions::{assert_holds, assert_same};
 use mf_cli::ProgramFault;
-use mf_cli::program::{BAD_WORDS, DONE, STREAM_FAULT, WANTING, program, report};
+use mf_cli::program::{program, report};
 use mf_desk::RunFault;
+use mf_options::{BAD_WORDS, DONE, STREAM_FAULT, WANTING};
 use mf_testing::{Pieces, Script, Sink, words_of, worked_scripts};
 use std::io::{Read, Write};
 use std::process::Abort;

@@ -3,14 +3,10 @@
 ghost use Rattle.std.specs.Prelude.{◌≡◌, ◌≤◌, ◌<◌, ◌+◌, ◌*◌, ℕ};
 ghost use Rattle.mf_view.specs.Fonts.{nearest};
 
-use crate::program::{BAD_WORDS, DONE, STREAM_FAULT, TOO_SMALL, WANTING};
+use crate::program::TOO_SMALL;
 
-/// The exit statuses are these numbers.
-pub fn statuses_are_these()
-    ensures done { DONE ≡ 0 }
-    ensures bad_words { BAD_WORDS ≡ 2 }
-    ensures stream_fault { STREAM_FAULT ≡ 3 }
-    ensures wanting { WANTING ≡ 4 }
+/// The exit status of this program alone is this number.
+pub fn status_is_this()
     ensures too_small { TOO_SMALL ≡ 5 }
 {}
 

@@ -21,7 +21,7 @@ use itoa::Buffer;
 use mf_base::write_text;
 use mf_frame::{Canvas, Style, TooSmall};
 use mf_gf::GfFile;
-use mf_options::WordsFault;
+use mf_options::{BAD_WORDS, DONE, STREAM_FAULT, WANTING, WordsFault, refuse_words};
 use mf_stage::{Pace, Plates};
 use mf_view_words::{HELP, Request, USAGE, VERSION, Words, read_words};
 use std::alloc::Global;
@@ -31,18 +31,6 @@ use std::rt::Files;
 use std::sync::Wait;
 use std::thread::Threads;
 use std::time::Clock;
-
-/// Exit status after a run that reached the end of its script and showed its last picture, or wrote a text that was asked for.
-pub const DONE: u8 = 0;
-
-/// Exit status where the words are not those of a command line.
-pub const BAD_WORDS: u8 = 2;
-
-/// Exit status where a stream or a file failed, or cannot be made.
-pub const STREAM_FAULT: u8 = 3;
-
-/// Exit status where memory, the viewer's place or a look was missing.
-pub const WANTING: u8 = 4;
 
 /// Exit status where the terminal is too small.
 pub const TOO_SMALL: u8 = 5;
@@ -79,7 +67,7 @@ pub fn program<S: Wait + Threads + Files + Clock + Sync, R: Read, W: Write + Sen
 {
     let request = match read_words(alloc, words) {
         Ok(request) => request,
-        Err(WordsFault::BadWords) => return refuse_words(errors),
+        Err(WordsFault::BadWords) => return refuse_words(errors, USAGE),
         Err(WordsFault::OutOfMemory) => return report(errors, ProgramFault::OutOfMemory),
     };
     match request {
@@ -206,16 +194,6 @@ fn answer<W: Write, E: Write>(screen: &mut W, errors: &mut E, text: &str) -> u8
         return DONE;
     }
     report(errors, ProgramFault::WriteFault)
-}
-
-/// Refuses the words of the command line: writes how to use the program, or a front of that where `errors` fails, and answers with the
-/// status.
-pub fn refuse_words<E: Write>(errors: &mut E) -> u8
-    ensures status { result ≡ BAD_WORDS }
-    ensures message { GetsFront (E.contents errors.old) (E.contents errors.new) usage }
-{
-    write_text(errors, USAGE);
-    BAD_WORDS
 }
 
 /// Reports a fault by its name, and its revision if it has one, or a front of that where `errors` fails, and answers with the status.

@@ -2,9 +2,10 @@
 #![tactic(auto)]
 
 use mf_cli::ProgramFault;
-use mf_cli::program::{program, refuse_words, report};
+use mf_cli::program::{program, report};
 use mf_desk::RunFault;
-use mf_options::words_of;
+use mf_options::{refuse_words, words_of};
+use mf_words::USAGE;
 use std::io::{self, BufWriter, ErrorKind};
 use std::process::ExitCode;
 use std::rt::Stdout;
@@ -27,7 +28,7 @@ fn main(rt: HostRuntime) -> ExitCode {
             &mut errors,
             ProgramFault::Run(RunFault::OutOfMemory),
         ),
-        Err(_) => refuse_words(&mut errors),
+        Err(_) => refuse_words(&mut errors, USAGE),
     };
     ExitCode::from(status)
 }

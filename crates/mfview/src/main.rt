@@ -1,9 +1,10 @@
 //! The program `mfview`: performs a script of picture commands, and draws the picture while the script changes it.
 #![tactic(auto)]
 
-use mf_options::words_of;
+use mf_options::{refuse_words, words_of};
 use mf_view::ProgramFault;
-use mf_view::program::{program, refuse_words, report};
+use mf_view::program::{program, report};
+use mf_view_words::USAGE;
 use std::io::ErrorKind;
 use std::process::ExitCode;
 
@@ -22,7 +23,7 @@ fn main(rt: HostRuntime) -> ExitCode {
             &mut errors,
             ProgramFault::OutOfMemory,
         ),
-        Err(_) => refuse_words(&mut errors),
+        Err(_) => refuse_words(&mut errors, USAGE),
     };
     ExitCode::from(status)
 }

@@ -2,7 +2,7 @@
 
 use super::{End, LINE, TEXT, assert_ends};
 use crate::tests::assertions::{assert_holds, assert_same};
-use mf_cli::program::{DONE, STREAM_FAULT};
+use mf_options::{DONE, STREAM_FAULT};
 use mf_testing::Pieces;
 use std::path::PathBuf;
 use std::process::Abort;

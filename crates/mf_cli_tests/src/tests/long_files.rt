@@ -3,7 +3,7 @@
 
 use super::font_files::{KEPT, assert_file, path_of, put, remove};
 use super::{End, assert_ends};
-use mf_cli::program::STREAM_FAULT;
+use mf_options::STREAM_FAULT;
 use mf_testing::Pieces;
 use std::alloc::{AllocError, Global};
 use std::test::Fail;

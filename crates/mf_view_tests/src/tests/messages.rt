@@ -1,10 +1,9 @@
 //! Messages: the text and the status of each fault, which of two faults is told, and a stream of messages that fails.
 use super::assertions::assert_same;
+use mf_options::{BAD_WORDS, STREAM_FAULT, WANTING, refuse_words};
 use mf_testing::{FailsOnce, Pieces, Sink, words_of};
 use mf_view::ProgramFault;
-use mf_view::program::{
-    BAD_WORDS, STREAM_FAULT, TOO_SMALL, WANTING, program, refuse_words, report,
-};
+use mf_view::program::{TOO_SMALL, program, report};
 use std::alloc::Global;
 use std::io::Write;
 use std::process::Abort;
@@ -94,7 +93,7 @@ fn messages_break_off(rt: HostRuntime) {
 fn the_usage_breaks_off(rt: HostRuntime) {
     for room in 0..USAGE.len() {
         let mut errors = FailsOnce::new(rt.alloc(), room);
-        let found = refuse_words(&mut errors);
+        let found = refuse_words(&mut errors, mf_view_words::USAGE);
         let front = USAGE.get(..room).unwrap_or(b"");
         let end = (found, errors.bytes(), errors.calls_after());
         assert_same(&rt, end, (BAD_WORDS, front, 0), room);

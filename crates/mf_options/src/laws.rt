@@ -1,8 +1,8 @@
-//! A law of the program. It is the contract of a function that does nothing, because the toolchain proves a statement only where
+//! A law of the programs. It is the contract of a function that does nothing, because the toolchain proves a statement only where
 //! the contract of a function names it.
 ghost use Rattle.std.specs.Prelude.{◌≡◌};
 
-use crate::program::{BAD_WORDS, DONE, STREAM_FAULT, WANTING};
+use crate::statuses::{BAD_WORDS, DONE, STREAM_FAULT, WANTING};
 
 /// The exit statuses are these numbers.
 pub fn statuses_are_these()
