@@ -13,6 +13,7 @@ use Rattle.mf_geom.proofs.Areas.{sum_below-unit_step_in_field}
 use Rattle.mf_geom.proofs.Crossings.{unit_step-reached, unit_step-beyond}
 use Rattle.mf_geom.proofs.Sums.{sum_below-same, sum_below-zero, sum_below-next, sum_below-sub, sum_below-mul, sum_below-swap}
 use Rattle.mf_edges.specs.Axes.{opposite}
+use Rattle.mf_rows.specs.Moves.{quarter_turn}
 use Rattle.mf_ops.specs.Moves.{IsColumnOrRow}
 use borrow.Author.Differences.{up, down, product_is}
 
@@ -80,9 +81,9 @@ axis_sum-opposite g =
     (λ t. sum_below field_size (λ i. g (column i t))) ∙ sum_below-downwards field_size least_coordinate last_in_field g refl
 
 -- a turn by 90 degrees maps the field to itself
-pub sum_over_field-turn_once : (f : ℤ → ℤ → ℤ) → sum_over_field (λ x y. f y (opposite x)) ≡ sum_over_field f
-sum_over_field-turn_once f =
-    sum_over_field-axes (λ x y. f y (opposite x))
+pub sum_over_field-turn : (f : ℤ → ℤ → ℤ) → sum_over_field (quarter_turn f) ≡ sum_over_field f
+sum_over_field-turn f =
+    sum_over_field-axes (quarter_turn f)
     ∙ axis_sum-swap (λ y x. f y (opposite x))
     ∙ axis_sum-opposite (λ y. axis_sum (λ x. f x y))
     ∙ sym (sum_over_field-axes f)

@@ -9,27 +9,28 @@ use Rattle.mf_geom.specs.Field.{sum_over_field}
 use Rattle.mf_edges.specs.declared.stretch.Stretch.{Stretch}
 use Rattle.mf_rows.specs.Dots.{Dot, IsPicture, start_of_field, total_of, weight_at}
 use Rattle.mf_edges.specs.Axes.{IsStretch, PlaceStaysInside, opposite, source_of, target_of}
+use Rattle.mf_rows.specs.Moves.{quarter_turn}
 use Rattle.mf_rows.specs.Weights.{picture_of}
 use Rattle.mf_rows.proofs.DotsLemmas.{dots_from-lawful}
 use Rattle.mf_rows.proofs.FieldTotals.{total_of-picture_of, total_of-picture}
 use Rattle.mf_rows.proofs.StretchBounds.{holds_at_weight}
 use Rattle.mf_edges.proofs.Sources.{source_of-is, target_of-next}
-use Rattle.mf_ops.specs.Moves.{AreFactors, Factors, IsColumnOrRow, IsFactor, scale_by, scale_source, shift_by, turn_once, turn_by}
+use Rattle.mf_ops.specs.Moves.{AreFactors, Factors, IsColumnOrRow, IsFactor, scale_by, scale_source, shift_by, turn_by}
 use Rattle.mf_ops.specs.Step.{op_fault, step_at, next_picture}
 use Rattle.mf_ops.specs.declared.op.Op.TheVariants as ops
 use Rattle.mf_ops.specs.declared.op.Op.TheVariants.{Scale, Shift}
 use Rattle.mf_ops.specs.declared.quarter.Quarter.{Quarter}
 use Rattle.mf_ops.specs.declared.quarter.Quarter.TheVariants.{Once, Twice, Thrice}
-use Rattle.mf_ops.proofs.AxisSums.{IsMove, sum_over_field-move, sum_over_field-turn_once}
+use Rattle.mf_ops.proofs.AxisSums.{IsMove, sum_over_field-move, sum_over_field-turn}
 use Rattle.mf_ops.proofs.Faults.{stays-accepted}
 use Rattle.mf_ops.proofs.Leaving.{PixelsStayInside-none_leaves, column_inside, leaves_by, row_inside}
 use Rattle.mf_ops.proofs.Places.{IsStretch-size, end-negative, opposite-opposite, scale_source-negative}
 use Rattle.mf_ops.proofs.Places.{scale_source-positive, source_of-end, source_of-start, start-negative}
 
 sum_over_field-turn_by : (q : Quarter) (f : ℤ → ℤ → ℤ) → sum_over_field (turn_by q f) ≡ sum_over_field f
-sum_over_field-turn_by Once f = sum_over_field-turn_once f
-sum_over_field-turn_by Twice f = sum_over_field-turn_once (turn_once f) ∙ sum_over_field-turn_once f
-sum_over_field-turn_by Thrice f = sum_over_field-turn_once (turn_once (turn_once f)) ∙ sum_over_field-turn_once (turn_once f) ∙ sum_over_field-turn_once f
+sum_over_field-turn_by Once f = sum_over_field-turn f
+sum_over_field-turn_by Twice f = sum_over_field-turn (quarter_turn f) ∙ sum_over_field-turn f
+sum_over_field-turn_by Thrice f = sum_over_field-turn (quarter_turn (quarter_turn f)) ∙ sum_over_field-turn (quarter_turn f) ∙ sum_over_field-turn f
 
 pub total_of-turn : (ds : List Dot) (q : Quarter) → IsPicture ds → total_of (next_picture ds (ops.Quarter q)) ≡ total_of ds
 unfolding next_picture

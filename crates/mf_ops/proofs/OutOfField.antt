@@ -19,7 +19,8 @@ use Rattle.mf_rows.specs.Dots.{Dot, IsDot, IsPicture, start_of_field, weight_at}
 use Rattle.mf_edges.specs.Axes.{opposite, PlaceStaysInside}
 use Rattle.mf_rows.proofs.DotsLemmas.{IsAt, weight_at-dot, dots_from-lawful, weight_at-outside}
 use Rattle.mf_ops.specs.Cull.{IsLawfulCull, culled_weight}
-use Rattle.mf_ops.specs.Moves.{Factors, AreFactors, IsFactor, IsColumnOrRow, HasPlace, scale_by, scale_source, shift_by, stays_inside, turn_once, turn_by}
+use Rattle.mf_rows.specs.Moves.{quarter_turn}
+use Rattle.mf_ops.specs.Moves.{Factors, AreFactors, IsFactor, IsColumnOrRow, HasPlace, scale_by, scale_source, shift_by, stays_inside, turn_by}
 use Rattle.mf_ops.specs.Step.{step_at, leaves, op_fault, LiesOutside, TurnsLawfully}
 use Rattle.mf_ops.specs.declared.cull.CullRule.{CullRule}
 use Rattle.mf_ops.specs.declared.cull.CullRule.TheVariants.{Keeping, Dropping}
@@ -177,14 +178,14 @@ turn_in_field x y field = in_field x y (grind (arith, ints, row_inside y (opposi
 ZeroOutside : (ℤ → ℤ → ℤ) → Type 0
 ZeroOutside f = (x y : ℤ) → (IsInField x y → ⊥) → f x y ≡ pos 0
 
-turn_outside : (f : ℤ → ℤ → ℤ) → ZeroOutside f → ZeroOutside (turn_once f)
+turn_outside : (f : ℤ → ℤ → ℤ) → ZeroOutside f → ZeroOutside (quarter_turn f)
 unfolding ZeroOutside
 turn_outside f zero x y outside = zero y (opposite x) (λ field. outside (turn_in_field x y field))
 
 turn_by-outside : (q : Quarter) (f : ℤ → ℤ → ℤ) → ZeroOutside f → ZeroOutside (turn_by q f)
 turn_by-outside Once f zero = turn_outside f zero
-turn_by-outside Twice f zero = turn_outside (turn_once f) (turn_outside f zero)
-turn_by-outside Thrice f zero = turn_outside (turn_once (turn_once f)) (turn_outside (turn_once f) (turn_outside f zero))
+turn_by-outside Twice f zero = turn_outside (quarter_turn f) (turn_outside f zero)
+turn_by-outside Thrice f zero = turn_outside (quarter_turn (quarter_turn f)) (turn_outside (quarter_turn f) (turn_outside f zero))
 
 pub turn-inside : (ds : List Dot) (q : Quarter) → IsPicture ds → LiesOutside (step_at ds (ops.Quarter q)) → ⊥
 unfolding ZeroOutside

@@ -7,12 +7,11 @@ use Rattle.mf_geom.specs.Coordinates.{least_coordinate, greatest_coordinate, las
 use Rattle.mf_edges.specs.declared.stretch.Stretch.{Stretch}
 use Rattle.mf_rows.specs.Dots.{Dot, IsPicture, weight_at}
 use Rattle.mf_edges.specs.Axes.{IsStretch, PlaceStaysInside, opposite, source_of}
-use Rattle.mf_rows.specs.Moves.{PixelsStayInside, stretch_at}
+use Rattle.mf_rows.specs.Moves.{PixelsStayInside, moved_columns, moved_rows}
 use Rattle.mf_rows.specs.Sums.{HasWeights}
 use Rattle.mf_rows.proofs.DotsLemmas.{dots_from-lawful, weight_at-dot}
 use Rattle.mf_edges.proofs.Sources.{source_of-reached, source_of-from}
-use Rattle.mf_ops.specs.Moves.{Factors, IsFactor, scale_by, scale_source}
-use Rattle.mf_ops.specs.Reflections.{on_side, reflection_at}
+use Rattle.mf_ops.specs.Moves.{Factors, IsFactor, on_side, reflection, scale_by, scale_source}
 use Rattle.mf_ops.specs.Step.{step_at}
 use Rattle.mf_ops.proofs.Places.{IsStretch-size, by_size, end-negative, opposite-opposite, start-negative}
 use Rattle.mf_ops.specs.declared.op.Op.TheVariants.{Scale}
@@ -56,9 +55,9 @@ source_of-greatest f q is_factor greatest =
 
 pub HasWeights-scale : (ds middle new : List Dot) (s : Factors) (a b : ℤ) (columns rows sized_columns sized_rows : Stretch)
     → AreMade s.x a columns sized_columns → AreMade s.y b rows sized_rows
-    → HasWeights (reflection_at (int_lt a (pos 0)) (int_lt b (pos 0)) ds) middle
-    → HasWeights (stretch_at sized_columns sized_rows middle) new → HasWeights (step_at ds (Scale s)) new
-unfolding reflection_at stretch_at scale_source
+    → HasWeights (reflection (int_lt a (pos 0)) (int_lt b (pos 0)) (weight_at ds)) middle
+    → HasWeights (moved_rows (source_of sized_rows) (moved_columns (source_of sized_columns) (weight_at middle))) new → HasWeights (step_at ds (Scale s)) new
+unfolding scale_source
 HasWeights-scale ds middle new s a b columns rows sized_columns sized_rows x y reflected stretched =
     grind (arith, ints, by_size, source_of-least, source_of-greatest)
 
@@ -68,14 +67,13 @@ PlaceStaysInside-size (pos n) p inside = subst (PlaceStaysInside (scale_by (pos 
 PlaceStaysInside-size (negsuc n) p inside = grind (arith, ints, opposite-opposite, end-negative, start-negative)
 
 -- each dot of the reflected picture comes from a pixel of nonzero weight
-reflected_dots : (columns rows : Bool) (ds middle : List Dot) → IsPicture middle → HasWeights (reflection_at columns rows ds) middle
+reflected_dots : (columns rows : Bool) (ds middle : List Dot) → IsPicture middle → HasWeights (reflection columns rows (weight_at ds)) middle
     → All (λ d. weight_at ds (on_side columns d.x) (on_side rows d.y) ≢ pos 0) middle
-unfolding reflection_at
 reflected_dots columns rows ds middle picture reflected k d lt = grind (arith, ints, dots_from-lawful, sym, weight_at-dot)
 
 -- so the reflected picture stays in the field when it is stretched, where the picture does when it is scaled
 pub PixelsStayInside-reflected : (ds middle : List Dot) (s : Factors) → IsPicture middle
-    → HasWeights (reflection_at (int_lt s.x (pos 0)) (int_lt s.y (pos 0)) ds) middle → PixelsStayInside (scale_by s.x) (scale_by s.y) ds
+    → HasWeights (reflection (int_lt s.x (pos 0)) (int_lt s.y (pos 0)) (weight_at ds)) middle → PixelsStayInside (scale_by s.x) (scale_by s.y) ds
     → PixelsStayInside (by_size s.x) (by_size s.y) middle
 PixelsStayInside-reflected ds middle s picture reflected inside =
     let nonzero = reflected_dots _ _ ds middle picture reflected in

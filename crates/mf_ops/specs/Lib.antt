@@ -4,6 +4,5 @@ pub mod Faults
 pub mod Moves
 pub mod Names
 pub mod Operations
-pub mod Reflections
 pub mod Sides
 pub mod Step

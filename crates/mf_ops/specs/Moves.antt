@@ -1,11 +1,11 @@
 -- Shifts, scales and quarter turns (The METAFONTbook, chapters 13 and 15). They move the unit squares of the pixels with the
 -- plane: the new weight of a pixel is the old weight of the pixel whose moved square contains it.
-use Rattle.std.specs.Prelude.{◌≢◌, ◌&&◌, Bool, ℤ, pos, nat_abs, ◌+ℤ◌, ◌*ℤ◌, ◌≤ℤ◌, int_lt}
+use Rattle.std.specs.Prelude.{◌≢◌, ◌&&◌, Bool, ℤ, pos, nat_abs, ◌+ℤ◌, ◌*ℤ◌, ◌≤ℤ◌, int_lt, if◌then◌else◌}
 use Rattle.std.specs.Int.{int_max, int_min}
 use Rattle.mf_geom.specs.Coordinates.{IsCoordinate, least_coordinate, last_in_field, is_coordinate}
 use Rattle.mf_edges.specs.Axes.{opposite, source_of, target_of}
 use Rattle.mf_edges.specs.declared.stretch.Stretch.{Stretch}
-use Rattle.mf_ops.specs.Reflections.{on_side}
+use Rattle.mf_rows.specs.Moves.{moved_columns, moved_rows, quarter_turn}
 use Rattle.mf_ops.specs.declared.quarter.Quarter.{Quarter}
 use Rattle.mf_ops.specs.declared.quarter.Quarter.TheVariants.{Once, Twice, Thrice}
 
@@ -36,6 +36,14 @@ shift_by d = record { factor = pos 1; offset = d }
 abbrev pub scale_by : ℤ → Stretch
 scale_by f = record { factor = f; offset = pos 0 }
 
+-- the place p, or the opposite place on the other side of 0 where it changes sides
+abbrev pub on_side : Bool → ℤ → ℤ
+on_side changes p = if changes then opposite p else p
+
+-- the weights f after the columns, the rows, or both change sides
+abbrev pub reflection : Bool → Bool → (ℤ → ℤ → ℤ) → ℤ → ℤ → ℤ
+reflection columns rows f = moved_columns (on_side columns) (moved_rows (on_side rows) f)
+
 -- the column, or row, p whose scaled part of the axis, between p * f and (p + 1) * f, contains column, or row, q: a negative
 -- factor reflects, and its absolute value stretches
 unfoldable pub scale_source : ℤ → ℤ → ℤ
@@ -46,15 +54,11 @@ pub record HasPlace (f p q : ℤ) : Type 0 where
   pub start : int_min (p *ℤ f) ((p +ℤ pos 1) *ℤ f) ≤ℤ q
   pub end : (q +ℤ pos 1) ≤ℤ int_max (p *ℤ f) ((p +ℤ pos 1) *ℤ f)
 
--- the weights f after a turn by 90 degrees counterclockwise, which takes the pixel (x, y) to (-y - 1, x)
-abbrev pub turn_once : (ℤ → ℤ → ℤ) → ℤ → ℤ → ℤ
-turn_once f x y = f y (opposite x)
-
--- the weights f after one, two or three of these turns
+-- the weights f after one, two or three quarter turns
 abbrev pub turn_by : Quarter → (ℤ → ℤ → ℤ) → ℤ → ℤ → ℤ
-turn_by Once f = turn_once f
-turn_by Twice f = turn_once (turn_once f)
-turn_by Thrice f = turn_once (turn_once (turn_once f))
+turn_by Once f = quarter_turn f
+turn_by Twice f = quarter_turn (quarter_turn f)
+turn_by Thrice f = quarter_turn (quarter_turn (quarter_turn f))
 
 -- the angle of a turn, in degrees
 abbrev pub degrees : Quarter → ℤ

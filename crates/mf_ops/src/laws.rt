@@ -16,9 +16,10 @@ ghost use Rattle.mf_edges.specs.LawfulWeights.{IsLawfulWeight};
 ghost use Rattle.mf_rows.specs.declared.sign.Sign.{Sign};
 ghost use Rattle.mf_rows.specs.declared.sign.Sign.TheVariants.{Minus};
 ghost use Rattle.mf_rows.specs.Dots.{Dot, IsPicture, total_of, weight_at};
+ghost use Rattle.mf_rows.specs.Moves.{quarter_turn};
 ghost use Rattle.mf_rows.specs.Sums.{IsUnlawfulSomewhere};
 ghost use Rattle.mf_ops.specs.Cull.{IsLawfulCull, culled_weight};
-ghost use Rattle.mf_ops.specs.Moves.{Factors, AreFactors, IsFactor, HasPlace, scale_source, turn_once};
+ghost use Rattle.mf_ops.specs.Moves.{Factors, AreFactors, IsFactor, HasPlace, scale_source};
 ghost use Rattle.mf_ops.specs.Operations.{AreAccepted, picture_after, revision_after};
 ghost use Rattle.mf_ops.specs.Step.{step_at, next_picture, op_fault, StaysInField, IsChecked, TurnsLawfully, LiesOutside, MayLeave};
 ghost use Rattle.mf_ops.specs.declared.op.Op.{Op};
@@ -99,7 +100,7 @@ pub fn one_source_under_a_scale()
 /// Four turns by 90 degrees leave each weight in its place, and so do two reflections in the same line. A reflection is the scale by
 /// the factor -1: column, or row, q comes from column, or row, -q - 1.
 pub fn turns_and_reflections_return()
-    ensures turns { (f : ℤ → ℤ → ℤ) (x y : ℤ) → turn_once (turn_once (turn_once (turn_once f))) x y ≡ f x y }
+    ensures turns { (f : ℤ → ℤ → ℤ) (x y : ℤ) → quarter_turn (quarter_turn (quarter_turn (quarter_turn f))) x y ≡ f x y }
     ensures reflections { (q : ℤ) → scale_source (negsuc 0) (scale_source (negsuc 0) q) ≡ q }
     ensures reflection { (q : ℤ) → scale_source (negsuc 0) q ≡ neg_ℤ q -ℤ pos 1 }
 {}

@@ -1,12 +1,11 @@
 //! Shifts, scales and turns.
 ghost use Rattle.std.specs.Prelude.{◌≡◌, ◌↔◌, None, Some, Err, IfOk, IfErr, OnOk, IsTrue};
 ghost use Rattle.mf_geom.specs.Coordinates.{IsCoordinate};
-ghost use Rattle.mf_rows.specs.Dots.{IsPicture};
+ghost use Rattle.mf_rows.specs.Dots.{IsPicture, weight_at};
 ghost use Rattle.mf_edges.specs.Axes.{PlaceStaysInside, target_of};
 ghost use Rattle.mf_rows.specs.Moves.{PixelsStayInside};
 ghost use Rattle.mf_rows.specs.Sums.{HasWeights};
-ghost use Rattle.mf_ops.specs.Moves.{IsColumnOrRow};
-ghost use Rattle.mf_ops.specs.Reflections.{reflection_at};
+ghost use Rattle.mf_ops.specs.Moves.{IsColumnOrRow, reflection, turn_by};
 ghost use Rattle.mf_ops.specs.Step.{IsRefusal, next_picture, op_fault};
 ghost use Rattle.mf_ops.specs.declared.op.Op.TheVariants as ops;
 
@@ -58,50 +57,34 @@ pub fn turn(alloc: Global, picture: &Picture, quarter: Quarter) -> Result<Pictur
     ensures accepted { OnOk result (op_fault picture.now (ops.Quarter quarter) ≡ None) }
     ensures refused { IfErr result (λ fault. fault ≡ OpFault.OutOfMemory) }
 {
+    Ok(turned_picture(alloc, picture, quarter)?)
+}
+
+/// Returns the same picture. To turn by 180 degrees is to reflect the columns and the rows, and to turn by 270 degrees is to turn by
+/// 90 and then by 180.
+fn turned_picture(
+    alloc: Global,
+    picture: &Picture,
+    quarter: Quarter,
+) -> Result<Picture, OutOfMemory>
+    ensures weights { IfOk result (HasWeights (turn_by quarter (weight_at picture.now))) }
+    ensures lawful { IfOk result IsPicture }
+{
     match quarter {
-        Quarter::Once => turn_once(alloc, picture),
-        Quarter::Twice => turn_twice(alloc, picture),
-        Quarter::Thrice => turn_thrice(alloc, picture),
+        Quarter::Once => picture.turn(alloc),
+        Quarter::Twice => reflect(alloc, picture, true, true),
+        Quarter::Thrice => reflect(alloc, &picture.turn(alloc)?, true, true),
     }
 }
 
-/// Returns the picture turned by 90 degrees.
-fn turn_once(alloc: Global, picture: &Picture) -> Result<Picture, OpFault>
-    ensures step { IfOk result (λ new. new ≡ next_picture picture.now (ops.Quarter Quarter.Once)) }
-    ensures accepted { OnOk result (op_fault picture.now (ops.Quarter Quarter.Once) ≡ None) }
-    ensures refused { IfErr result (λ fault. fault ≡ OpFault.OutOfMemory) }
-{
-    Ok(picture.turn(alloc)?)
-}
-
-/// Returns the picture turned by 180 degrees: both reflections.
-fn turn_twice(alloc: Global, picture: &Picture) -> Result<Picture, OpFault>
-    ensures step { IfOk result (λ new. new ≡ next_picture picture.now (ops.Quarter Quarter.Twice)) }
-    ensures accepted { OnOk result (op_fault picture.now (ops.Quarter Quarter.Twice) ≡ None) }
-    ensures refused { IfErr result (λ fault. fault ≡ OpFault.OutOfMemory) }
-{
-    Ok(reflect(alloc, picture, true, true)?)
-}
-
-/// Returns the picture turned by 270 degrees: by 90 and then by 180.
-fn turn_thrice(alloc: Global, picture: &Picture) -> Result<Picture, OpFault>
-    ensures step { IfOk result (λ new. new ≡ next_picture picture.now (ops.Quarter Quarter.Thrice)) }
-    ensures accepted { OnOk result (op_fault picture.now (ops.Quarter Quarter.Thrice) ≡ None) }
-    ensures refused { IfErr result (λ fault. fault ≡ OpFault.OutOfMemory) }
-{
-    let turned = picture.turn(alloc)?;
-    Ok(reflect(alloc, &turned, true, true)?)
-}
-
 /// Returns the picture reflected in the line between columns -1 and 0, in the line between rows -1 and 0, or in both.
-#[tactic(auto, unfolding(crate::specs::Reflections::reflection_at, mf_rows::specs::Moves::column_mirror_at, mf_rows::specs::Moves::row_mirror_at))]
 fn reflect(
     alloc: Global,
     picture: &Picture,
     columns: bool,
     rows: bool,
 ) -> Result<Picture, OutOfMemory>
-    ensures weights { IfOk result (HasWeights (reflection_at columns rows picture.now)) }
+    ensures weights { IfOk result (HasWeights (reflection columns rows (weight_at picture.now))) }
     ensures lawful { IfOk result IsPicture }
 {
     match (columns, rows) {

@@ -11,7 +11,7 @@ use Rattle.mf_edges.specs.WeightMaps.{IsWeightMap}
 use Rattle.mf_rows.specs.Dots.{Dot, weight_at}
 use Rattle.mf_rows.specs.EdgeRows.{EdgeRow, AreRows, picture_of_rows}
 use Rattle.mf_rows.specs.Sums.{HasWeights, difference_at, sum_at}
-use Rattle.mf_rows.specs.WeightMaps.{mapped_weight_at}
+use Rattle.mf_rows.specs.WeightMaps.{mapped_weights}
 use Rattle.mf_rows.proofs.EdgeRowsLemmas.{weight_at-picture_of_rows}
 use Rattle.mf_rows.proofs.RowSumSteps.{no_row}
 
@@ -46,6 +46,6 @@ unfolding sum_at weight_at
 added_to_blank ds es blank = rw blank (record { weights = λ x y inside. omega (arith, ints) })
 
 -- weight 0 stays 0
-pub blank_mapped : (ds : List Dot) (m : WeightMap) → ds ≡ [] → IsWeightMap m → HasWeights (mapped_weight_at m ds) []
-unfolding mapped_weight_at weight_at
+pub blank_mapped : (ds : List Dot) (m : WeightMap) → ds ≡ [] → IsWeightMap m → HasWeights (mapped_weights m (weight_at ds)) []
+unfolding weight_at
 blank_mapped ds m blank map = rw blank (record { weights = λ x y inside. sym map.zero })

@@ -6,20 +6,12 @@ use Rattle.std.proofs.lemmas.Result.{IfOk-weaker}
 use Rattle.std.proofs.lemmas.Int.{ints}
 use Rattle.mf_geom.specs.Field.{IsInField}
 use Rattle.mf_rows.specs.declared.corner.Corner.{Corner}
-use Rattle.mf_edges.specs.declared.row_change.RowChange.TheVariants as change
-use Rattle.mf_edges.specs.declared.stretch.Stretch.{Stretch}
-use Rattle.mf_edges.specs.declared.weight_map.WeightMap.{WeightMap}
 use Rattle.mf_rows.specs.Corners.{added_by_all, with_corners_at}
 use Rattle.mf_rows.specs.Dots.{Dot, weight_at}
 use Rattle.mf_edges.specs.Edges.{weight_in}
 use Rattle.mf_rows.specs.EdgeRows.{EdgeRow, AreRowsFrom, AreRows, weight_in_rows, picture_of_rows}
-use Rattle.mf_edges.specs.Axes.{opposite, source_of}
-use Rattle.mf_rows.specs.Moves.{column_mirror_at, column_stretch_at, row_mirror_at, quarter_turn_at}
-use Rattle.mf_rows.specs.RowChanges.{image_in_rows, mirror_in_rows, quarter_turn_in_rows}
 use Rattle.mf_rows.specs.Signs.{negated_rows}
 use Rattle.mf_rows.specs.Sums.{HasWeights, IsUnlawfulSomewhere, sum_in_rows, difference_at, sum_at, HaveFieldWeights, HaveRowWeights}
-use Rattle.mf_edges.specs.WeightMaps.{mapped_weight}
-use Rattle.mf_rows.specs.WeightMaps.{mapped_weight_at}
 use Rattle.mf_rows.proofs.EdgeRowsLemmas.{weight_in_rows-here, weight_in_rows-elsewhere, weight_in_rows-none, weight_in_rows-below, rows_from-below}
 use Rattle.mf_rows.proofs.EdgeRowsLemmas.{lawful_picture_of_rows, weight_at-picture_of_rows}
 use Rattle.mf_rows.proofs.SignsLemmas.{weight_in_rows-negated}
@@ -103,32 +95,15 @@ unlawful_with_corners ds ks rows added unlawful = unlawful_as unlawful (corners_
 
 -- ---- rows are changed, or move
 
--- an operation on rows is one on the pictures that they represent
-pub record IsImage (image : List EdgeRow → ℤ → ℤ → ℤ) (at : List Dot → ℤ → ℤ → ℤ) : Type 0 where
-  pub same : (rs : List EdgeRow) (x y : ℤ) → AreRows rs → image rs x y ≡ at (picture_of_rows rs) x y
+-- rows and the picture that they represent have the same weights
+weights_of_rows-same : (rs : List EdgeRow) → AreRows rs → weight_in_rows rs ≡ weight_at (picture_of_rows rs)
+weights_of_rows-same rs rows = λ t x y. sym (weight_at-picture_of_rows rs x y rows) t
 
-pub mapped_is : (m : WeightMap) → IsImage (image_in_rows (change.Weights m)) (mapped_weight_at m)
-unfolding mapped_weight_at image_in_rows
-mapped_is m = record { same = λ rs x y rows. ap (mapped_weight m) (sym (weight_at-picture_of_rows rs x y rows)) }
-
-pub columns_mirrored : IsImage (image_in_rows change.Mirror) column_mirror_at
-unfolding column_mirror_at image_in_rows
-columns_mirrored = record { same = λ rs x y rows. sym (weight_at-picture_of_rows rs (opposite x) y rows) }
-
-pub columns_stretched : (s : Stretch) → IsImage (image_in_rows (change.Columns s)) (column_stretch_at s)
-unfolding column_stretch_at image_in_rows
-columns_stretched s = record { same = λ rs x y rows. sym (weight_at-picture_of_rows rs (source_of s x) y rows) }
-
-pub rows_mirrored : IsImage mirror_in_rows row_mirror_at
-unfolding row_mirror_at mirror_in_rows
-rows_mirrored = record { same = λ rs x y rows. sym (weight_at-picture_of_rows rs x (opposite y) rows) }
-
-pub quarter_turn : IsImage quarter_turn_in_rows quarter_turn_at
-unfolding quarter_turn_at quarter_turn_in_rows
-quarter_turn = record { same = λ rs x y rows. sym (weight_at-picture_of_rows rs y (opposite x) rows) }
-
--- a picture that is made of such rows
-pub image_made : {image : List EdgeRow → ℤ → ℤ → ℤ} {at : List Dot → ℤ → ℤ → ℤ} {rs ss new : List EdgeRow} {ds : List Dot} {E : Type 0}
-    → (r : Result (List Dot) E) → IsImage image at → AreRows rs → rs ≡ ss → picture_of_rows ss ≡ ds → AreRows new → HaveRowWeights (image rs) new
-    → IfOk r (λ made. made ≡ picture_of_rows new) → IfOk r (HasWeights (at ds))
-image_made {image = image} {at = at} {rs = rs} {new = new} {ds = ds} r is rows all picture lawful has = grind (arith, ints, IfOk-weaker, weights_as)
+-- so what changes weights changes rows and their pictures alike
+pub image_made : (image : (ℤ → ℤ → ℤ) → ℤ → ℤ → ℤ) (rs ss new : List EdgeRow) (ds : List Dot) (E : Type 0) (r : Result (List Dot) E) → AreRows rs
+    → rs ≡ ss → picture_of_rows ss ≡ ds → AreRows new → HaveRowWeights (image (weight_in_rows rs)) new
+    → IfOk r (λ made. made ≡ picture_of_rows new) → IfOk r (HasWeights (image (weight_at ds)))
+image_made image rs ss new ds E r rows all picture lawful has made =
+    let same : weight_in_rows rs ≡ weight_at ds = weights_of_rows-same rs rows ∙ ap (λ ss. weight_at (picture_of_rows ss)) all ∙ ap weight_at picture in
+    let weights = weights_as (image (weight_in_rows rs)) (image (weight_at ds)) new lawful has (λ x y t. image (same t) x y) in
+    IfOk-weaker r (λ ds. ds ≡ picture_of_rows new) (HasWeights (image (weight_at ds))) (λ ds is. rw is weights) made

@@ -20,7 +20,7 @@ use Rattle.mf_rows.specs.BlankRows.{unless_blank}
 use Rattle.mf_edges.specs.Edges.{weight_in, AreEdges}
 use Rattle.mf_rows.specs.EdgeRows.{EdgeRow, AreRowsFrom, AreRows, weight_in_rows}
 use Rattle.mf_edges.specs.RowChanges.{row_image, IsRowChange, EdgesAllowChange, image_in, AreChanged}
-use Rattle.mf_rows.specs.RowChanges.{image_in_rows}
+use Rattle.mf_rows.specs.RowChanges.{row_images}
 use Rattle.mf_rows.specs.RowMoves.{strip}
 use Rattle.mf_rows.specs.Strips.{Strip, strip_between, ReachDownTo, HasStrip}
 use Rattle.mf_rows.specs.Sums.{HaveRowWeights}
@@ -65,10 +65,10 @@ strip_weights s old new x y before after strip reach order inside outside =
     (λ under. omega (arith, ints, strip.strip x y from under, below_reach s.top old x y reach under, inside from under))
     (λ above. omega (arith, ints, strip.above x y above, outside (λ _ under. omega (arith, ints)))))
 
--- how rows are made of others: which rows may be taken, the weights of what is made of rows, and that row y becomes rows from `down y` up
+-- how rows are made of others: which rows may be taken, what becomes of their weights, and that row y becomes rows from `down y` up
 pub record Making : Type 1 where
   pub Allows : EdgeRow → Type 0
-  pub image : List EdgeRow → ℤ → ℤ → ℤ
+  pub image : (ℤ → ℤ → ℤ) → ℤ → ℤ → ℤ
   pub down : ℤ → ℤ
 
 -- rows are made one after another, and with the image of those that are left they have the weights of that of all
@@ -77,7 +77,7 @@ pub record IsMadeSoFar (m : Making) (whole left made : List EdgeRow) : Type 0 wh
   pub to_come : AreRowsFrom (low -ℤ pos 1) left
   pub allowed : All m.Allows left
   pub rows : ReachDownTo (m.down low) made
-  pub weights : (x y : ℤ) → weight_in_rows made x y +ℤ m.image left x y ≡ m.image whole x y
+  pub weights : (x y : ℤ) → weight_in_rows made x y +ℤ m.image (weight_in_rows left) x y ≡ m.image (weight_in_rows whole) x y
 
 module _ {m : Making} (whole : List EdgeRow) where
   pub made_none : AreRows whole → All m.Allows whole → IsMadeSoFar m whole whole []
@@ -98,8 +98,9 @@ module _ {m : Making} (whole : List EdgeRow) where
         record { rows = so_far.rows.rows; reach = λ k d inside. let from = so_far.rows.reach k d inside in omega (arith, ints) }
 
     pub made_more : (after : List EdgeRow) (es : List Edge) → HasStrip (strip_between es (m.down r.y) (m.down (r.y +ℤ pos 1))) made after
-        → ((x y : ℤ) → m.down r.y ≤ℤ y → y <ℤ m.down (r.y +ℤ pos 1) → weight_in es x +ℤ m.image rest x y ≡ m.image (r ∷ rest) x y)
-        → ((x y : ℤ) → (m.down r.y ≤ℤ y → y <ℤ m.down (r.y +ℤ pos 1) → ⊥) → m.image rest x y ≡ m.image (r ∷ rest) x y)
+        → ((x y : ℤ) → m.down r.y ≤ℤ y → y <ℤ m.down (r.y +ℤ pos 1)
+        → weight_in es x +ℤ m.image (weight_in_rows rest) x y ≡ m.image (weight_in_rows (r ∷ rest)) x y)
+        → ((x y : ℤ) → (m.down r.y ≤ℤ y → y <ℤ m.down (r.y +ℤ pos 1) → ⊥) → m.image (weight_in_rows rest) x y ≡ m.image (weight_in_rows (r ∷ rest)) x y)
         → IsMadeSoFar m whole rest after
     made_more after es strip inside outside =
         let order = up r.y (r.y +ℤ pos 1) (omega (arith, ints)) in
@@ -108,11 +109,11 @@ module _ {m : Making} (whole : List EdgeRow) where
           to_come = so_far.to_come.2;
           allowed = All-tail m.Allows r rest so_far.allowed;
           rows = strip.rows;
-          weights = λ x y. strip_weights _ made after x y (m.image (r ∷ rest) x y) (m.image rest x y) strip made_reach order (inside x y) (outside x y)
-              ∙ so_far.weights x y;
+          weights = λ x y. strip_weights _ made after x y _ _ strip made_reach order (inside x y) (outside x y) ∙ so_far.weights x y;
         }
 
-  pub made_all : (made : List EdgeRow) → ((x y : ℤ) → m.image [] x y ≡ pos 0) → IsMadeSoFar m whole [] made → HaveRowWeights (m.image whole) made
+  pub made_all : (made : List EdgeRow) → ((x y : ℤ) → m.image (weight_in_rows []) x y ≡ pos 0) → IsMadeSoFar m whole [] made
+      → HaveRowWeights (m.image (weight_in_rows whole)) made
   made_all made none so_far = record { weights = λ x y. omega (arith, ints, so_far.weights x y, none x y) }
 
 -- ---- edges that are compared
@@ -134,25 +135,24 @@ same_image c f g x same = λ t. row_image c (λ z. same z t) x
 
 -- a row and those below it have their weights at different heights, so each is changed by itself
 module _ (c : RowChange) (r : EdgeRow) (rest : List EdgeRow) (x v : ℤ) where
-  image_in_rows-here : (image : List Edge) → IsRowChange c → AreBelow r.y rest → AreChanged c r.edges image → r.y ≡ v
-      → weight_in image x +ℤ image_in_rows c rest x v ≡ image_in_rows c (r ∷ rest) x v
-  unfolding image_in_rows image_in
-  image_in_rows-here image lawful below changed here =
+  row_images-here : (image : List Edge) → IsRowChange c → AreBelow r.y rest → AreChanged c r.edges image → r.y ≡ v
+      → weight_in image x +ℤ row_images c (weight_in_rows rest) x v ≡ row_images c (weight_in_rows (r ∷ rest)) x v
+  unfolding image_in
+  row_images-here image lawful below changed here =
       let none : (z : ℤ) → weight_in_rows rest z v ≡ pos 0 = λ z. weight_in_rows-below rest z v (rw here at below) in
       let none_changed = same_image c _ _ x none ∙ image_of_blank c x lawful in
       let whole : (z : ℤ) → weight_in_rows (r ∷ rest) z v ≡ weight_in r.edges z = λ z. omega (arith, ints, weight_in_rows-here r rest z v here, none z) in
       let whole_changed = same_image c _ _ x whole in
       omega (arith, ints, changed.weights.weights x)
 
-  image_in_rows-elsewhere : r.y ≢ v → image_in_rows c rest x v ≡ image_in_rows c (r ∷ rest) x v
-  unfolding image_in_rows
-  image_in_rows-elsewhere apart = sym (same_image c _ _ x (λ z. weight_in_rows-elsewhere r rest z v apart))
+  row_images-elsewhere : r.y ≢ v → row_images c (weight_in_rows rest) x v ≡ row_images c (weight_in_rows (r ∷ rest)) x v
+  row_images-elsewhere apart = sym (same_image c _ _ x (λ z. weight_in_rows-elsewhere r rest z v apart))
 
 -- ---- the rows so far
 
 -- the new rows have the weights of all rows after the change except for those that are left
 abbrev pub IsChangeSoFar : RowChange → List EdgeRow → List EdgeRow → List EdgeRow → Type 0
-IsChangeSoFar c = IsMadeSoFar (record { Allows = λ r. EdgesAllowChange c r.edges; image = image_in_rows c; down = λ y. y })
+IsChangeSoFar c = IsMadeSoFar (record { Allows = λ r. EdgesAllowChange c r.edges; image = row_images c; down = λ y. y })
 
 pub change_more : (c : RowChange) (whole rest changed : List EdgeRow) (r : EdgeRow) (image : List Edge) → IsRowChange c
     → IsChangeSoFar c whole (r ∷ rest) changed → AreChanged c r.edges image
@@ -163,10 +163,10 @@ change_more c whole rest changed r image lawful so_far has =
     let same : (a b : ℤ) → a ≤ℤ b → a ≤ℤ b = λ a b le. le in
     made_more whole rest changed r same so_far _ image
     (strip_unless_blank changed r.y image first.bottom first.top has.edges (made_reach whole rest changed r same so_far))
-    (λ x v from under. image_in_rows-here c r rest x v image lawful below has (omega (arith, ints)))
-    (λ x v outside. image_in_rows-elsewhere c r rest x v (λ here. outside (omega (arith, ints)) (omega (arith, ints))))
+    (λ x v from under. row_images-here c r rest x v image lawful below has (omega (arith, ints)))
+    (λ x v outside. row_images-elsewhere c r rest x v (λ here. outside (omega (arith, ints)) (omega (arith, ints))))
 
 pub change_all : (c : RowChange) (whole changed : List EdgeRow) → IsRowChange c → IsChangeSoFar c whole [] changed
-    → HaveRowWeights (image_in_rows c whole) changed
-unfolding weight_in_rows image_in_rows
+    → HaveRowWeights (row_images c (weight_in_rows whole)) changed
+unfolding weight_in_rows
 change_all c whole changed lawful = made_all whole changed (λ x y. image_of_blank c x lawful)

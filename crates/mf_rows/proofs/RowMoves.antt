@@ -9,7 +9,7 @@ use Rattle.mf_rows.specs.declared.row.Row.{Row}
 use Rattle.mf_rows.specs.Bands.{edge_row, edge_rows, AreAbove}
 use Rattle.mf_rows.specs.EdgeRows.{EdgeRow, IsEdgeRow, AreRowsFrom, AreRows, weight_in_rows}
 use Rattle.mf_edges.specs.Axes.{opposite}
-use Rattle.mf_rows.specs.RowChanges.{mirror_in_rows}
+use Rattle.mf_rows.specs.Moves.{moved_rows}
 use Rattle.mf_rows.specs.Strips.{ReachDownTo}
 use Rattle.mf_rows.specs.Sums.{HaveRowWeights}
 use Rattle.mf_rows.proofs.EdgeRowsLemmas.{weight_in_rows-append, weight_in_rows-here, weight_in_rows-elsewhere}
@@ -75,6 +75,6 @@ module _ {whole mirrored : List EdgeRow} (left : List EdgeRow) (r : EdgeRow) (so
             ∙ so_far.weights x v;
       }
 
-pub mirror_all : (whole mirrored : List EdgeRow) → IsMirrorSoFar whole [] mirrored → HaveRowWeights (mirror_in_rows whole) mirrored
-unfolding mirror_in_rows weight_in_rows
+pub mirror_all : (whole mirrored : List EdgeRow) → IsMirrorSoFar whole [] mirrored → HaveRowWeights (moved_rows opposite (weight_in_rows whole)) mirrored
+unfolding weight_in_rows
 mirror_all whole mirrored so_far = record { weights = λ x y. omega (arith, ints, so_far.weights x y) }

@@ -8,7 +8,7 @@ use Rattle.mf_rows.specs.Bands.{AreBelow}
 use Rattle.mf_edges.specs.Edges.{weight_in}
 use Rattle.mf_rows.specs.EdgeRows.{EdgeRow, weight_in_rows}
 use Rattle.mf_edges.specs.Axes.{IsStretch, PlaceStaysInside, source_of, target_of}
-use Rattle.mf_rows.specs.RowChanges.{stretch_in_rows}
+use Rattle.mf_rows.specs.Moves.{moved_rows}
 use Rattle.mf_rows.specs.RowMoves.{HasStretched}
 use Rattle.mf_rows.specs.Sums.{HaveRowWeights}
 use Rattle.mf_rows.proofs.EdgeRowsLemmas.{weight_in_rows-here, weight_in_rows-elsewhere, weight_in_rows-below, rows_from-below}
@@ -45,21 +45,20 @@ strip_place {s = s} {y = y} offset stretch bottom top inside =
 
 -- the pixels of a row's strip come from that row, and those of the rows below it come from elsewhere
 module _ (s : Stretch) (r : EdgeRow) (rest : List EdgeRow) (x v : ℤ) (stretch : IsStretch s) where
-  stretch_in_rows-here : AreBelow r.y rest → target_of s r.y ≤ℤ v → v <ℤ target_of s (r.y +ℤ pos 1)
-      → weight_in r.edges x +ℤ stretch_in_rows s rest x v ≡ stretch_in_rows s (r ∷ rest) x v
-  unfolding stretch_in_rows
-  stretch_in_rows-here below from under = grind (arith, ints, sym, source_of-is, weight_in_rows-below, weight_in_rows-here)
+  source-here : AreBelow r.y rest → target_of s r.y ≤ℤ v → v <ℤ target_of s (r.y +ℤ pos 1)
+      → weight_in r.edges x +ℤ weight_in_rows rest x (source_of s v) ≡ weight_in_rows (r ∷ rest) x (source_of s v)
+  source-here below from under = grind (arith, ints, sym, source_of-is, weight_in_rows-below, weight_in_rows-here)
 
-  stretch_in_rows-elsewhere : (target_of s r.y ≤ℤ v → v <ℤ target_of s (r.y +ℤ pos 1) → ⊥) → stretch_in_rows s rest x v ≡ stretch_in_rows s (r ∷ rest) x v
-  unfolding stretch_in_rows
-  stretch_in_rows-elsewhere outside = sym (weight_in_rows-elsewhere r rest x (source_of s v) (λ here.
+  source-elsewhere : (target_of s r.y ≤ℤ v → v <ℤ target_of s (r.y +ℤ pos 1) → ⊥)
+      → weight_in_rows rest x (source_of s v) ≡ weight_in_rows (r ∷ rest) x (source_of s v)
+  source-elsewhere outside = sym (weight_in_rows-elsewhere r rest x (source_of s v) (λ here.
       outside (source_of-reached s r.y v stretch (omega (arith, ints)))
       (by_lt_z v (target_of s (r.y +ℤ pos 1)) (λ lt. lt)
       (λ ge. let from = source_of-from s (r.y +ℤ pos 1) v stretch ge in absurd (omega (arith, ints))))))
 
 -- the new rows have the stretched weights of all rows except for those that are left
 abbrev pub IsStretchSoFar : Stretch → List EdgeRow → List EdgeRow → List EdgeRow → Type 0
-IsStretchSoFar s = IsMadeSoFar (record { Allows = λ r. PlaceStaysInside s r.y; image = stretch_in_rows s; down = target_of s })
+IsStretchSoFar s = IsMadeSoFar (record { Allows = λ r. PlaceStaysInside s r.y; image = moved_rows (source_of s); down = target_of s })
 
 -- the next row becomes its strip
 pub stretch_more : (s : Stretch) (whole rest stretched after : List EdgeRow) (r : EdgeRow) → IsStretch s
@@ -76,9 +75,10 @@ stretch_more s whole rest stretched after r stretch so_far has =
     strip_below stretched r.edges bottom top (made_reach whole rest stretched r up so_far) inside.start.least
     (target_of-lt s r.y (r.y +ℤ pos 1) stretch (omega (arith, ints))) inside.end.greatest first.some first.edges in
     made_more whole rest stretched r up so_far after r.edges (rw has.all (rw size at strip))
-    (λ x v from under. stretch_in_rows-here s r rest x v stretch below from under)
-    (λ x v outside. stretch_in_rows-elsewhere s r rest x v stretch outside)
+    (λ x v from under. source-here s r rest x v stretch below from under)
+    (λ x v outside. source-elsewhere s r rest x v stretch outside)
 
-pub stretch_all : (s : Stretch) (whole stretched : List EdgeRow) → IsStretchSoFar s whole [] stretched → HaveRowWeights (stretch_in_rows s whole) stretched
-unfolding weight_in_rows stretch_in_rows
+pub stretch_all : (s : Stretch) (whole stretched : List EdgeRow) → IsStretchSoFar s whole [] stretched
+    → HaveRowWeights (moved_rows (source_of s) (weight_in_rows whole)) stretched
+unfolding weight_in_rows
 stretch_all s whole stretched = made_all whole stretched (λ x v. refl)

@@ -14,8 +14,8 @@ use Rattle.mf_rows.specs.Dots.{Dot, IsPicture, weight_at}
 use Rattle.mf_edges.specs.Edges.{weight_in, AreEdgesFrom}
 use Rattle.mf_rows.specs.EdgeRows.{EdgeRow, IsEdgeRow, AreRowsFrom, AreRows, weight_in_rows, picture_of_rows}
 use Rattle.mf_edges.specs.Axes.{IsStretch, PlaceStaysInside, source_of, target_of}
-use Rattle.mf_rows.specs.Moves.{column_stretch_at, stretch_at}
-use Rattle.mf_rows.specs.RowChanges.{RowsAllowChange, AllowStretch, stretch_in_rows}
+use Rattle.mf_rows.specs.Moves.{moved_columns, moved_rows}
+use Rattle.mf_rows.specs.RowChanges.{RowsAllowChange, AllowStretch}
 use Rattle.mf_rows.specs.Sums.{HasWeights, HaveRowWeights}
 use Rattle.mf_rows.proofs.DotsLemmas.{weight_at-outside}
 use Rattle.mf_edges.proofs.EdgesAt.{edges_from-at, step_at_edge}
@@ -86,8 +86,8 @@ columns_allowed columns rs lawful inside =
 -- a picture of which the columns were stretched, as rows
 module _ (columns rows : Stretch) (ds : List Dot) (wide : List EdgeRow) (lawful : AreRows wide) where
   -- rows keep their heights when their columns are stretched
-  pub rows_allowed : All (λ d. PlaceStaysInside rows d.y) ds → HasWeights (column_stretch_at columns ds) (picture_of_rows wide) → AllowStretch rows wide
-  unfolding column_stretch_at
+  pub rows_allowed : All (λ d. PlaceStaysInside rows d.y) ds → HasWeights (moved_columns (source_of columns) (weight_at ds)) (picture_of_rows wide)
+      → AllowStretch rows wide
   rows_allowed inside has =
       each_row last_in_field wide lawful.rows (λ r row _ own. first_weight least_coordinate r.edges row.some row.edges.sorted
       (λ x nonzero. by_field x r.y
@@ -96,9 +96,9 @@ module _ (columns rows : Stretch) (ds : List Dot) (wide : List EdgeRow) (lawful 
       (λ outside. absurd (nonzero (sym (own x) ∙ weight_in_rows-outside last_in_field wide x r.y lawful.rows outside)))))
 
   pub weights_stretched : (stretched : List EdgeRow) → IsPicture ds → AreRows stretched
-      → HasWeights (column_stretch_at columns ds) (picture_of_rows wide)
-      → HaveRowWeights (stretch_in_rows rows wide) stretched → HasWeights (stretch_at columns rows ds) (picture_of_rows stretched)
-  unfolding column_stretch_at stretch_in_rows stretch_at
+      → HasWeights (moved_columns (source_of columns) (weight_at ds)) (picture_of_rows wide)
+      → HaveRowWeights (moved_rows (source_of rows) (weight_in_rows wide)) stretched
+      → HasWeights (moved_rows (source_of rows) (moved_columns (source_of columns) (weight_at ds))) (picture_of_rows stretched)
   weights_stretched stretched picture lawful_stretched has has_stretched =
       grind (arith, ints, weight_at-picture_of_rows, by_field, sym, weight_in_rows-outside, weight_at-outside)
 
@@ -110,8 +110,8 @@ source_of-same s q stretch one none =
 
 -- a pixel that stays in the field bounds the offset, so that no number of 32 bits stands for another one
 pub columns_same : (s : Stretch) (ds : List Dot) → IsPicture ds → All (λ d. PlaceStaysInside s d.x) ds → IsStretch s
-    → of_z w32 s.factor ≡ 1 → of_z w32 s.offset ≡ 0 → HasWeights (column_stretch_at s ds) ds
-unfolding column_stretch_at weight_at
+    → of_z w32 s.factor ≡ 1 → of_z w32 s.offset ≡ 0 → HasWeights (moved_columns (source_of s) (weight_at ds)) ds
+unfolding weight_at
 columns_same s [] picture inside stretch one none = record { weights = λ x y within. refl }
 columns_same s (d ∷ ds) picture inside stretch one none =
     let factor : s.factor ≡ pos 1 = omega (arith, ints, stretch.least, stretch.greatest) in

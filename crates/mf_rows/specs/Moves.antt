@@ -1,30 +1,22 @@
--- Pictures that are reflected, stretched and turned, pixel by pixel.
+-- Pictures, or rows, whose columns and rows move, in terms of their weights: f x y is the weight of the pixel (x, y).
 use Rattle.std.specs.Prelude.{ℤ, All, List}
 use Rattle.mf_edges.specs.declared.stretch.Stretch.{Stretch}
-use Rattle.mf_rows.specs.Dots.{Dot, weight_at}
-use Rattle.mf_edges.specs.Axes.{opposite, source_of, PlaceStaysInside}
+use Rattle.mf_rows.specs.Dots.{Dot}
+use Rattle.mf_edges.specs.Axes.{opposite, PlaceStaysInside}
+
+-- the weights f after the columns move: column x comes from column `source x`
+abbrev pub moved_columns : (ℤ → ℤ) → (ℤ → ℤ → ℤ) → ℤ → ℤ → ℤ
+moved_columns source f x y = f (source x) y
+
+-- the weights f after the rows move: row y comes from row `source y`
+abbrev pub moved_rows : (ℤ → ℤ) → (ℤ → ℤ → ℤ) → ℤ → ℤ → ℤ
+moved_rows source f x y = f x (source y)
+
+-- the weights f after a turn by 90 degrees counterclockwise, which takes the pixel (x, y) to (-y - 1, x)
+abbrev pub quarter_turn : (ℤ → ℤ → ℤ) → ℤ → ℤ → ℤ
+quarter_turn f x y = f y (opposite x)
 
 -- the stretches of columns and of rows take all pixels of nonzero weight to pixels of the field
 pub record PixelsStayInside (columns rows : Stretch) (ds : List Dot) : Type 0 where
   pub across : All (λ d. PlaceStaysInside columns d.x) ds
   pub up : All (λ d. PlaceStaysInside rows d.y) ds
-
--- the weight of the pixel (x, y) after a picture is stretched
-unfoldable pub stretch_at : Stretch → Stretch → List Dot → ℤ → ℤ → ℤ
-stretch_at columns rows ds x y = weight_at ds (source_of columns x) (source_of rows y)
-
--- the weight of the pixel (x, y) after the columns of a picture are stretched
-unfoldable pub column_stretch_at : Stretch → List Dot → ℤ → ℤ → ℤ
-column_stretch_at columns ds x y = weight_at ds (source_of columns x) y
-
--- the weight of the pixel (x, y) after the columns of a picture are reflected
-unfoldable pub column_mirror_at : List Dot → ℤ → ℤ → ℤ
-column_mirror_at ds x y = weight_at ds (opposite x) y
-
--- the weight of the pixel (x, y) after the rows of a picture are reflected
-unfoldable pub row_mirror_at : List Dot → ℤ → ℤ → ℤ
-row_mirror_at ds x y = weight_at ds x (opposite y)
-
--- the weight of the pixel (x, y) after a picture is turned by 90 degrees counterclockwise
-unfoldable pub quarter_turn_at : List Dot → ℤ → ℤ → ℤ
-quarter_turn_at ds x y = weight_at ds y (opposite x)

@@ -57,7 +57,7 @@ impl Picture {
     ghost use Rattle.mf_rows.specs.Runs.{runs_of};
     ghost use Rattle.mf_rows.specs.Sums.{HasWeights, IsUnlawfulSomewhere, difference_at, sum_at};
     ghost use Rattle.mf_edges.specs.WeightMaps.{IsWeightMap};
-    ghost use Rattle.mf_rows.specs.WeightMaps.{mapped_weight_at};
+    ghost use Rattle.mf_rows.specs.WeightMaps.{mapped_weights};
     ghost use Rattle.mf_rows.specs.Weights.{HaveSameWeights};
 
     /// The blank picture, METAFONT's `nullpicture`: every weight is 0.
@@ -218,7 +218,7 @@ impl Picture {
     #[tactic(auto, using(crate::proofs::BlankPictures::blank_mapped))]
     pub fn map_weights(&self, alloc: Global, map: &WeightMap) -> Result<Picture, OutOfMemory>
         requires { IsWeightMap map.now }
-        ensures weights { IfOk result (HasWeights (mapped_weight_at map.now self.now)) }
+        ensures weights { IfOk result (HasWeights (mapped_weights map.now (weight_at self.now))) }
         ensures blank { self.now ≡ [] → IsOk result }
         ensures lawful { IfOk result IsPicture }
     {

@@ -3,9 +3,9 @@ ghost use Rattle.std.specs.Prelude.{◌≡◌, ◌++◌, IfOk, OnOk, ◌≤ℤ�
 ghost use Rattle.mf_geom.specs.Coordinates.{least_coordinate, last_in_field};
 ghost use Rattle.mf_rows.specs.Bands.{edge_row, edge_rows};
 ghost use Rattle.mf_rows.specs.BlankRows.{unless_blank};
-ghost use Rattle.mf_rows.specs.EdgeRows.{AreRows};
+ghost use Rattle.mf_rows.specs.EdgeRows.{AreRows, weight_in_rows};
 ghost use Rattle.mf_edges.specs.RowChanges.{IsRowChange};
-ghost use Rattle.mf_rows.specs.RowChanges.{RowsAllowChange, image_in_rows};
+ghost use Rattle.mf_rows.specs.RowChanges.{RowsAllowChange, row_images};
 ghost use Rattle.mf_rows.specs.Sums.{HaveRowWeights};
 
 use crate::new_edges::NewEdges;
@@ -25,7 +25,7 @@ pub(crate) fn changed_rows(
     requires change { IsRowChange change.now }
     requires allowed { RowsAllowChange change.now (edge_rows rows.now) }
     ensures rows { IfOk result (λ changed. AreRows changed) }
-    ensures weights { IfOk result (λ changed. HaveRowWeights (image_in_rows change.now (edge_rows rows.now)) changed) }
+    ensures weights { IfOk result (λ changed. HaveRowWeights (row_images change.now (weight_in_rows (edge_rows rows.now))) changed) }
 {
     let mut changed = RowWriter::new(alloc);
     // The last edges, and what they became; at first there are no edges, which stay none.

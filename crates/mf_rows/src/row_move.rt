@@ -2,9 +2,10 @@
 ghost use Rattle.std.specs.Prelude.{IfOk, OnOk, ◌≤ℤ◌};
 ghost use Rattle.mf_geom.specs.Coordinates.{least_coordinate, last_in_field};
 ghost use Rattle.mf_rows.specs.Bands.{edge_row, edge_rows};
-ghost use Rattle.mf_rows.specs.EdgeRows.{AreRows};
-ghost use Rattle.mf_edges.specs.Axes.{IsStretch, PlaceStaysInside};
-ghost use Rattle.mf_rows.specs.RowChanges.{AllowStretch, mirror_in_rows, stretch_in_rows};
+ghost use Rattle.mf_rows.specs.EdgeRows.{AreRows, weight_in_rows};
+ghost use Rattle.mf_edges.specs.Axes.{IsStretch, PlaceStaysInside, opposite, source_of};
+ghost use Rattle.mf_rows.specs.Moves.{moved_rows};
+ghost use Rattle.mf_rows.specs.RowChanges.{AllowStretch};
 ghost use Rattle.mf_rows.specs.RowMoves.{HasStretched};
 ghost use Rattle.mf_rows.specs.Sums.{HaveRowWeights};
 
@@ -18,7 +19,7 @@ use std::alloc::Global;
 pub(crate) fn mirrored_rows(alloc: Global, rows: &[Row<'_>]) -> Result<RowWriter, OutOfMemory>
     requires { AreRows (edge_rows rows.now) }
     ensures rows { IfOk result (λ mirrored. AreRows mirrored) }
-    ensures weights { IfOk result (λ mirrored. HaveRowWeights (mirror_in_rows (edge_rows rows.now)) mirrored) }
+    ensures weights { IfOk result (λ mirrored. HaveRowWeights (moved_rows opposite (weight_in_rows (edge_rows rows.now))) mirrored) }
 {
     let mut mirrored = RowWriter::new(alloc);
     for row in rows.iter().rev() {
@@ -37,7 +38,7 @@ pub(crate) fn stretched_rows(
     requires stretch { IsStretch stretch.now }
     requires allowed { AllowStretch stretch.now (edge_rows rows.now) }
     ensures rows { IfOk result (λ stretched. AreRows stretched) }
-    ensures weights { IfOk result (λ stretched. HaveRowWeights (stretch_in_rows stretch.now (edge_rows rows.now)) stretched) }
+    ensures weights { IfOk result (λ stretched. HaveRowWeights (moved_rows (source_of stretch.now) (weight_in_rows (edge_rows rows.now))) stretched) }
 {
     let mut stretched = RowWriter::new(alloc);
     for row in rows {

@@ -1,8 +1,8 @@
 //! What moves a picture: reflections, stretches and turns.
 ghost use Rattle.std.specs.Prelude.{All, IfOk};
-ghost use Rattle.mf_edges.specs.Axes.{IsStretch, PlaceStaysInside};
-ghost use Rattle.mf_rows.specs.Dots.{IsPicture};
-ghost use Rattle.mf_rows.specs.Moves.{PixelsStayInside, column_mirror_at, column_stretch_at, row_mirror_at, stretch_at, quarter_turn_at};
+ghost use Rattle.mf_edges.specs.Axes.{IsStretch, PlaceStaysInside, opposite, source_of};
+ghost use Rattle.mf_rows.specs.Dots.{IsPicture, weight_at};
+ghost use Rattle.mf_rows.specs.Moves.{PixelsStayInside, moved_columns, moved_rows, quarter_turn};
 ghost use Rattle.mf_rows.specs.Sums.{HasWeights};
 
 use super::Picture;
@@ -19,7 +19,7 @@ impl Picture {
     /// The picture reflected in the line between columns -1 and 0: column x becomes column -x - 1 (mf.web:
     /// `x_reflect_edges`). This one is unchanged. Refused with `OutOfMemory` where an allocation fails.
     pub fn mirror_columns(&self, alloc: Global) -> Result<Picture, OutOfMemory>
-        ensures weights { IfOk result (HasWeights (column_mirror_at self.now)) }
+        ensures weights { IfOk result (HasWeights (moved_columns opposite (weight_at self.now))) }
         ensures lawful { IfOk result IsPicture }
     {
         let groups = self.groups(alloc)?;
@@ -31,7 +31,7 @@ impl Picture {
     /// The picture reflected in the line between rows -1 and 0: row y becomes row -y - 1 (mf.web: `y_reflect_edges`).
     /// This one is unchanged. Refused with `OutOfMemory` where an allocation fails.
     pub fn mirror_rows(&self, alloc: Global) -> Result<Picture, OutOfMemory>
-        ensures weights { IfOk result (HasWeights (row_mirror_at self.now)) }
+        ensures weights { IfOk result (HasWeights (moved_rows opposite (weight_at self.now))) }
         ensures lawful { IfOk result IsPicture }
     {
         let groups = self.groups(alloc)?;
@@ -51,7 +51,7 @@ impl Picture {
         requires columns { IsStretch columns.now }
         requires rows { IsStretch rows.now }
         requires inside { PixelsStayInside columns.now rows.now self.now }
-        ensures weights { IfOk result (HasWeights (stretch_at columns.now rows.now self.now)) }
+        ensures weights { IfOk result (HasWeights (moved_rows (source_of rows.now) (moved_columns (source_of columns.now) (weight_at self.now)))) }
         ensures lawful { IfOk result IsPicture }
     {
         let wide = self.with_columns_stretched(alloc, columns)?;
@@ -64,7 +64,7 @@ impl Picture {
     /// - 1, x) (mf.web: `xy_swap_edges` and a reflection). This one is unchanged. Refused with `OutOfMemory` where an
     /// allocation fails.
     pub fn turn(&self, alloc: Global) -> Result<Picture, OutOfMemory>
-        ensures weights { IfOk result (HasWeights (quarter_turn_at self.now)) }
+        ensures weights { IfOk result (HasWeights (quarter_turn (weight_at self.now))) }
         ensures lawful { IfOk result IsPicture }
     {
         let groups = self.groups(alloc)?;
@@ -80,7 +80,7 @@ impl Picture {
     ) -> Result<Picture, OutOfMemory>
         requires columns { IsStretch columns.now }
         requires inside { All (λ dot. PlaceStaysInside columns.now dot.x) self.now }
-        ensures weights { IfOk result (HasWeights (column_stretch_at columns.now self.now)) }
+        ensures weights { IfOk result (HasWeights (moved_columns (source_of columns.now) (weight_at self.now))) }
         ensures lawful { IsPicture self.now }
     {
         if columns.factor == 1 && columns.offset == 0 {

@@ -1,12 +1,10 @@
 use Rattle.std.proofs.Common.{refl}
 use Rattle.mf_ops.proofs.Faults.{HasWeights-same, makes_anyway}
 use Rattle.mf_rows.specs.Dots.{weight_at}
-use Rattle.mf_rows.specs.WeightMaps.{mapped_weight_at}
 use Rattle.mf_ops.specs.declared.op.Op.TheVariants.{Cull}
 use Rattle.mf_ops.proofs.op.after_cull.Goals as goal
 
 pub returns : goal.returns
-unfolding mapped_weight_at
 returns c =
     let ds = c.args.picture.now in
     let has = HasWeights-same _ _ _ (λ x y. c.weight_map.ensures.value (weight_at ds x y)) c.in_ok-map_weights.ensures.weights in

@@ -1,13 +1,11 @@
-use Rattle.std.proofs.Common.{◌≡◌, true, refl, ap, ℤ, ◌-ℤ◌, List, FitsSigned, w32, to_z, of_z, ◌∙◌, arith}
+use Rattle.std.proofs.Common.{◌≡◌, true, refl, ap, ℤ, ◌-ℤ◌, FitsSigned, w32, to_z, of_z, ◌∙◌, arith}
 use Rattle.std.proofs.lemmas.Bool.{both_ways}
 use Rattle.std.proofs.lemmas.Int.{ints, to_z-of_z}
 use Rattle.mf_edges.specs.declared.stretch.Stretch.{Stretch}
-use Rattle.mf_rows.specs.Dots.{Dot, weight_at}
+use Rattle.mf_rows.specs.Dots.{weight_at}
 use Rattle.mf_edges.specs.Axes.{source_of}
-use Rattle.mf_rows.specs.Moves.{stretch_at}
 use Rattle.mf_edges.proofs.Sources.{source_of-is}
 use Rattle.mf_ops.specs.Moves.{shift_by}
-use Rattle.mf_ops.specs.Step.{step_at}
 use Rattle.mf_ops.specs.declared.op.Op.TheVariants.{Shift}
 use Rattle.mf_ops.proofs.Faults.{HasWeights-same, IsForWeights, made-from_weights, op_fault-leaves, not_out}
 use Rattle.mf_ops.proofs.Leaving.{some_leaves, stays_in_field-shift}
@@ -17,10 +15,6 @@ use Rattle.mf_ops.proofs.transform.shift.Goals as goal
 source_of-shift : (d q : ℤ) → source_of (shift_by d) q ≡ q -ℤ d
 source_of-shift d q =
     source_of-is (shift_by d) (q -ℤ d) q (record { least = omega (arith, ints); greatest = omega (arith, ints) }) (omega (arith, ints)) (omega (arith, ints))
-
-stretch_at-shift : (ds : List Dot) (dx dy x y : ℤ) → stretch_at (shift_by dx) (shift_by dy) ds x y ≡ step_at ds (Shift dx dy) x y
-unfolding stretch_at
-stretch_at-shift ds dx dy x y = λ t. weight_at ds (source_of-shift dx x t) (source_of-shift dy y t)
 
 offset-read_back : (s : Stretch) (d : ℤ) → FitsSigned w32 d → s ≡ shift_by (to_z w32 (of_z w32 d)) → s ≡ shift_by d
 offset-read_back s d fits is = is ∙ ap shift_by (to_z-of_z w32 d fits)
@@ -47,7 +41,9 @@ returns c =
     let op = Shift c.args.right c.args.up in
     let after = (goal.at.returns c).After-pixels_stay_inside in
     let inside = stays after c.if-not-pixels_stay_inside.false in
-    let has = HasWeights-same _ _ _ (stretch_at-shift ds c.args.right c.args.up) (rw (columns after, rows after) at c.in_ok-stretch.ensures.weights) in
+    let has =
+    HasWeights-same _ _ _ (λ x y t. weight_at ds (source_of-shift c.args.right x t) (source_of-shift c.args.up y t))
+    (rw (columns after, rows after) at c.in_ok-stretch.ensures.weights) in
     let made = made-from_weights ds op _ inside c.in_ok-stretch.ensures.lawful has in
     record { step = made.0; accepted = made.1; refused = tt; out_of_field = λ out. absurd (not_out ds op inside out) }
 

@@ -1,9 +1,7 @@
-use Rattle.mf_rows.proofs.PictureRows.{image_made, mapped_is}
+use Rattle.mf_rows.specs.WeightMaps.{mapped_weights}
+use Rattle.mf_rows.proofs.PictureRows.{image_made}
 use Rattle.mf_rows.proofs.picture.Picture.map_weights.Goals as goal
+use Rattle.std.proofs.Common.{arith}
 
 pub returns-clause-weights : goal.returns-clause-weights
-returns-clause-weights c =
-    let rows = c.in_ok-rows.ensures in
-    let made = c.in_ok-changed.ensures in
-    image_made c.from_rows.result (mapped_is c.args.map.now) rows.rows (rw c.deref.ensures.value at rows.all) c.in_ok-groups.ensures.picture made.rows
-    (rw c.deref-2.ensures.value at made.weights) c.from_rows.ensures.value
+returns-clause-weights c = grind (arith, image_made (mapped_weights c.args.map.now))

@@ -1,5 +1,7 @@
 use Rattle.std.proofs.lemmas.Result.{IfOk-weaker}
-use Rattle.mf_rows.proofs.PictureRows.{image_made, columns_stretched}
+use Rattle.mf_edges.specs.Axes.{source_of}
+use Rattle.mf_rows.specs.Moves.{moved_columns}
+use Rattle.mf_rows.proofs.PictureRows.{image_made}
 use Rattle.mf_rows.proofs.StretchBounds.{columns_allowed, columns_same}
 use Rattle.mf_rows.proofs.PictureGroups.{pictured}
 use Rattle.mf_rows.proofs.picture.Picture.with_columns_stretched.Goals as goal
@@ -15,8 +17,4 @@ changed_rows-requires-clause-allowed c =
     rw c.deref-2.ensures.value (columns_allowed c.args.columns.now _ rows.rows (rw picture c.requires.inside))
 
 pub returns-clause-weights : goal.returns-clause-weights
-returns-clause-weights c =
-    let rows = c.in_ok-rows.ensures in
-    let made = c.in_ok-changed.ensures in
-    image_made c.from_rows.result (columns_stretched c.args.columns.now) rows.rows (rw c.deref.ensures.value at rows.all) c.in_ok-groups.ensures.picture
-    made.rows (rw c.deref-2.ensures.value at made.weights) c.from_rows.ensures.value
+returns-clause-weights c = grind (arith, image_made (moved_columns (source_of c.args.columns.now)))
