@@ -38,7 +38,7 @@ pub split_first : (e : Edge) (es : List Edge) (x : ℤ) → AreEdgesLeft x (e �
 split_first e es x left here = record {
   weights = grind (arith, ints, by_lt_z, weight_in-right, sym, with_edge_in-before, weight_in-left, with_edge_in-after);
   difference = All-head (λ e. IsDifference e.weight) e es left.differences;
-  left = record { sorted = rw (← here) left.sorted.2; differences = All-tail (λ e. IsDifference e.weight) e es left.differences };
+  rest = record { sorted = rw (← here) left.sorted.2; differences = All-tail (λ e. IsDifference e.weight) e es left.differences };
   no_longer = omega arith;
   shorter = λ _. omega arith;
 }
@@ -199,7 +199,7 @@ module _ {f : ℤ → ℤ} {new es changes fs : List Edge} {e : Edge} {n : ℕ} 
         reach = omega (arith, ints, edge.column.least);
         sorted = sorted_push kept e.x e.x (v +ℤ e.weight) kept_sorted kept_below column;
         below = before_push kept e.x e.x (v +ℤ e.weight) kept_below column.from;
-        left = split.left;
+        left = split.rest;
         right = record { sorted = right_left.sorted.2; differences = All-tail (λ e. IsDifference e.weight) e fs right_left.differences };
         weights = λ x.
             let old = rw changes_are at (so_far.weights x) in

@@ -1,19 +1,22 @@
 -- The reach of edges, and of the sum of two rows.
 use Rattle.std.proofs.Common.{◌≡◌, ◌<◌, ◌≤◌, ◌+◌, nat_abs, ℕ, ℤ, get_or, take, length, to_z}
-use Rattle.std.proofs.Common.{of_z, w32, pos, ◌+ℤ◌, ◌-ℤ◌, ◌≤ℤ◌, List, refl, sym, ap, ◌∙◌, arith}
+use Rattle.std.proofs.Common.{of_z, w32, pos, ◌+ℤ◌, ◌-ℤ◌, ◌≤ℤ◌, List, refl, sym, subst, ap, ◌∙◌, arith}
 use Rattle.std.specs.Ordering.{int_cmp, ord_max}
 use Rattle.std.proofs.lemmas.Cmp.{by_ranked, int_ranked}
 use Rattle.std.proofs.lemmas.Int.{ints, by_lt_z}
 use Rattle.std.proofs.lemmas.List.{take_all}
 use Rattle.mf_geom.specs.Coordinates.{least_coordinate, greatest_coordinate}
 use Rattle.mf_edges.specs.declared.edge.Edge.{Edge}
-use Rattle.mf_edges.specs.LawfulWeights.{IsLawfulWeight, greatest_weight}
+use Rattle.mf_edges.specs.LawfulWeights.{IsInReach, IsLawfulWeight, greatest_weight}
 use Rattle.mf_edges.specs.Edges.{weight_in, AreEdges}
 use Rattle.mf_edges.specs.Merging.{AreChanges, IsChange}
 use Rattle.mf_edges.specs.Reaches.{IsLeastReach, StaysInReach}
 use Rattle.mf_edges.specs.Sums.{IsEdgeSum, IsUnlawfulColumn, weight_in_both}
 use Rattle.mf_edges.proofs.EdgesAt.{edges_from-at, step_at_edge, weight_in-take_after, weight_in-take_more, weight_in-take_same}
 use Rattle.mf_edges.proofs.EdgesLemmas.{weight_in-before}
+
+pub wider_reach : {reach next w : ℤ} → reach ≤ℤ next → IsInReach reach w → IsInReach next w
+wider_reach wider within = record { least = omega (arith, ints, within); greatest = omega (arith, ints, within) }
 
 -- the greater of two numbers is one of them
 by_greater : (P : ℤ → Type 0) (a b : ℤ) → (b ≤ℤ a → P a) → (a ≤ℤ b → P b) → P (ord_max int_cmp a b)
@@ -32,8 +35,7 @@ ord_max_is a b most below_a below_b = grind (arith, ints, by_greater)
 -- w is the weight after the first edges, no weight of these exceeds a reach in absolute value, and a weight of all edges has it
 pub record IsReachSoFar (es : List Edge) (count : ℕ) (w reach : ℤ) : Type 0 where
   pub weight : w ≡ weight_in (take count es) greatest_coordinate
-  pub least : (x : ℤ) → pos 0 ≤ℤ (weight_in (take count es) x +ℤ reach)
-  pub greatest : (x : ℤ) → weight_in (take count es) x ≤ℤ reach
+  pub within : (x : ℤ) → IsInReach reach (weight_in (take count es) x)
   pub x : ℤ
   pub here : pos (nat_abs (weight_in es x)) ≡ reach
 
@@ -41,8 +43,7 @@ pub reach_none : (es : List Edge) → AreChanges es → IsReachSoFar es 0 (pos 0
 unfolding weight_in
 reach_none es changes = record {
   weight = refl;
-  least = λ x. omega (arith, ints);
-  greatest = λ x. omega (arith, ints);
+  within = λ x. record { least = omega (arith, ints); greatest = omega (arith, ints) };
   x = least_coordinate -ℤ pos 1;
   here = ap (λ w. pos (nat_abs w)) (weight_in-before least_coordinate es (least_coordinate -ℤ pos 1) changes.sorted (omega (arith, ints)));
 }
@@ -80,12 +81,12 @@ module _ (es : List Edge) (count : ℕ) (d : Edge) (w reach : ℤ) (changes : Ar
       let right = (edges_from-at least_coordinate es count d changes.sorted inside).0.column.greatest in
       record {
         weight = sym (weight_in-take_more es count d greatest_coordinate inside right ∙ ap (λ v. v +ℤ e.weight) (sym so_far.weight));
-        least = λ x. by_lt_z x e.x
-            (λ left. let same = weight_in-take_same es count d x inside left in let old = so_far.least x in omega (arith, ints))
-            (λ after. let more = weight_in-take_more es count d x inside after in let old = before x after in omega (arith, ints));
-        greatest = λ x. by_lt_z x e.x
-            (λ left. let same = weight_in-take_same es count d x inside left in let old = so_far.greatest x in omega (arith, ints))
-            (λ after. let more = weight_in-take_more es count d x inside after in let old = before x after in omega (arith, ints));
+        within = λ x. by_lt_z x e.x
+            (λ left. let same = weight_in-take_same es count d x inside left in subst (IsInReach next) (sym same) (wider_reach wider (so_far.within x)))
+            (λ after.
+            let more = weight_in-take_more es count d x inside after in
+            let old = before x after in
+            record { least = omega (arith, ints); greatest = omega (arith, ints) });
         x = x;
         here = here;
       }
@@ -103,7 +104,7 @@ reach_all es w reach count so_far end = grind (arith, ints, take_all)
 -- ---- reaches that fit
 
 pub reach_bounds : (reach : ℤ) (es : List Edge) → StaysInReach reach es → (pos 0 ≤ℤ reach) × (reach ≤ℤ greatest_weight)
-reach_bounds reach es stays = let least = stays.least (pos 0) in let greatest = stays.greatest (pos 0) in (omega (arith, ints), stays.most)
+reach_bounds reach es stays = let within = stays.within (pos 0) in (omega (arith, ints, within), stays.most)
 
 pub reach_is : (reach : ℤ) (es : List Edge) → StaysInReach reach es → to_z w32 (of_z w32 reach) ≡ reach
 reach_is reach es stays = let bounds = reach_bounds reach es stays in omega (arith, ints)
@@ -113,7 +114,7 @@ least_reach_is reach es changes least = grind (arith, ints)
 
 -- the least reach is one where it is at most 32767
 pub least_is_reach : (reach : ℤ) (es : List Edge) → IsLeastReach reach es → reach ≤ℤ greatest_weight → StaysInReach reach es
-least_is_reach reach es least most = record { most = most; least = least.least; greatest = least.greatest }
+least_is_reach reach es least most = record { most = most; within = least.within }
 
 -- that of a row always is
 pub reach_of_row : (reach : ℤ) (es : List Edge) → AreEdges es → IsLeastReach reach es → StaysInReach reach es
@@ -145,6 +146,9 @@ module _ (es fs sum : List Edge) (is_sum : IsEdgeSum es fs sum) where
   unfolding weight_in_both
   reach_of_sum a b left right most = record {
     most = most;
-    least = λ x. let all = is_sum.weights.weights x in let l = left.least x in let r = right.least x in omega (arith, ints);
-    greatest = λ x. let all = is_sum.weights.weights x in let l = left.greatest x in let r = right.greatest x in omega (arith, ints);
+    within = λ x.
+        let all = is_sum.weights.weights x in
+        let l = left.within x in
+        let r = right.within x in
+        record { least = omega (arith, ints); greatest = omega (arith, ints) };
   }

@@ -24,14 +24,14 @@ abbrev pub greatest_part : ℕ
 greatest_part = unsigned_abs greatest_change * field_size
 
 -- what an edge adds to the total weight
-pub record IsPart (e : Edge) (n : ℕ) : Type 0 where
+pub record IsPartOfTotal (e : Edge) (n : ℕ) : Type 0 where
   pub weight : unsigned_abs e.weight ≤ unsigned_abs greatest_change
   pub columns : unsigned_abs (greatest_coordinate -ℤ e.x) ≤ field_size
   pub product : unsigned_abs (e.weight *ℤ (greatest_coordinate -ℤ e.x)) ≤ greatest_part
   pub few : n ≤ field_size + 1
 
-pub part_at : (es : List Edge) (at : ℕ) (d : Edge) → AreEdges es → at < length es → IsPart (get_or es at d) at
-part_at es at d edges lt =
+pub part_of_total : (es : List Edge) (at : ℕ) (d : Edge) → AreEdges es → at < length es → IsPartOfTotal (get_or es at d) at
+part_of_total es at d edges lt =
     let e = get_or es at d in
     let here = edges_from-at least_coordinate es at d edges.sorted lt in
     let step = step_at_edge least_coordinate es at d edges.sorted lt in

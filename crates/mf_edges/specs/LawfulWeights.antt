@@ -9,7 +9,11 @@ greatest_weight = pos 32767
 abbrev pub least_weight : ℤ
 least_weight = neg_ℤ greatest_weight
 
+-- a weight does not exceed a number in absolute value
+pub record IsInReach (reach w : ℤ) : Type 0 where
+  pub least : neg_ℤ reach ≤ℤ w
+  pub greatest : w ≤ℤ reach
+
 -- a pixel may have this weight
-pub record IsLawfulWeight (w : ℤ) : Type 0 where
-  pub least : least_weight ≤ℤ w
-  pub greatest : w ≤ℤ greatest_weight
+abbrev pub IsLawfulWeight : ℤ → Type 0
+IsLawfulWeight w = IsInReach greatest_weight w

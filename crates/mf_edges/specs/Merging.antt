@@ -1,10 +1,10 @@
 -- What is left of the edges of two rows while their sum is made.
-use Rattle.std.specs.Prelude.{◌≡◌, ◌<◌, ◌≤◌, ℤ, pos, neg_ℤ, ◌+ℤ◌, ◌-ℤ◌, ◌≤ℤ◌, All, List, [], ◌∷◌, length, if◌then◌else◌}
+use Rattle.std.specs.Prelude.{◌≡◌, ◌<◌, ◌≤◌, ℤ, pos, ◌+ℤ◌, ◌-ℤ◌, ◌≤ℤ◌, All, List, [], ◌∷◌, length, if◌then◌else◌}
 use Rattle.std.specs.Ordering.{int_eq}
 use Rattle.mf_geom.specs.Coordinates.{least_coordinate, greatest_coordinate}
 use Rattle.mf_edges.specs.declared.edge.Edge.{Edge}
 use Rattle.mf_edges.specs.Edges.{AreEdgesFrom, weight_in}
-use Rattle.mf_edges.specs.LawfulWeights.{greatest_weight, least_weight}
+use Rattle.mf_edges.specs.LawfulWeights.{greatest_weight, least_weight, IsInReach}
 use Rattle.mf_edges.specs.Sums.{HaveWeights, with_edge_in}
 
 -- the greatest difference of two lawful weights
@@ -16,14 +16,12 @@ abbrev pub greatest_difference : ℤ
 greatest_difference = greatest_change +ℤ greatest_change
 
 -- a number may be the difference of two lawful weights
-pub record IsChange (w : ℤ) : Type 0 where
-  pub least : neg_ℤ greatest_change ≤ℤ w
-  pub greatest : w ≤ℤ greatest_change
+abbrev pub IsChange : ℤ → Type 0
+IsChange w = IsInReach greatest_change w
 
 -- a number may be the difference of two such changes
-pub record IsDifference (w : ℤ) : Type 0 where
-  pub least : neg_ℤ greatest_difference ≤ℤ w
-  pub greatest : w ≤ℤ greatest_difference
+abbrev pub IsDifference : ℤ → Type 0
+IsDifference w = IsInReach greatest_difference w
 
 -- the edges of changes of weights: sorted, with a sum of 0, and with differences of two lawful weights between them
 pub record AreChanges (es : List Edge) : Type 0 where
@@ -51,11 +49,11 @@ BeginAt x (e ∷ es) = e.x ≡ x
 abbrev pub EndAt : ℤ → List Edge → Type 0
 EndAt x es = All (λ e. e.x ≤ℤ x) es
 
--- the edge at column x has weight w, or there is none and w is 0; the others are left, and are fewer where there is one
+-- the edge at column x has weight w, or there is none and w is 0; the others are the rest, and are fewer where there is one
 pub record IsSplitAt (es : List Edge) (x w : ℤ) (others : List Edge) : Type 0 where
   pub weights : HaveWeights (with_edge_in others x w) es
   pub difference : IsDifference w
-  pub left : AreEdgesLeft (x +ℤ pos 1) others
+  pub rest : AreEdgesLeft (x +ℤ pos 1) others
   pub no_longer : length others ≤ length es
   pub shorter : BeginAt x es → length others < length es
 

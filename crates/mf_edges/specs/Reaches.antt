@@ -1,21 +1,19 @@
 -- Reaches of rows: bounds on the absolute values of their weights.
-use Rattle.std.specs.Prelude.{◌≡◌, ℤ, pos, ◌+ℤ◌, ◌≤ℤ◌, List}
+use Rattle.std.specs.Prelude.{◌≡◌, ℤ, pos, ◌≤ℤ◌, List}
 use Rattle.std.proofs.Math.IntN.{nat_abs}
 use Rattle.std.proofs.Props.{props}
-use Rattle.mf_edges.specs.LawfulWeights.{greatest_weight}
+use Rattle.mf_edges.specs.LawfulWeights.{greatest_weight, IsInReach}
 use Rattle.mf_edges.specs.declared.edge.Edge.{Edge}
 use Rattle.mf_edges.specs.Edges.{weight_in}
 
 -- no weight of a row exceeds a reach in absolute value, and the reach is at most 32767
 pub record StaysInReach (reach : ℤ) (es : List Edge) : Type 0 where
   pub most : reach ≤ℤ greatest_weight
-  pub least : (x : ℤ) → pos 0 ≤ℤ (weight_in es x +ℤ reach)
-  pub greatest : (x : ℤ) → weight_in es x ≤ℤ reach
+  pub within : (x : ℤ) → IsInReach reach (weight_in es x)
 
 -- no weight between edges exceeds a number in absolute value, and some weight has it, which is 0 at a blank column
 pub record IsLeastReach (reach : ℤ) (es : List Edge) : Type 0 where
-  pub least : (x : ℤ) → pos 0 ≤ℤ (weight_in es x +ℤ reach)
-  pub greatest : (x : ℤ) → weight_in es x ≤ℤ reach
+  pub within : (x : ℤ) → IsInReach reach (weight_in es x)
   pub x : ℤ
   pub here : pos (nat_abs (weight_in es x)) ≡ reach
 
