@@ -1,6 +1,6 @@
 -- Edges after one of them is changed, removed or inserted.
-use Rattle.std.proofs.Common.{◌≡◌, ◌≢◌, ℕ, zero, suc, ◌<◌, ◌≤◌, ℤ, pos, ◌+ℤ◌, ◌-ℤ◌, ◌≤ℤ◌, ◌<ℤ◌}
-use Rattle.std.proofs.Common.{int_le, List, [], ◌∷◌, length, get_or, add-one, All, Ok, Err, Bool, refl, sym, ap, ◌∙◌, arith, if◌then◌else◌}
+use Rattle.std.proofs.Common.{◌≡◌, ◌≢◌, ℕ, zero, suc, ◌<◌, ◌≤◌, ℤ, pos, ◌+ℤ◌, ◌≤ℤ◌, ◌<ℤ◌}
+use Rattle.std.proofs.Common.{int_le, List, [], ◌∷◌, length, get_or, add-one, All, Ok, Err, Bool, refl, sym, subst, ap, ◌∙◌, arith, if◌then◌else◌}
 use Rattle.std.specs.List.{HoldsAt, insert, remove}
 use Rattle.std.specs.List.Sorted.{IsBinarySearchResult, IsSortedBy}
 use Rattle.std.specs.Ordering.{int_cmp, is_lt}
@@ -14,7 +14,7 @@ use Rattle.mf_edges.specs.declared.edge.Edge.{Edge}
 use Rattle.mf_edges.specs.Edges.{weight_in, IsEdge, AreEdgesFrom, AreOpenEdges}
 use Rattle.mf_edges.specs.Merging.{IsChange}
 use Rattle.mf_edges.specs.Sums.{HaveWeights, with_edge_in}
-use Rattle.mf_edges.proofs.EdgesAt.{edges_from-at, step_at_edge}
+use Rattle.mf_edges.proofs.EdgesAt.{edges_from-at, change_at_edge}
 use Rattle.mf_edges.proofs.EdgesLemmas.{edges_from-lower}
 
 -- what an edge adds to the weight at a column
@@ -72,16 +72,9 @@ edges_from-insert low (f ∷ es) (suc at) e from le edge right before after =
 
 -- ---- the weight of an edge
 
--- it is the difference of two lawful weights, so it fits, and a lawful weight may be added to it
-pub edge_is_small : (es : List Edge) (at : ℕ) (d : Edge) → AreOpenEdges es → at < length es → d ≡ get_or es at d
-    → IsChange d.weight
-edge_is_small es at d edges lt read =
-    let here = get_or es at d in
-    let step = step_at_edge _ es at d edges.sorted lt in
-    let upper = edges.lawful here.x in
-    let lower = edges.lawful (here.x -ℤ pos 1) in
-    let weight_is = ap (λ e. e.weight) read in
-    record { least = omega (arith, ints, step, upper, lower, weight_is); greatest = omega (arith, ints, step, upper, lower, weight_is) }
+-- it is a change, so it fits, and a lawful weight may be added to it
+pub edge_is_small : (es : List Edge) (at : ℕ) (d : Edge) → AreOpenEdges es → at < length es → d ≡ get_or es at d → IsChange d.weight
+edge_is_small es at d edges lt read = subst (λ e. IsChange e.weight) (sym read) (change_at_edge _ es at d edges.sorted edges.lawful lt)
 
 -- ---- the answers
 

@@ -4,6 +4,8 @@ use Rattle.std.proofs.lemmas.Int.{ints}
 use Rattle.std.proofs.lemmas.List.{take_more}
 use Rattle.mf_edges.specs.declared.edge.Edge.{Edge}
 use Rattle.mf_edges.specs.Edges.{weight_in, IsEdge, AreEdgesFrom}
+use Rattle.mf_edges.specs.LawfulWeights.{IsLawfulWeight}
+use Rattle.mf_edges.specs.Merging.{IsChange}
 use Rattle.mf_edges.proofs.EdgesLemmas.{weight_in-append, weight_in-left, weight_in-right, weight_in-before}
 
 pub edges_from-at : (low : ℤ) (es : List Edge) (at : ℕ) (d : Edge) → AreEdgesFrom low es → at < length es
@@ -55,6 +57,15 @@ step_at_edge low (e ∷ es) (suc at) d from lt =
       weight_in-left e es here.x (omega (arith, ints, right)),
       weight_in-left e es (here.x -ℤ pos 1) (omega (arith, ints, right)),
     )
+
+-- so it is a change where the weights are lawful
+pub change_at_edge : (low : ℤ) (es : List Edge) (at : ℕ) (d : Edge) → AreEdgesFrom low es → ((x : ℤ) → IsLawfulWeight (weight_in es x))
+    → at < length es → IsChange (get_or es at d).weight
+change_at_edge low es at d from lawful lt =
+    let step = step_at_edge low es at d from lt in
+    let upper = lawful (get_or es at d).x in
+    let lower = lawful ((get_or es at d).x -ℤ pos 1) in
+    record { least = omega (arith, ints, step, upper, lower); greatest = omega (arith, ints, step, upper, lower) }
 
 -- with it, the edges have from its column on its weight more
 pub weight_in-take_more : (es : List Edge) (at : ℕ) (d : Edge) (x : ℤ) → at < length es → (get_or es at d).x ≤ℤ x

@@ -8,7 +8,7 @@ use Rattle.mf_edges.specs.declared.edge.Edge.{Edge}
 use Rattle.mf_edges.specs.Edges.{AreEdgesFrom, AreEdges}
 use Rattle.mf_edges.specs.Merging.{greatest_change}
 use Rattle.mf_edges.specs.Totals.{edges_total}
-use Rattle.mf_edges.proofs.EdgesAt.{edges_from-at, step_at_edge}
+use Rattle.mf_edges.proofs.EdgesAt.{edges_from-at, change_at_edge}
 
 -- one past the last column at which an edge may be
 abbrev end_of_edges : ℤ
@@ -34,11 +34,8 @@ pub part_of_total : (es : List Edge) (at : ℕ) (d : Edge) → AreEdges es → a
 part_of_total es at d edges lt =
     let e = get_or es at d in
     let here = edges_from-at least_coordinate es at d edges.sorted lt in
-    let step = step_at_edge least_coordinate es at d edges.sorted lt in
-    let upper = edges.lawful e.x in
-    let lower = edges.lawful (e.x -ℤ pos 1) in
-    let weight : unsigned_abs e.weight ≤ unsigned_abs greatest_change =
-    omega (arith, ints, step, upper.least, upper.greatest, lower.least, lower.greatest) in
+    let change = change_at_edge least_coordinate es at d edges.sorted edges.lawful lt in
+    let weight : unsigned_abs e.weight ≤ unsigned_abs greatest_change = omega (arith, ints, change) in
     let columns : unsigned_abs (greatest_coordinate -ℤ e.x) ≤ field_size = omega (arith, ints, here.0.column) in
     record {
       weight = weight;
