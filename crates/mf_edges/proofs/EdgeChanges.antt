@@ -1,8 +1,9 @@
 -- The edges of a row after its columns are reflected, or stretched.
-use Rattle.std.proofs.Common.{◌≡◌, ◌≤◌, ◌*◌, ℕ, ℤ, pos, neg_ℤ, ◌+ℤ◌, ◌-ℤ◌, ◌*ℤ◌, ◌≤ℤ◌, ◌<ℤ◌, FitsSigned, unsigned_abs, w32, to_z, of_z}
-use Rattle.std.proofs.Common.{mul-le-mul, List, [], ◌∷◌, ◌++◌, length, map, refl, sym, subst, ap, ◌∙◌, append_assoc, append-nil, arith}
+use Rattle.std.proofs.Common.{◌≡◌, ◌≤◌, ◌*◌, ℕ, ℤ, pos, neg_ℤ, ◌+ℤ◌, ◌*ℤ◌, ◌≤ℤ◌, ◌<ℤ◌, ◌<◌, FitsSigned, unsigned_abs, w32, to_z, of_z}
+use Rattle.std.proofs.Common.{mul-le-mul, List, [], ◌∷◌, ◌++◌, length, get_or, map, refl, sym, ap, ◌∙◌, append_assoc, append-nil, arith}
 use Rattle.std.specs.List.{All}
 use Rattle.std.proofs.lemmas.Int.{ints, by_lt_z, to_z-of_z, unsigned_abs-mul, fits_signed_from_abs}
+use Rattle.std.proofs.lemmas.List.{get_or-append-add, length-append}
 use Rattle.std.proofs.lemmas.List.Elements.{All-nil, All-head, All-tail, All-push}
 use Rattle.mf_geom.specs.Coordinates.{least_coordinate, greatest_coordinate, IsCoordinate}
 use Rattle.mf_edges.specs.declared.edge.Edge.{Edge}
@@ -12,26 +13,9 @@ use Rattle.mf_edges.specs.Edges.{weight_in, IsEdge, AreEdgesFrom, AreEdges}
 use Rattle.mf_edges.specs.Axes.{opposite, target_of, source_of, IsStretch}
 use Rattle.mf_edges.specs.Merging.{IsChange}
 use Rattle.mf_edges.specs.RowChanges.{image_in, AreChanged}
+use Rattle.mf_edges.proofs.EdgesAt.{edges_from-at, change_at_edge}
 use Rattle.mf_edges.proofs.EdgesLemmas.{weight_in-left, weight_in-right, weight_in-before, weight_in-append, edges_from-append}
 use Rattle.mf_edges.proofs.Sources.{target_of-lt, source_of-reached, source_of-from}
-
--- ---- an edge among others
-
--- an edge that comes after others
-edge_after : (low : ℤ) (before : List Edge) (e : Edge) (after : List Edge) → AreEdgesFrom low (before ++ e ∷ after) → IsEdge e × (low ≤ℤ e.x)
-edge_after low [] e after edges = (edges.0, edges.1)
-edge_after low (d ∷ before) e after edges = grind (arith, ints, edge_after (d.x +ℤ pos 1) before e after edges.2)
-
--- an edge changes the weight at its column by its own weight
-weight_changes : (low : ℤ) (before : List Edge) (e : Edge) (after : List Edge)
-    → AreEdgesFrom low (before ++ e ∷ after) → weight_in (before ++ e ∷ after) e.x ≡ weight_in (before ++ e ∷ after) (e.x -ℤ pos 1) +ℤ e.weight
-weight_changes low [] e after edges = grind (arith, ints, weight_in-left, weight_in-before, weight_in-right)
-weight_changes low (d ∷ before) e after edges =
-    let next = edge_after (d.x +ℤ pos 1) before e after edges.2 in
-    let here = weight_in-left d (before ++ e ∷ after) e.x (omega (arith, ints, next.1)) in
-    let left = weight_in-left d (before ++ e ∷ after) (e.x -ℤ pos 1) (omega (arith, ints, next.1)) in
-    let change = weight_changes (d.x +ℤ pos 1) before e after edges.2 in
-    omega (arith, ints)
 
 -- ---- columns that are reflected
 
@@ -90,12 +74,18 @@ module _ (es before left : List Edge) (e : Edge) (new : List Edge) (last : left 
   here : es ≡ before ++ e ∷ so_far.passed
   here = so_far.all ∙ (ap (λ t. t ++ so_far.passed) last ∙ append_assoc before (e ∷ []) so_far.passed)
 
+  is_place : length before < length es
+  is_place = rw (here, length-append) (omega arith)
+
+  read : get_or es (length before) e ≡ e
+  read = rw here (grind (arith, get_or-append-add before (e ∷ so_far.passed) 0 e))
+
   pub last_edge : AreEdges es → IsEdge e
-  last_edge edges = (edge_after least_coordinate before e so_far.passed (subst (AreEdgesFrom least_coordinate) here edges.sorted)).0
+  last_edge edges = rw read at (edges_from-at least_coordinate es (length before) e edges.sorted is_place).0
 
   -- its weight is the difference of two lawful weights
   pub last_weight : AreEdges es → IsChange e.weight
-  last_weight edges = grind (arith, ints, weight_changes, here)
+  last_weight edges = rw read at (change_at_edge least_coordinate es (length before) e edges.sorted edges.lawful is_place)
 
   pub opposite_more : AreOppositeSoFar es before (new ++ opposite_edge e ∷ [])
   opposite_more = record { passed = e ∷ so_far.passed; all = here; images = ap (λ t. t ++ opposite_edge e ∷ []) so_far.images }
