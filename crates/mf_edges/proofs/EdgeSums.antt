@@ -34,17 +34,16 @@ with_edge_in-none es x c = grind (arith, ints, by_lt_z, with_edge_in-before, wit
 
 -- ---- the edges at a column
 
-pub split_first : (e : Edge) (es : List Edge) (x : ℤ) → AreEdgesLeft x (e ∷ es) → e.x ≡ x → IsSplitAt (e ∷ es) x e.weight es
-split_first e es x left here = record {
-  weights = grind (arith, ints, by_lt_z, weight_in-right, sym, with_edge_in-before, weight_in-left, with_edge_in-after);
-  difference = All-head (λ e. IsDifference e.weight) e es left.differences;
-  rest = record { sorted = rw (← here) left.sorted.2; differences = All-tail (λ e. IsDifference e.weight) e es left.differences };
-  no_longer = omega arith;
-  shorter = λ _. omega arith;
-}
-
 pub split_here : (es : List Edge) (e : Edge) (others : List Edge) (x : ℤ) → AreEdgesLeft x es → es ≡ e ∷ others → e.x ≡ x → IsSplitAt es x e.weight others
-split_here es e others x left is here = rw is (split_first e others x (subst (AreEdgesLeft x) is left) here)
+split_here es e others x left is here =
+    let first = subst (AreEdgesLeft x) is left in
+    rw is (record {
+      weights = grind (arith, ints, by_lt_z, weight_in-right, sym, with_edge_in-before, weight_in-left, with_edge_in-after);
+      difference = All-head (λ e. IsDifference e.weight) e others first.differences;
+      rest = record { sorted = rw (← here) first.sorted.2; differences = All-tail (λ e. IsDifference e.weight) e others first.differences };
+      no_longer = omega arith;
+      shorter = λ _. omega arith;
+    })
 
 pub begins_elsewhere : (es : List Edge) (e : Edge) (others : List Edge) (x : ℤ) → es ≡ e ∷ others → e.x ≢ x → BeginAt x es → ⊥
 begins_elsewhere es e others x is apart here = apart (subst (BeginAt x) is here)

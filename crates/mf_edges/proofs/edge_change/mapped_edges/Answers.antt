@@ -21,9 +21,7 @@ apply-next-requires-clause-weight c =
     record { least = omega (arith, ints); greatest = omega (arith, ints) }
 
 pub overflow_sub-next : goal.overflow_sub-next
-overflow_sub-next c =
-    let image = c.requires.map.lawful _ c.loop-edge.invariant.lawful in
-    omega (arith, ints)
+overflow_sub-next c = omega (arith, ints, c.requires.map.lawful _ c.loop-edge.invariant.lawful)
 
 pub loop-edge-preserved : goal.loop-edge-preserved
 loop-edge-preserved c =

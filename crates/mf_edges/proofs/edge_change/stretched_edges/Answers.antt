@@ -11,11 +11,10 @@ edge_at : (es : List Edge) (i : ℕ) → AreEdges es → i < length es → IsEdg
 edge_at es i row inside = (edges_from-at _ es i (record { x = pos 0; weight = pos 0 }) row.sorted inside).0
 
 pub overflow_mul-edge : goal.overflow_mul-edge
-overflow_mul-edge c = product_fits c.args.stretch.now _ c.requires.stretch (edge_at _ _ c.requires.edges c.loop-edge-test.true)
+overflow_mul-edge c = grind (arith, ints, product_fits, edge_at)
 
 pub overflow_add-edge : goal.overflow_add-edge
-overflow_add-edge c =
-    sum_fits c.args.stretch.now _ c.requires.stretch (edge_at _ _ c.requires.edges c.loop-edge-test.true) (c.requires.allowed _ _ c.loop-edge-test.true)
+overflow_add-edge c = grind (arith, ints, sum_fits, edge_at)
 
 pub loop-edge-preserved : goal.loop-edge-preserved
 loop-edge-preserved c =
