@@ -9,7 +9,7 @@ use Rattle.mf_rows.specs.declared.run.Run.{Run}
 use Rattle.mf_rows.specs.Dots.{Dot, AreDotsFrom, place}
 use Rattle.mf_rows.specs.Runs.{continues, run_from, with_dot, runs_of}
 use Rattle.mf_rows.proofs.PlacesLemmas.{place-next}
-use Rattle.mf_rows.proofs.RunsLemmas.{continued}
+use Rattle.mf_rows.proofs.RunsLemmas.{Decides-continues}
 use Rattle.mf_gf.proofs.DrawnRows.{IsNext, AreNext}
 
 next_with_dot : (left row column : ℤ) (d : Dot) (rs : List Run) → IsNext left row column (run_from d 0)
@@ -19,7 +19,7 @@ next_with_dot left row column d [] first others = (first, tt)
 next_with_dot left row column d (r ∷ rs) first others =
     cond_both (continues d r) (run_from d r.len ∷ rs) (run_from d 0 ∷ r ∷ rs) (AreNext left row column)
     (λ yes.
-    let joined = (continued d r).0 yes in (
+    let joined = (Decides-continues d r).0 yes in (
       omega (arith, ints, first, joined, others.0),
       subst₂ (λ y x. AreNext left y x rs) (sym joined.row) (omega (arith, ints, joined.column)) others.1,
     ))

@@ -24,10 +24,10 @@ has_sum-left before rs ss after rows none all = grind (arith, ints)
 
 -- ---- rows that are split
 
-pub rows_of_first : {high low : ℤ} {rs first rest : List EdgeRow} → AreSplit high low rs first rest → AreRows rs → AreRows first
+pub rows_of_first : {y z : ℤ} {rs first rest : List EdgeRow} → AreSplit y z rs first rest → AreRows rs → AreRows first
 rows_of_first split rows = record { rows = rows_from-front last_in_field _ _ (subst (AreRowsFrom last_in_field) split.all rows.rows) }
 
-pub rows_of_rest : {high low : ℤ} {rs first rest : List EdgeRow} → AreSplit high low rs first rest → AreRows rs → AreRows rest
+pub rows_of_rest : {y z : ℤ} {rs first rest : List EdgeRow} → AreSplit y z rs first rest → AreRows rs → AreRows rest
 rows_of_rest split rows = record { rows = rows_from-back last_in_field _ _ (subst (AreRowsFrom last_in_field) split.all rows.rows) }
 
 -- ---- one step

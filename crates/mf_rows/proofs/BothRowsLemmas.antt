@@ -179,9 +179,9 @@ rows_taken s (Some r) t steps = steps
 pub rows_left : (o : Option Row) (rs : List EdgeRow) → AreRows (row_found o ++ rs) → AreRows rs
 rows_left o rs rows = record { rows = rows_from-back last_in_field (row_found o) rs rows.rows }
 
-pub none_left : (o : Option Row) (rs : List EdgeRow) → length (row_found o ++ rs) ≡ 0 → length rs ≡ 0
-none_left None rs none = none
-none_left (Some r) rs none = absurd (omega (arith, none))
+pub none_after : (o : Option Row) (rs : List EdgeRow) → length (row_found o ++ rs) ≡ 0 → length rs ≡ 0
+none_after None rs none = none
+none_after (Some r) rs none = absurd (omega (arith, none))
 
 rows-after : (r : EdgeRow) (rs : List EdgeRow) → AreRows (r ∷ rs) → AreBelow r.y rs
 rows-after r rs rows = rows_from-below (r.y -ℤ pos 1) r.y rs rows.rows.2 (omega (arith, ints))

@@ -11,14 +11,14 @@ use Rattle.mf_rows.proofs.BoundsInField.{bounds_in_field}
 use Rattle.mf_rows.proofs.BoxesJoined.{box_of_some, least_box_of_both}
 
 -- what holds for all dots holds for the one that some property finds
-found : (P Q : Dot → Type 0) (ds : List Dot) (some : Any P ds) → All Q ds → Q some.1
-found P Q ds some all = All-contains Q ds some.1 all (some.0, some.2, some.3)
+All-Any : (P Q : Dot → Type 0) (ds : List Dot) (some : Any P ds) → All Q ds → Q some.1
+All-Any P Q ds some all = All-contains Q ds some.1 all (some.0, some.2, some.3)
 
 pub least_box_of_field : (ds : List Dot) (b : Box4) → IsPicture ds → IsLeastBox ds b → IsBoxOfField b
 least_box_of_field ds b picture box =
     let (least, greatest) = bounds_in_field ds b picture box in
-    let left_within = found (λ d. d.x ≡ b.min_x) (IsDotIn b) ds box.left box.within in
-    let bottom_within = found (λ d. d.y ≡ b.min_y) (IsDotIn b) ds box.bottom box.within in
+    let left_within = All-Any (λ d. d.x ≡ b.min_x) (IsDotIn b) ds box.left box.within in
+    let bottom_within = All-Any (λ d. d.y ≡ b.min_y) (IsDotIn b) ds box.bottom box.within in
     record {
       left = least.left;
       right = greatest.right;
@@ -37,10 +37,10 @@ record IsInside (a b : Box4) : Type 0 where
 
 least_inside : (ds : List Dot) (a b : Box4) → IsLeastBox ds a → IsLeastBox ds b → IsInside a b
 least_inside ds a b one other =
-    let at_left = found (λ d. d.x ≡ a.min_x) (IsDotIn b) ds one.left other.within in
-    let at_right = found (λ d. d.x ≡ a.max_x) (IsDotIn b) ds one.right other.within in
-    let at_bottom = found (λ d. d.y ≡ a.min_y) (IsDotIn b) ds one.bottom other.within in
-    let at_top = found (λ d. d.y ≡ a.max_y) (IsDotIn b) ds one.top other.within in
+    let at_left = All-Any (λ d. d.x ≡ a.min_x) (IsDotIn b) ds one.left other.within in
+    let at_right = All-Any (λ d. d.x ≡ a.max_x) (IsDotIn b) ds one.right other.within in
+    let at_bottom = All-Any (λ d. d.y ≡ a.min_y) (IsDotIn b) ds one.bottom other.within in
+    let at_top = All-Any (λ d. d.y ≡ a.max_y) (IsDotIn b) ds one.top other.within in
     record {
       left = omega (arith, ints, at_left.left, one.left.4);
       right = omega (arith, ints, at_right.right, one.right.4);

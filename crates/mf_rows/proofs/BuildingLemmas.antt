@@ -145,9 +145,9 @@ by_on_run : {P : Type 0} (r : Run) (x y : ℤ) → (IsOnRun r x y → P) → ((I
 by_on_run r x y on off = grind (arith, ints, by_same, by_columns)
 
 -- the last row gets a run
-pushed : (all rs : List EdgeRow) (old new : EdgeRow) (r : Run) → AreRows all → Fits (picture_of_rows all) r → AreRows rs → AreAbove r.y rs → old.y ≡ r.y
+are_pushed : (all rs : List EdgeRow) (old new : EdgeRow) (r : Run) → AreRows all → Fits (picture_of_rows all) r → AreRows rs → AreAbove r.y rs → old.y ≡ r.y
     → HasRun old r new → ((x y : ℤ) → weight_in_rows all x y ≡ weight_in_rows (rs ++ old ∷ []) x y) → ArePushed all r (rs ++ new ∷ [])
-pushed all rs old new r lawful fits rows above row has weights =
+are_pushed all rs old new r lawful fits rows above row has weights =
     let ds = picture_of_rows all in
     let run = fits.run in
     let below : AreAbove new.y rs = subst (λ y. AreAbove y rs) (sym has.row) above in
@@ -172,7 +172,7 @@ pushed_on_last rows last new r lawful fits is_last row has =
     let after = row_after is_last.front (open_row last) (subst AreRows is_last.all lawful) in
     let above = subst (λ y. AreAbove y is_last.front) row after.above in
     rw (is_last.changed new)
-    (pushed (open_rows rows) is_last.front (open_row last) (open_row new) r lawful fits after.rows above row has (λ x y. rw is_last.all refl))
+    (are_pushed (open_rows rows) is_last.front (open_row last) (open_row new) r lawful fits after.rows above row has (λ x y. rw is_last.all refl))
 
 -- a run that fits, and is not in the last row, is in a row below all
 above_run : (rows : List OpenRow) (r : Run) → AreRows (open_rows rows) → Fits (picture_of_rows (open_rows rows)) r
@@ -198,7 +198,7 @@ pushed_after rows new r lawful fits not_there has =
     let all = open_rows rows in
     let blank : EdgeRow = record { y = r.y; edges = [] } in
     rw (map_push open_row rows new)
-    (pushed all all blank (open_row new) r lawful fits lawful (above_run rows r lawful fits not_there) refl has
+    (are_pushed all all blank (open_row new) r lawful fits lawful (above_run rows r lawful fits not_there) refl has
     (λ x y. by_same r.y y (λ here. omega (arith, ints, weight-in_last all blank x y here)) (λ apart. sym (weight-in_others all blank x y apart))))
 
 -- ---- rows that are closed, one after another

@@ -19,7 +19,7 @@ use Rattle.mf_rows.specs.Corners.{added_by, added_by_all, IsCorner, IsCornerWeig
 use Rattle.mf_edges.specs.LawfulWeights.{IsLawfulWeight}
 use Rattle.mf_edges.specs.Edges.{weight_in, AreEdgesFrom, AreOpenEdges, AreEdges}
 use Rattle.mf_rows.specs.EdgeRows.{EdgeRow, AreRows, weight_in_rows}
-use Rattle.mf_rows.specs.Strips.{first_height_of, strip_between, ReachDownTo, HasStrip}
+use Rattle.mf_rows.specs.Strips.{first_height_of, strip_between, AreDownTo, HasStrip}
 use Rattle.mf_edges.specs.Sums.{HaveWeights, with_edge_in}
 use Rattle.mf_rows.specs.Sums.{HaveFieldWeights}
 
@@ -127,7 +127,7 @@ pub record IsSwept (all left : List Corner) (es : List Edge) (rs : List EdgeRow)
   pub given : AreCorners all
   pub corners : All IsCorner left
   pub falling : AreFalling greatest_coordinate left
-  pub rows : ReachDownTo (first_height_of left) rs
+  pub rows : AreDownTo (first_height_of left) rs
   pub above : (x y : ℤ) → IsInField x y → first_height_of left ≤ℤ y → weight_in_rows rs x y ≡ added_by_all all x y
   pub below : (x y : ℤ) → y <ℤ first_height_of left → added_by_all all x y ≡ weight_in es x +ℤ added_by_all left x y
   pub sorted : AreEdgesFrom least_coordinate es
@@ -234,7 +234,7 @@ module _ (all : List Corner) (place : ℕ) (any : Corner) (es : List Edge) (rs :
       pub order : n ≤ℤ y
       pub top : y ≤ℤ greatest_coordinate
       pub edges : n <ℤ y → AreEdges fs
-      pub rows : ReachDownTo y rs
+      pub rows : AreDownTo y rs
       pub more : (ss : List EdgeRow) → HasStrip (strip_between fs n y) rs ss → IsSwept all left fs ss
 
     pub level : (n : ℤ) → n ≡ first_height_of left → IsLevel (to_z w32 (of_z w32 n)) (to_z w32 (of_z w32 here.y))

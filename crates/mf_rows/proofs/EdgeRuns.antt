@@ -62,7 +62,7 @@ pub weight_none : (w : ℤ) (es : List Edge) → es ≡ [] → IsRestOfRow least
 weight_none w es none rest = rest_none least_coordinate w (subst (IsRestOfRow least_coordinate w) none rest)
 
 -- where an edge is taken from a row: its sum with the weight before it, as the code computes that, and what is left of the row
-pub record IsTaken (w : ℤ) (e : Edge) (es : List Edge) : Type 0 where
+pub record IsFirstEdge (w : ℤ) (e : Edge) (es : List Edge) : Type 0 where
   pub fits : FitsSigned w32 (to_z w32 (of_z w32 w) +ℤ to_z w32 (of_z w32 e.weight))
   pub sum : to_z w32 (of_z w32 (to_z w32 (of_z w32 w) +ℤ to_z w32 (of_z w32 e.weight))) ≡ w +ℤ e.weight
   pub changed : (w +ℤ e.weight) ≢ w
@@ -71,8 +71,8 @@ pub record IsTaken (w : ℤ) (e : Edge) (es : List Edge) : Type 0 where
   pub right : AreEdgesFrom (e.x +ℤ pos 1) es
   pub rest : IsRestOfRow least_coordinate (w +ℤ e.weight) es
 
-pub edge_taken : (w : ℤ) (e : Edge) (es fs : List Edge) → es ≡ e ∷ fs → IsRestOfRow least_coordinate w es → IsTaken w e fs
-edge_taken w e es fs first whole =
+pub first_edge_of : (w : ℤ) (e : Edge) (es fs : List Edge) → es ≡ e ∷ fs → IsRestOfRow least_coordinate w es → IsFirstEdge w e fs
+first_edge_of w e es fs first whole =
     let all = subst (IsRestOfRow least_coordinate w) first whole in
     let edge = all.sorted.0 in
     let next = rest_next least_coordinate w e fs all in

@@ -25,14 +25,14 @@ module _ {S T A : Type 0} (rest : S → List A) (others : T → List A) (eq : A 
   abbrev IsLastStep : Option A → Option A → Type 0
   IsLastStep o p = MatchOption o (MatchOption p (b ≡ true) (λ _. b ≡ false)) (λ x. (b ≡ false) × IfSome p (λ y. eq x y ≡ false))
 
-  refuted : {P : Type 0} → b ≡ false → (P → ⊥) → Decides b P
-  refuted fails differs = (λ yes. absurd (false≢true (sym fails ∙ yes)), λ same. absurd (differs same))
+  decides_false : {P : Type 0} → b ≡ false → (P → ⊥) → Decides b P
+  decides_false fails differs = (λ yes. absurd (false≢true (sym fails ∙ yes)), λ same. absurd (differs same))
 
   at_last : (o p : Option A) (s u : S) (t w : T) → YieldsFirst rest s o u → YieldsFirst others t p w → IsLastStep o p → Decides b (rest s ≡ others t)
   at_last None None s u t w left right last = (λ yes. left.0 ∙ sym right.0, λ same. last)
-  at_last None (Some y) s u t w left right last = refuted last (λ same. absurd cc)
-  at_last (Some x) None s u t w left right last = refuted last.0 (λ same. absurd cc)
-  at_last (Some x) (Some y) s u t w left right last = refuted last.0 (λ same. not_from_Decides (eq x y) (decides x y) last.1 cc)
+  at_last None (Some y) s u t w left right last = decides_false last (λ same. absurd cc)
+  at_last (Some x) None s u t w left right last = decides_false last.0 (λ same. absurd cc)
+  at_last (Some x) (Some y) s u t w left right last = decides_false last.0 (λ same. not_from_Decides (eq x y) (decides x y) last.1 cc)
 
   along : (xs ys : List A) (o p : Option A) (s u : S) (t w : T) → YieldsThen (YieldsFirst rest) s xs o u
       → YieldsThen (YieldsFirst others) t ys p w → AllZip (λ x y. eq x y ≡ true) xs ys → IsLastStep o p → Decides b (rest s ≡ others t)

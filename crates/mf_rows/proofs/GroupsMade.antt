@@ -29,9 +29,9 @@ pub lawful_from : (p : ℕ) (rs : List EdgeRow) → AreRowsFrom (top_of_place p)
 lawful_from p rs left = record { rows = rows_from-higher last_in_field (top_of_place p) rs (omega (arith, ints)) left }
 
 -- after the last place nothing is left
-pub none_left : (p : ℕ) (rest : List EdgeRow) → GROUP_COUNT ≤ p → AreRowsFrom (top_of_place p) rest → rest ≡ []
-none_left p [] last rows = refl
-none_left p (r ∷ rest) last rows = grind (arith, ints)
+pub none_below_last : (p : ℕ) (rest : List EdgeRow) → GROUP_COUNT ≤ p → AreRowsFrom (top_of_place p) rest → rest ≡ []
+none_below_last p [] last rows = refl
+none_below_last p (r ∷ rest) last rows = grind (arith, ints)
 
 -- where a row is left there is a place for it
 pub place_of_rest : (p : ℕ) (rest : List EdgeRow) → AreRowsFrom (top_of_place p) rest → (rest ≡ [] → ⊥) → p < GROUP_COUNT
@@ -73,4 +73,4 @@ grouped_before p whole gs rest so_far none =
 
 pub grouped_all : (p : ℕ) (whole : List EdgeRow) (gs : List (Option (Arc Group Global))) (rest : List EdgeRow)
     → IsGroupedUpTo p whole gs rest → GROUP_COUNT ≤ p → rows_of_groups gs ≡ whole
-grouped_all p whole gs rest so_far last = grouped_before p whole gs rest so_far (none_left p rest last so_far.left)
+grouped_all p whole gs rest so_far last = grouped_before p whole gs rest so_far (none_below_last p rest last so_far.left)

@@ -8,7 +8,7 @@ use Rattle.mf_rows.specs.declared.run.Run.{Run}
 use Rattle.mf_rows.specs.Dots.{Dot, IsPicture, place, start_of_field, weight_at}
 use Rattle.mf_rows.specs.Order.{AreRunsFrom}
 use Rattle.mf_rows.specs.Runs.{equal_dots, dots_of, continues, run_from, with_dot, runs_of, AreMaximal, IsFollowedBy, IsMaximalRun}
-use Rattle.mf_rows.proofs.RunsLemmas.{continued, dots_of-runs_of, maximal_runs_of}
+use Rattle.mf_rows.proofs.RunsLemmas.{Decides-continues, dots_of-runs_of, maximal_runs_of}
 use Rattle.mf_rows.proofs.DotsLemmas.{weight_at-before}
 use Rattle.mf_rows.proofs.PassedRuns.{ordered_runs_of}
 use Rattle.mf_rows.proofs.RunDots.{IsOnRun, runs_from-lower, dots_from-runs, weight_at-left_of, weight_at-on_first, weight_at-off_first}
@@ -17,7 +17,7 @@ use Rattle.mf_rows.proofs.RunDots.{IsOnRun, runs_from-lower, dots_from-runs, wei
 with_dot-alone : (d : Dot) (rs : List Run) → AreMaximal (run_from d 0 ∷ rs) → with_dot d rs ≡ run_from d 0 ∷ rs
 unfolding with_dot
 with_dot-alone d [] maximal = refl
-with_dot-alone d (r ∷ rs) maximal = grind (arith, ints, cond-false, false_from_ne_true, continued)
+with_dot-alone d (r ∷ rs) maximal = grind (arith, ints, cond-false, false_from_ne_true, Decides-continues)
 
 -- a run without its first column ends in the same column
 maximal-shifted : (y x w : ℤ) (n : ℕ) (rs : List Run) → AreMaximal (record { y = y; x = x; len = suc (suc n); weight = w } ∷ rs)
@@ -36,7 +36,7 @@ runs_of-equal_dots y x w (suc (suc n)) ds some maximal =
     let others : Run = record { y = y; x = x +ℤ pos 1; len = suc n; weight = w } in
     ap (with_dot first) (runs_of-equal_dots y (x +ℤ pos 1) w (suc n) ds (omega arith) (maximal-shifted y x w n (runs_of ds) maximal))
     ∙ cond-true (continues first others) (run_from first (suc n) ∷ runs_of ds) (run_from first 0 ∷ others ∷ runs_of ds)
-    ((continued first others).1 (record { row = refl; column = refl; weight = refl }))
+    ((Decides-continues first others).1 (record { row = refl; column = refl; weight = refl }))
 
 pub maximal-tail : (r : Run) (rs : List Run) → AreMaximal (r ∷ rs) → AreMaximal rs
 maximal-tail r [] maximal = tt
@@ -85,10 +85,10 @@ weight-after r (s ∷ rs) some runs maximal = λ same.
     some (sym same ∙ weight_at-off_first s rs x r.y elsewhere ∙ none)
 
 -- a later run, which does not continue it, stays as long as it can be
-kept : (low : ℤ) (r : Run) (rs : List Run) (s : Run) → AreRunsFrom low (r ∷ rs) → place (r.x +ℤ pos r.len) r.y ≤ℤ place s.x s.y
+IsMaximalRun-cons : (low : ℤ) (r : Run) (rs : List Run) (s : Run) → AreRunsFrom low (r ∷ rs) → place (r.x +ℤ pos r.len) r.y ≤ℤ place s.x s.y
     → (IsFollowedBy r s → ⊥) → IsMaximalRun (flat_map dots_of rs) s → IsMaximalRun (flat_map dots_of (r ∷ rs)) s
 unfolding place
-kept low r rs s runs after apart maximal = grind (arith, ints, weight_at-off_first, sym, weight_at-on_first)
+IsMaximalRun-cons low r rs s runs after apart maximal = grind (arith, ints, weight_at-off_first, sym, weight_at-on_first)
 
 longest : (low : ℤ) (rs : List Run) → AreRunsFrom low rs → AreMaximal rs → All (IsMaximalRun (flat_map dots_of rs)) rs
 longest low [] runs maximal = All-nil (IsMaximalRun [])
@@ -97,7 +97,7 @@ longest low (r ∷ rs) runs maximal =
     let others = longest end rs runs.2 (maximal-tail r rs maximal) in
     All-cons (IsMaximalRun (flat_map dots_of (r ∷ rs))) r rs
     (grind (arith, ints, weight_at-on_first, sym, weight_at-left_of, weight-after, weight_at-off_first))
-    (λ k s lt. kept low r rs (get_or rs k s) runs (runs_from-after end rs runs.2 k s lt) (not_followed r rs runs.2 maximal k s lt) (others k s lt))
+    (λ k s lt. IsMaximalRun-cons low r rs (get_or rs k s) runs (runs_from-after end rs runs.2 k s lt) (not_followed r rs runs.2 maximal k s lt) (others k s lt))
 
 -- each run of dots has at least one pixel, and is as long as it can be
 pub longest_runs : (ds : List Dot) → IsPicture ds → All (IsMaximalRun ds) (runs_of ds)

@@ -11,7 +11,7 @@ use Rattle.mf_rows.specs.Dots.{Dot, IsDot, IsPicture, AreDotsFrom, place, start_
 use Rattle.mf_rows.specs.Order.{IsRun, AreRunsFrom, AreRuns}
 use Rattle.mf_rows.specs.Runs.{dots_of, run_from, with_dot, runs_of}
 use Rattle.mf_rows.proofs.RunDots.{runs_from-lower, runs_from-lawful}
-use Rattle.mf_rows.proofs.RunsLemmas.{continued, dots_of-runs_of}
+use Rattle.mf_rows.proofs.RunsLemmas.{Decides-continues, dots_of-runs_of}
 
 -- a run that begins at a dot is lawful where it ends in the field
 run_from_dot : (d : Dot) (n : ℕ) → IsDot d → (d.x +ℤ pos (suc n)) ≤ℤ greatest_coordinate → IsRun (run_from d n)
@@ -22,7 +22,7 @@ runs_from-with_dot : (low : ℤ) (d : Dot) (rs : List Run) → IsDot d → low �
     → AreRunsFrom (place d.x d.y +ℤ pos 1) rs → AreRunsFrom low (with_dot d rs)
 unfolding with_dot run_from place
 runs_from-with_dot low d [] dot le runs = (run_from_dot d 0 dot (omega (arith, ints, dot.in_field.right)), le, tt)
-runs_from-with_dot low d (r ∷ rs) dot le runs = grind (arith, ints, cond_both, continued, runs_from-lower, run_from_dot)
+runs_from-with_dot low d (r ∷ rs) dot le runs = grind (arith, ints, cond_both, Decides-continues, runs_from-lower, run_from_dot)
 
 -- the runs of dots in reading order are in reading order, lie in the field, and have lawful weights
 runs_from-runs_of : (low : ℤ) (ds : List Dot) → AreDotsFrom low ds → AreRunsFrom low (runs_of ds)

@@ -13,9 +13,9 @@ use Rattle.mf_rows.specs.Sums.{HaveRowWeights}
 use Rattle.mf_rows.proofs.EdgeRowsLemmas.{lawful_picture_of_rows, weight_at-picture_of_rows, picture_of_rows-from_weights}
 
 -- the picture of the rows of groups, as a list
-pub pictured : (rs : List EdgeRow) (gs : List (Option (Arc Group Global))) (ds : List Dot) → rs ≡ rows_of_groups gs
+pub picture_of_rows-groups : (rs : List EdgeRow) (gs : List (Option (Arc Group Global))) (ds : List Dot) → rs ≡ rows_of_groups gs
     → picture_of_rows (rows_of_groups gs) ≡ ds → picture_of_rows rs ≡ ds
-pictured rs gs ds all picture = ap picture_of_rows all ∙ picture
+picture_of_rows-groups rs gs ds all picture = ap picture_of_rows all ∙ picture
 
 -- rows with the same weights represent the same picture
 pub same_picture : (rs ss : List EdgeRow) → AreRows rs → AreRows ss → HaveRowWeights (weight_in_rows rs) ss → picture_of_rows ss ≡ picture_of_rows rs

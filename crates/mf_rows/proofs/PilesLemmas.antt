@@ -5,8 +5,8 @@ use Rattle.std.proofs.lemmas.Int.{ints}
 use Rattle.std.proofs.lemmas.List.{drop_more}
 use Rattle.mf_geom.specs.Coordinates.{last_in_field}
 use Rattle.std.specs.Ordering.{int_cmp, ord_max}
-use Rattle.mf_edges.proofs.ReachesLemmas.{ord_max_is}
-use Rattle.mf_edges.specs.LawfulWeights.{greatest_weight}
+use Rattle.mf_edges.proofs.ReachesLemmas.{ord_max_is, wider_reach}
+use Rattle.mf_edges.specs.LawfulWeights.{IsInReach, greatest_weight}
 use Rattle.mf_edges.specs.Reaches.{StaysInReach}
 use Rattle.mf_rows.specs.BothRows.{AreRowsOfBoth, rows_of_both}
 use Rattle.mf_rows.specs.EdgeRows.{EdgeRow, AreRows, AreRowsFrom, weight_in_rows}
@@ -27,20 +27,20 @@ use Rattle.mf_rows.proofs.PictureGroups.{rows_of_same}
 abbrev pub pile_rows : Groups → Groups → List EdgeRow
 pile_rows gs hs = rows_of_both (rows_of_groups hs) (rows_of_groups gs)
 
-pub rows_in_pile : (gs hs : Groups) (reach : ℤ) → ArePiled gs hs reach → AreRows (pile_rows gs hs)
+pub AreRows-pile : (gs hs : Groups) (reach : ℤ) → ArePiled gs hs reach → AreRows (pile_rows gs hs)
 unfolding sum_in_rows
-rows_in_pile gs hs reach pile =
+AreRows-pile gs hs reach pile =
     rows-both (rows_of_groups hs) (rows_of_groups gs) (rows_of_groups_are_rows hs pile.newest) (rows_of_groups_are_rows gs pile.older)
     (λ x y. record {
-      least = omega (arith, ints, pile.reached.least x y, pile.reached.most);
-      greatest = omega (arith, ints, pile.reached.greatest x y, pile.reached.most);
+      least = omega (arith, ints, pile.reached.within x y, pile.reached.most);
+      greatest = omega (arith, ints, pile.reached.within x y, pile.reached.most);
     })
 
-pub rows_of_pile : (gs hs : Groups) (reach : ℤ) → ArePiled gs hs reach → AreRowsOfBoth (rows_of_groups hs) (rows_of_groups gs)
-rows_of_pile gs hs reach pile = record {
+pub AreRowsOfBoth-pile : (gs hs : Groups) (reach : ℤ) → ArePiled gs hs reach → AreRowsOfBoth (rows_of_groups hs) (rows_of_groups gs)
+AreRowsOfBoth-pile gs hs reach pile = record {
   left = rows_of_groups_are_rows hs pile.newest;
   right = rows_of_groups_are_rows gs pile.older;
-  both = rows_in_pile gs hs reach pile;
+  both = AreRows-pile gs hs reach pile;
 }
 
 pub none_are_groups : AreGroups []
@@ -52,7 +52,7 @@ pile_alone hs groups = rows_both-none (rows_of_groups hs) (rows_of_groups_are_ro
 
 -- weights that are the same stay in the same reach
 pub stay_as : {reach : ℤ} {f g : ℤ → ℤ → ℤ} → IsReachOf reach f → ((x y : ℤ) → g x y ≡ f x y) → IsReachOf reach g
-stay_as stay same = record { most = stay.most; least = λ x y. rw (same x y) (stay.least x y); greatest = λ x y. rw (same x y) (stay.greatest x y) }
+stay_as stay same = record { most = stay.most; within = λ x y. rw (same x y) (stay.within x y) }
 
 -- groups that are kept apart as two lists
 pub are_piled_apart : (gs hs sum : Groups) (reach : ℤ) → AreGroups gs → AreGroups hs
@@ -91,8 +91,7 @@ same_pile gs hs gs' hs' same other = rw (rows_of_same gs' gs same, rows_of_same 
 pub stay_in_greatest : (rs : List EdgeRow) → AreRows rs → IsReachOf greatest_weight (weight_in_rows rs)
 stay_in_greatest rs rows = record {
   most = omega (arith, ints);
-  least = λ x y. let lawful = lawful_weight_in_rows last_in_field rs x y rows.rows in omega (arith, ints, lawful.least, lawful.greatest);
-  greatest = λ x y. (lawful_weight_in_rows last_in_field rs x y rows.rows).greatest;
+  within = λ x y. lawful_weight_in_rows last_in_field rs x y rows.rows;
 }
 
 pub alone_is_piled : (hs : Groups) → AreGroups hs → ArePiled [] hs greatest_weight
@@ -113,8 +112,10 @@ pile_with gs hs sum rs reach more pile groups weights stay most = record {
   newest = groups;
   reached = record {
     most = most;
-    least = λ x y. omega (arith, ints, weights.weights x y, pile.reached.least x y, stay.least x y);
-    greatest = λ x y. omega (arith, ints, weights.weights x y, pile.reached.greatest x y, stay.greatest x y);
+    within = λ x y. record {
+      least = omega (arith, ints, weights.weights x y, pile.reached.within x y, stay.within x y);
+      greatest = omega (arith, ints, weights.weights x y, pile.reached.within x y, stay.within x y);
+    };
   };
 }
 
@@ -133,9 +134,6 @@ weights_of_pile gs hs sum weights = record { weights = λ x y. weights.weights x
 
 -- ---- the reach of rows is that of each of them
 
-abbrev IsInReach : ℤ → ℤ → Type 0
-IsInReach reach w = (pos 0 ≤ℤ (w +ℤ reach)) × (w ≤ℤ reach)
-
 -- while only some of the rows were looked at, each pixel has its weight in the others, or one that stays in a reach
 pub record IsReachSoFar (all rest : List EdgeRow) (reach : ℤ) : Type 0 where
   pub least : pos 0 ≤ℤ reach
@@ -153,17 +151,14 @@ reach_start rs rows = record {
   so_far = λ x y. inl refl;
 }
 
-pub row_fits : (row : ℤ) (es : List Edge) → StaysInReach row es → to_z w32 (of_z w32 row) ≡ row
-row_fits row es stays = omega (arith, ints, stays.most, stays.least (pos 0), stays.greatest (pos 0))
-
 row_passed : (top reach row next w x y : ℤ) (r : EdgeRow) (rest : List EdgeRow) → AreRowsFrom top (r ∷ rest) → StaysInReach row r.edges
     → reach ≤ℤ next → row ≤ℤ next → (w ≡ weight_in_rows (r ∷ rest) x y) ⊎ IsInReach reach w → (w ≡ weight_in_rows rest x y) ⊎ IsInReach next w
-row_passed top reach row next w x y r rest rows stays left right (inr within) = inr (omega (arith, ints, within.0), omega (arith, ints, within.1))
+row_passed top reach row next w x y r rest rows stays left right (inr within) = inr (wider_reach left within)
 row_passed top reach row next w x y r rest rows stays left right (inl same) = by_same r.y y
     (λ here.
     let own = weight_in_rows-here r rest x y here in
     let none = weight_in_rows-below rest x y (rows_from-below (r.y -ℤ pos 1) y rest rows.2 (omega (arith, ints, here))) in
-    inr (omega (arith, ints, same, own, none, stays.least x), omega (arith, ints, same, own, none, stays.greatest x)))
+    inr (record { least = omega (arith, ints, same, own, none, stays.within x); greatest = omega (arith, ints, same, own, none, stays.within x) }))
     (λ apart. inl (same ∙ weight_in_rows-elsewhere r rest x y apart))
 
 pub reach_next : (all before rest : List EdgeRow) (r : EdgeRow) (reach row next : ℤ) → before ≡ (r ∷ rest) → IsReachSoFar all before reach
@@ -185,7 +180,7 @@ reach_next all before rest r reach row next step passed stays next_of =
     )
 
 all_passed : (reach w u : ℤ) → pos 0 ≤ℤ reach → u ≡ pos 0 → (w ≡ u) ⊎ IsInReach reach w → IsInReach reach w
-all_passed reach w u least none (inl same) = (omega (arith, ints), omega (arith, ints))
+all_passed reach w u least none (inl same) = record { least = omega (arith, ints); greatest = omega (arith, ints) }
 all_passed reach w u least none (inr within) = within
 
 pub reach_all : (rs rest : List EdgeRow) (reach : ℤ) → rest ≡ [] → AreRows rs → IsReachSoFar rs rest reach → IsReachOf reach (weight_in_rows rs)
@@ -199,10 +194,10 @@ pub reach_read : (all : List EdgeRow) (es : List Edge) (heads : List Head) (k : 
 reach_read all es heads k head r reach inside read is so_far = grind (arith, ints, drop_more, sym)
 
 pub reach_fits : (reach : ℤ) (f : ℤ → ℤ → ℤ) → IsReachOf reach f → to_z w32 (of_z w32 reach) ≡ reach
-reach_fits reach f stay = omega (arith, ints, stay.most, stay.least (pos 0) (pos 0), stay.greatest (pos 0) (pos 0))
+reach_fits reach f stay = omega (arith, ints, stay.most, stay.within (pos 0) (pos 0))
 
 pub reach_is_no_less : (reach : ℤ) (f : ℤ → ℤ → ℤ) → IsReachOf reach f → pos 0 ≤ℤ reach
-reach_is_no_less reach f stay = omega (arith, ints, stay.least (pos 0) (pos 0), stay.greatest (pos 0) (pos 0))
+reach_is_no_less reach f stay = omega (arith, ints, stay.within (pos 0) (pos 0))
 
 -- ---- two piles are added
 
@@ -211,8 +206,10 @@ pub stay_in_sum : (left right reach : ℤ) (rs ss sum : List EdgeRow) → IsReac
 unfolding sum_in_rows
 stay_in_sum left right reach rs ss sum f g rows has (inl within) = record {
   most = omega (arith, ints, within.0, within.1);
-  least = λ x y. omega (arith, ints, within.1, has.weights x y, f.least x y, g.least x y);
-  greatest = λ x y. omega (arith, ints, within.1, has.weights x y, f.greatest x y, g.greatest x y);
+  within = λ x y. record {
+    least = omega (arith, ints, within.1, has.weights x y, f.within x y, g.within x y);
+    greatest = omega (arith, ints, within.1, has.weights x y, f.within x y, g.within x y);
+  };
 }
 stay_in_sum left right reach rs ss sum f g rows has (inr beyond) = subst (λ r. IsReachOf r (weight_in_rows sum)) (sym beyond.1) (stay_in_greatest sum rows)
 

@@ -28,8 +28,8 @@ record IsLowered (f g : ℤ → ℤ → Bool) (y : ℤ) : Type 0 where
   above : (u v : ℤ) → f u v ≡ true → y <ℤ v
 
 module _ (f g : ℤ → ℤ → Bool) (y : ℤ) (lowered : IsLowered f g y) where
-  kept : (u v : ℤ) → f u v ≡ true → g u v ≡ true
-  kept u v found = let higher = lowered.above u v found in lowered.others u v (λ same. omega (arith, ints)) ∙ found
+  still_true : (u v : ℤ) → f u v ≡ true → g u v ≡ true
+  still_true u v found = let higher = lowered.above u v found in lowered.others u v (λ same. omega (arith, ints)) ∙ found
 
   -- the pixels of row y lie in columns, and there is one in the first and in the last
   module _ (c : Columns) (inside : (u : ℤ) → g u y ≡ true → (c.first ≤ℤ u) × (u ≤ℤ c.last)) (first : g c.first y ≡ true) (last : g c.last y ≡ true) where
@@ -68,10 +68,10 @@ module _ (f g : ℤ → ℤ → Bool) (y : ℤ) (lowered : IsLowered f g y) wher
                 bottom = omega (arith, ints);
                 top = box.top;
               });
-          left = either_min at_column b.min_x c.first (before.left.0, kept _ _ before.left.1) (y, first);
-          right = either_max at_column b.max_x c.last (before.right.0, kept _ _ before.right.1) (y, last);
+          left = either_min at_column b.min_x c.first (before.left.0, still_true _ _ before.left.1) (y, first);
+          right = either_max at_column b.max_x c.last (before.right.0, still_true _ _ before.right.1) (y, last);
           bottom = (c.first, first);
-          top = (before.top.0, kept _ _ before.top.1);
+          top = (before.top.0, still_true _ _ before.top.1);
         }
 
 -- ---- the rows that were passed

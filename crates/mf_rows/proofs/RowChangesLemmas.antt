@@ -22,11 +22,11 @@ use Rattle.mf_rows.specs.EdgeRows.{EdgeRow, AreRowsFrom, AreRows, weight_in_rows
 use Rattle.mf_edges.specs.RowChanges.{row_image, IsRowChange, EdgesAllowChange, image_in, AreChanged}
 use Rattle.mf_rows.specs.RowChanges.{row_images}
 use Rattle.mf_rows.specs.RowMoves.{strip}
-use Rattle.mf_rows.specs.Strips.{Strip, strip_between, ReachDownTo, HasStrip}
+use Rattle.mf_rows.specs.Strips.{Strip, strip_between, AreDownTo, HasStrip}
 use Rattle.mf_rows.specs.Sums.{HaveRowWeights}
 use Rattle.mf_rows.proofs.EdgeRowsLemmas.{weight_in_rows-here, weight_in_rows-elsewhere, weight_in_rows-below, rows_from-below}
 use Rattle.mf_rows.proofs.RowListLemmas.{edge_decides}
-use Rattle.mf_rows.proofs.StripsLemmas.{below_reach, no_strip, strip_below}
+use Rattle.mf_rows.proofs.StripsLemmas.{below_bottom, no_strip, strip_below}
 
 -- ---- rows that are made from the top down
 
@@ -38,7 +38,7 @@ next_rows rows k row inside read =
 
 -- a row goes below rows that are higher
 pub strip_of_row : (old : List EdgeRow) (y : ℤ) (es : List Edge) → least_coordinate ≤ℤ y → y ≤ℤ last_in_field → es ≢ [] → AreEdges es
-    → ReachDownTo (y +ℤ pos 1) old → HasStrip (strip_between es y (y +ℤ pos 1)) old (old ++ record { y = y; edges = es } ∷ [])
+    → AreDownTo (y +ℤ pos 1) old → HasStrip (strip_between es y (y +ℤ pos 1)) old (old ++ record { y = y; edges = es } ∷ [])
 unfolding strip
 strip_of_row old y es bottom top some edges reach =
     let one : unsigned_abs ((y +ℤ pos 1) -ℤ y) ≡ 1 = omega (arith, ints) in
@@ -47,22 +47,22 @@ strip_of_row old y es bottom top some edges reach =
     rw here at (rw one at below)
 
 pub strip_unless_blank : (old : List EdgeRow) (y : ℤ) (es : List Edge) → least_coordinate ≤ℤ y → y ≤ℤ last_in_field → AreEdges es
-    → ReachDownTo (y +ℤ pos 1) old → HasStrip (strip_between es y (y +ℤ pos 1)) old (old ++ unless_blank (record { y = y; edges = es }))
+    → AreDownTo (y +ℤ pos 1) old → HasStrip (strip_between es y (y +ℤ pos 1)) old (old ++ unless_blank (record { y = y; edges = es }))
 strip_unless_blank old y [] bottom top edges reach =
     rw (append-nil old) (no_strip old [] y (y +ℤ pos 1) reach (omega (arith, ints)) (λ _. refl))
 strip_unless_blank old y (e ∷ es) bottom top edges reach = strip_of_row old y (e ∷ es) bottom top (λ none. absurd cc) edges reach
 
 -- a strip adds its weights, so that with what is left before and after it the weights stay the same
-pub strip_weights : (s : Strip) (old new : List EdgeRow) (x y before after : ℤ) → HasStrip s old new → ReachDownTo s.top old → s.bottom ≤ℤ s.top
+pub strip_weights : (s : Strip) (old new : List EdgeRow) (x y before after : ℤ) → HasStrip s old new → AreDownTo s.top old → s.bottom ≤ℤ s.top
     → (s.bottom ≤ℤ y → y <ℤ s.top → weight_in s.edges x +ℤ after ≡ before) → ((s.bottom ≤ℤ y → y <ℤ s.top → ⊥) → after ≡ before)
     → weight_in_rows new x y +ℤ after ≡ weight_in_rows old x y +ℤ before
 strip_weights s old new x y before after strip reach order inside outside =
     by_lt_z y s.bottom
     (λ below.
-    let none = below_reach s.top old x y reach (omega (arith, ints)) in
-    omega (arith, ints, below_reach s.bottom new x y strip.rows below, outside (λ from _. omega (arith, ints))))
+    let none = below_bottom s.top old x y reach (omega (arith, ints)) in
+    omega (arith, ints, below_bottom s.bottom new x y strip.rows below, outside (λ from _. omega (arith, ints))))
     (λ from. by_lt_z y s.top
-    (λ under. omega (arith, ints, strip.strip x y from under, below_reach s.top old x y reach under, inside from under))
+    (λ under. omega (arith, ints, strip.strip x y from under, below_bottom s.top old x y reach under, inside from under))
     (λ above. omega (arith, ints, strip.above x y above, outside (λ _ under. omega (arith, ints)))))
 
 -- how rows are made of others: which rows may be taken, what becomes of their weights, and that row y becomes rows from `down y` up
@@ -76,7 +76,7 @@ pub record IsMadeSoFar (m : Making) (whole left made : List EdgeRow) : Type 0 wh
   pub low : ℤ
   pub to_come : AreRowsFrom (low -ℤ pos 1) left
   pub allowed : All m.Allows left
-  pub rows : ReachDownTo (m.down low) made
+  pub rows : AreDownTo (m.down low) made
   pub weights : (x y : ℤ) → weight_in_rows made x y +ℤ m.image (weight_in_rows left) x y ≡ m.image (weight_in_rows whole) x y
 
 module _ {m : Making} (whole : List EdgeRow) where
@@ -86,16 +86,16 @@ module _ {m : Making} (whole : List EdgeRow) where
     low = greatest_coordinate;
     to_come = rows.rows;
     allowed = allowed;
-    rows = record { rows = tt; reach = All-nil (λ r. m.down greatest_coordinate ≤ℤ r.y) };
+    rows = record { rows = tt; from = All-nil (λ r. m.down greatest_coordinate ≤ℤ r.y) };
     weights = λ x y. omega (arith, ints);
   }
 
   module _ (rest made : List EdgeRow) (r : EdgeRow) (up : (a b : ℤ) → a ≤ℤ b → m.down a ≤ℤ m.down b) (so_far : IsMadeSoFar m whole (r ∷ rest) made) where
-    pub made_reach : ReachDownTo (m.down (r.y +ℤ pos 1)) made
-    made_reach =
+    pub made_down_to : AreDownTo (m.down (r.y +ℤ pos 1)) made
+    made_down_to =
         let le : r.y ≤ℤ (so_far.low -ℤ pos 1) = so_far.to_come.1 in
         let end = up (r.y +ℤ pos 1) so_far.low (omega (arith, ints)) in
-        record { rows = so_far.rows.rows; reach = λ k d inside. let from = so_far.rows.reach k d inside in omega (arith, ints) }
+        record { rows = so_far.rows.rows; from = λ k d inside. let from = so_far.rows.from k d inside in omega (arith, ints) }
 
     pub made_more : (after : List EdgeRow) (es : List Edge) → HasStrip (strip_between es (m.down r.y) (m.down (r.y +ℤ pos 1))) made after
         → ((x y : ℤ) → m.down r.y ≤ℤ y → y <ℤ m.down (r.y +ℤ pos 1)
@@ -109,7 +109,7 @@ module _ {m : Making} (whole : List EdgeRow) where
           to_come = so_far.to_come.2;
           allowed = All-tail m.Allows r rest so_far.allowed;
           rows = strip.rows;
-          weights = λ x y. strip_weights _ made after x y _ _ strip made_reach order (inside x y) (outside x y) ∙ so_far.weights x y;
+          weights = λ x y. strip_weights _ made after x y _ _ strip made_down_to order (inside x y) (outside x y) ∙ so_far.weights x y;
         }
 
   pub made_all : (made : List EdgeRow) → ((x y : ℤ) → m.image (weight_in_rows []) x y ≡ pos 0) → IsMadeSoFar m whole [] made
@@ -162,7 +162,7 @@ change_more c whole rest changed r image lawful so_far has =
     let below = rows_from-below (r.y -ℤ pos 1) r.y rest so_far.to_come.2 (omega (arith, ints)) in
     let same : (a b : ℤ) → a ≤ℤ b → a ≤ℤ b = λ a b le. le in
     made_more whole rest changed r same so_far _ image
-    (strip_unless_blank changed r.y image first.bottom first.top has.edges (made_reach whole rest changed r same so_far))
+    (strip_unless_blank changed r.y image first.bottom first.top has.edges (made_down_to whole rest changed r same so_far))
     (λ x v from under. row_images-here c r rest x v image lawful below has (omega (arith, ints)))
     (λ x v outside. row_images-elsewhere c r rest x v (λ here. outside (omega (arith, ints)) (omega (arith, ints))))
 

@@ -25,7 +25,7 @@ use Rattle.mf_rows.specs.RowLists.{edges_between, edges_at, row_at, rows_at, IsT
 -- where there are no edges, all weights are 0
 pub none_in_reach : StaysInReach (pos 0) []
 unfolding weight_in
-none_in_reach = record { most = omega (arith, ints); least = λ x. omega (arith, ints); greatest = λ x. omega (arith, ints) }
+none_in_reach = record { most = omega (arith, ints); within = λ x. record { least = omega (arith, ints); greatest = omega (arith, ints) } }
 
 -- ---- edges are appended
 

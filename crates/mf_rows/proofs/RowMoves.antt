@@ -10,7 +10,7 @@ use Rattle.mf_rows.specs.Bands.{edge_row, edge_rows, AreAbove}
 use Rattle.mf_rows.specs.EdgeRows.{EdgeRow, IsEdgeRow, AreRowsFrom, AreRows, weight_in_rows}
 use Rattle.mf_edges.specs.Axes.{opposite}
 use Rattle.mf_rows.specs.Moves.{moved_rows}
-use Rattle.mf_rows.specs.Strips.{ReachDownTo}
+use Rattle.mf_rows.specs.Strips.{AreDownTo}
 use Rattle.mf_rows.specs.Sums.{HaveRowWeights}
 use Rattle.mf_rows.proofs.EdgeRowsLemmas.{weight_in_rows-append, weight_in_rows-here, weight_in_rows-elsewhere}
 use Rattle.mf_rows.proofs.EdgeRowsLemmas.{rows_from-front, rows_from-back, rows_from-apart}
@@ -32,7 +32,7 @@ pub record IsMirrorSoFar (whole left mirrored : List EdgeRow) : Type 0 where
   pub to_come : AreRowsFrom last_in_field left
   pub low : ℤ
   pub above : AreAbove (opposite low) left
-  pub rows : ReachDownTo low mirrored
+  pub rows : AreDownTo low mirrored
   pub weights : (x y : ℤ) → weight_in_rows mirrored x y +ℤ weight_in_rows left x (opposite y) ≡ weight_in_rows whole x (opposite y)
 
 pub mirror_none : (whole : List EdgeRow) → AreRows whole → IsMirrorSoFar whole whole []
@@ -41,7 +41,7 @@ mirror_none whole rows = record {
   to_come = rows.rows;
   low = greatest_coordinate;
   above = λ k d inside. let row = edge_rows_from last_in_field whole rows.rows k d inside in omega (arith, ints, row.bottom);
-  rows = record { rows = tt; reach = All-nil (λ r. greatest_coordinate ≤ℤ r.y) };
+  rows = record { rows = tt; from = All-nil (λ r. greatest_coordinate ≤ℤ r.y) };
   weights = λ x y. omega (arith, ints);
 }
 
@@ -55,9 +55,9 @@ module _ {whole mirrored : List EdgeRow} (left : List EdgeRow) (r : EdgeRow) (so
       let y = opposite r.y in
       let row = mirror_last in
       let under = last_has (λ s. opposite so_far.low <ℤ s.y) left r so_far.above in
-      let reach : ReachDownTo (y +ℤ pos 1) mirrored = record {
+      let reach : AreDownTo (y +ℤ pos 1) mirrored = record {
         rows = so_far.rows.rows;
-        reach = λ k d inside. let from = so_far.rows.reach k d inside in omega (arith, ints);
+        from = λ k d inside. let from = so_far.rows.from k d inside in omega (arith, ints);
       } in
       let strip = strip_of_row mirrored y r.edges (omega (arith, ints)) (omega (arith, ints)) row.some row.edges reach in
       record {

@@ -12,7 +12,7 @@ use Rattle.mf_rows.specs.Moves.{moved_rows}
 use Rattle.mf_rows.specs.RowMoves.{HasStretched}
 use Rattle.mf_rows.specs.Sums.{HaveRowWeights}
 use Rattle.mf_rows.proofs.EdgeRowsLemmas.{weight_in_rows-here, weight_in_rows-elsewhere, weight_in_rows-below, rows_from-below}
-use Rattle.mf_rows.proofs.RowChangesLemmas.{IsMadeSoFar, made_reach, made_more, made_all}
+use Rattle.mf_rows.proofs.RowChangesLemmas.{IsMadeSoFar, made_down_to, made_more, made_all}
 use Rattle.mf_rows.proofs.StripsLemmas.{strip_below}
 use Rattle.mf_edges.proofs.Sources.{target_of-le, target_of-lt, target_of-next, source_of-reached, source_of-from, source_of-is}
 
@@ -72,7 +72,7 @@ stretch_more s whole rest stretched after r stretch so_far has =
     let below = rows_from-below (r.y -ℤ pos 1) r.y rest so_far.to_come.2 (omega (arith, ints)) in
     let size : top -ℤ bottom ≡ s.factor = omega (arith, ints, target_of-next s r.y) in
     let strip =
-    strip_below stretched r.edges bottom top (made_reach whole rest stretched r up so_far) inside.start.least
+    strip_below stretched r.edges bottom top (made_down_to whole rest stretched r up so_far) inside.start.least
     (target_of-lt s r.y (r.y +ℤ pos 1) stretch (omega (arith, ints))) inside.end.greatest first.some first.edges in
     made_more whole rest stretched r up so_far after r.edges (rw has.all (rw size at strip))
     (λ x v from under. source-here s r rest x v stretch below from under)

@@ -106,9 +106,6 @@ unfolding picture_of_rows
 total_of-rows rs rows = total_of-picture_of (weight_in_rows rs) ∙ sum_of_rows last_in_field rs rows.rows
 
 -- rows_total stays far within the range of an i64
-pub record IsSmall (n : ℕ) (total : ℤ) : Type 0 where
-  pub bound : unsigned_abs total ≤ n * greatest_row_total
-
 rows_bound : (top : ℤ) (n : ℕ) (rs : List EdgeRow) → AreRowsFrom top rs → top ≡ least_coordinate -ℤ pos 1 +ℤ pos n
     → unsigned_abs (rows_total rs) ≤ n * greatest_row_total
 rows_bound top n [] rows is = omega arith

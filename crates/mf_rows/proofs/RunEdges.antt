@@ -20,18 +20,18 @@ use Rattle.mf_edges.proofs.EdgesLemmas.{weight_in-left, weight_in-before, weight
 -- ---- the ends of edges
 
 -- edges are sorted from left to right
-ordered : (low : ℤ) (es : List Edge) (j k : ℕ) (d e : Edge) → AreEdgesFrom low es → j ≤ k → k < length es → (get_or es j d).x ≤ℤ (get_or es k e).x
-ordered low [] j k d e edges le lt = absurd (omega (arith, lt))
-ordered low (f ∷ es) zero k d e edges le lt = (edges_from-at f.x (f ∷ es) k e (edges.0, omega (arith, ints), edges.2) lt).1
-ordered low (f ∷ es) (suc j) zero d e edges le lt = absurd (omega arith)
-ordered low (f ∷ es) (suc j) (suc k) d e edges le lt = ordered (f.x +ℤ pos 1) es j k d e edges.2 (omega arith) (omega arith)
+columns_rise : (low : ℤ) (es : List Edge) (j k : ℕ) (d e : Edge) → AreEdgesFrom low es → j ≤ k → k < length es → (get_or es j d).x ≤ℤ (get_or es k e).x
+columns_rise low [] j k d e edges le lt = absurd (omega (arith, lt))
+columns_rise low (f ∷ es) zero k d e edges le lt = (edges_from-at f.x (f ∷ es) k e (edges.0, omega (arith, ints), edges.2) lt).1
+columns_rise low (f ∷ es) (suc j) zero d e edges le lt = absurd (omega arith)
+columns_rise low (f ∷ es) (suc j) (suc k) d e edges le lt = columns_rise (f.x +ℤ pos 1) es j k d e edges.2 (omega arith) (omega arith)
 
 -- so the last of them says where they end
 pub last_decides_end : (es : List Edge) (last : Edge) (x : ℤ) → AreEdges es → 0 < length es
     → last ≡ get_or es (length es - 1) last → (last.x ≤ℤ x → EndAt x es) × (EndAt x es → last.x ≤ℤ x)
 last_decides_end es last x edges some is_last =
     let here = ap (λ (e : Edge). e.x) is_last in (
-      λ le k d lt. omega (arith, ints, ordered least_coordinate es k (length es - 1) d last edges.sorted (omega arith) (omega arith)),
+      λ le k d lt. omega (arith, ints, columns_rise least_coordinate es k (length es - 1) d last edges.sorted (omega arith) (omega arith)),
       λ end. omega (arith, ints, end (length es - 1) last (omega arith)),
     )
 
@@ -81,15 +81,15 @@ weight-from_run : (es mid : List Edge) (r : Run) (c : ℤ) → AreEdges es → E
 weight-from_run es mid r c edges end first from = grind (arith, ints, weight_in-end, with_edge_in-after)
 
 -- so its weights are still lawful
-pub run_begun : (es mid : List Edge) (r : Run) → AreEdges es → EndAt r.x es → IsLawfulWeight r.weight
+pub AreOpenEdges-run : (es mid : List Edge) (r : Run) → AreEdges es → EndAt r.x es → IsLawfulWeight r.weight
     → AreEdgesFrom least_coordinate mid → HaveWeights (with_edge_in es r.x r.weight) mid → AreOpenEdges mid
-run_begun es mid r edges end lawful sorted first = grind (arith, ints, by_lt_z, sym, with_edge_in-before, weight-from_run)
+AreOpenEdges-run es mid r edges end lawful sorted first = grind (arith, ints, by_lt_z, sym, with_edge_in-before, weight-from_run)
 
 -- the second edge of the run takes the run's weight away again, so the two edges add the run
-pub run_added : (old new : EdgeRow) (mid : List Edge) (r : Run) → IsRun r → AreEdges old.edges → EndAt r.x old.edges
+pub HasRun-edges : (old new : EdgeRow) (mid : List Edge) (r : Run) → IsRun r → AreEdges old.edges → EndAt r.x old.edges
     → new.y ≡ r.y → AreEdgesFrom least_coordinate new.edges → HaveWeights (with_edge_in old.edges r.x r.weight) mid
     → HaveWeights (with_edge_in mid (r.x +ℤ pos r.len) (pos 0 -ℤ r.weight)) new.edges → HasRun old r new
-run_added old new mid r run edges end row sorted first second =
+HasRun-edges old new mid r run edges end row sorted first second =
     let es = old.edges in
     let stop = r.x +ℤ pos r.len in
     let inside : (c : ℤ) → r.x ≤ℤ c → c <ℤ stop → weight_in new.edges c ≡ r.weight =

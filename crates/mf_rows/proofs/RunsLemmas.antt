@@ -10,19 +10,19 @@ use Rattle.mf_rows.specs.Dots.{Dot}
 use Rattle.mf_rows.specs.Runs.{equal_dots, dots_of, continues, run_from, with_dot, runs_of, with_next, IsFollowedBy, AreMaximal}
 
 -- a dot continues a run exactly where the run follows that of the dot alone
-pub continued : (d : Dot) (r : Run) → Decides (continues d r) (IsFollowedBy (run_from d 0) r)
+pub Decides-continues : (d : Dot) (r : Run) → Decides (continues d r) (IsFollowedBy (run_from d 0) r)
 unfolding continues run_from
-continued d r = grind (arith, ints, Decides-like, Decides-and, Decides-int_eq)
+Decides-continues d r = grind (arith, ints, Decides-like, Decides-and, Decides-int_eq)
 
 -- a run with one more dot at its left end has that dot and its own dots
-lengthened : (d : Dot) (r : Run) → IsFollowedBy (run_from d 0) r → dots_of (run_from d r.len) ≡ d ∷ dots_of r
+dots_of-run_from : (d : Dot) (r : Run) → IsFollowedBy (run_from d 0) r → dots_of (run_from d r.len) ≡ d ∷ dots_of r
 unfolding run_from dots_of equal_dots
-lengthened d r followed = ap (λ others. d ∷ others) (rw (← followed.row, ← followed.column, ← followed.weight) refl)
+dots_of-run_from d r followed = ap (λ others. d ∷ others) (rw (← followed.row, ← followed.column, ← followed.weight) refl)
 
 dots_of-with_dot : (d : Dot) (rs : List Run) → flat_map dots_of (with_dot d rs) ≡ d ∷ flat_map dots_of rs
 unfolding with_dot run_from dots_of equal_dots
 dots_of-with_dot d [] = refl
-dots_of-with_dot d (r ∷ rs) = grind (arith, ints, cond_both, lengthened, continued)
+dots_of-with_dot d (r ∷ rs) = grind (arith, ints, cond_both, dots_of-run_from, Decides-continues)
 
 -- the dots of the runs are the dots
 pub dots_of-runs_of : (ds : List Dot) → flat_map dots_of (runs_of ds) ≡ ds
@@ -39,7 +39,7 @@ maximal_lengthened d r (s ∷ rs) joined maximal = grind (arith, ints, sym)
 maximal_with_dot : (d : Dot) (rs : List Run) → AreMaximal rs → AreMaximal (with_dot d rs)
 unfolding with_dot
 maximal_with_dot d [] maximal = tt
-maximal_with_dot d (r ∷ rs) maximal = grind (arith, ints, cond_both, maximal_lengthened, continued, false≢true, sym)
+maximal_with_dot d (r ∷ rs) maximal = grind (arith, ints, cond_both, maximal_lengthened, Decides-continues, false≢true, sym)
 
 -- no run of the dots could be longer
 pub maximal_runs_of : (ds : List Dot) → AreMaximal (runs_of ds)

@@ -52,10 +52,10 @@ place_kept (h ∷ gs) zero k g less = absurd (omega arith)
 place_kept (h ∷ gs) (suc i) zero g less = refl
 place_kept (h ∷ gs) (suc i) (suc k) g less = place_kept gs i k g (omega arith)
 
-none_left : (gs : Groups) → ((k : ℕ) → k < length gs → rows_in_place gs k ≡ []) → rows_of_groups gs ≡ []
-none_left [] none = refl
-none_left (g ∷ gs) none =
-    ap (λ rs. rs ++ rows_of_groups gs) (none 0 (omega arith)) ∙ none_left gs (λ k inside. none (suc k) (omega arith))
+rows_of_groups-none : (gs : Groups) → ((k : ℕ) → k < length gs → rows_in_place gs k ≡ []) → rows_of_groups gs ≡ []
+rows_of_groups-none [] none = refl
+rows_of_groups-none (g ∷ gs) none =
+    ap (λ rs. rs ++ rows_of_groups gs) (none 0 (omega arith)) ∙ rows_of_groups-none gs (λ k inside. none (suc k) (omega arith))
 
 -- ---- no group at a further place
 
@@ -216,7 +216,7 @@ settled_more i gs hs gs' hs' g inside so_far rows weights =
     }
 
 pub all_settled : (i : ℕ) (gs hs gs' hs' : Groups) → length hs' ≤ i → AreSettledTo i (gs, hs) (gs', hs') → rows_of_groups hs' ≡ []
-all_settled i gs hs gs' hs' all so_far = none_left hs' (λ k inside. so_far.done k (omega arith))
+all_settled i gs hs gs' hs' all so_far = rows_of_groups-none hs' (λ k inside. so_far.done k (omega arith))
 
 -- ---- a pile whose groups took up some of what is beside them
 

@@ -1,14 +1,15 @@
 -- Rows that are added or subtracted: the negated ones are as lawful as the others, and at the same heights.
-use Rattle.std.proofs.Common.{◌≡◌, ◌≢◌, ℤ, pos, neg_ℤ, ◌+ℤ◌, ◌-ℤ◌, ◌≤ℤ◌, ◌<ℤ◌, List, [], ◌∷◌, ◌++◌, length, refl, subst, ap, ◌∙◌, arith}
+use Rattle.std.proofs.Common.{◌≡◌, ◌≢◌, ℤ, pos, neg_ℤ, ◌+ℤ◌, ◌-ℤ◌, ◌<ℤ◌, List, [], ◌∷◌, ◌++◌, length, get_or, refl, ap, ◌∙◌, arith}
 use Rattle.std.specs.List.{All}
 use Rattle.std.proofs.lemmas.Int.{ints, by_lt_z}
 use Rattle.std.proofs.lemmas.List.{map-append}
-use Rattle.std.proofs.lemmas.List.Elements.{All-nil, All-cons, All-map}
+use Rattle.std.proofs.lemmas.List.Elements.{All-map}
 use Rattle.mf_geom.specs.Coordinates.{least_coordinate, last_in_field}
 use Rattle.mf_edges.specs.declared.edge.Edge.{Edge}
 use Rattle.mf_edges.specs.Edges.{weight_in, AreEdgesFrom, AreEdges}
-use Rattle.mf_edges.specs.LawfulWeights.{IsLawfulWeight, greatest_weight}
-use Rattle.mf_edges.proofs.EdgesLemmas.{weight_in-left, weight_in-right, weight_in-before}
+use Rattle.mf_edges.specs.Merging.{IsChange}
+use Rattle.mf_edges.proofs.EdgesAt.{step_at_edge}
+use Rattle.mf_edges.proofs.EdgesLemmas.{weight_in-left, weight_in-right}
 use Rattle.mf_rows.specs.declared.sign.Sign.{Sign}
 use Rattle.mf_rows.specs.declared.sign.Sign.TheVariants.{Plus, Minus}
 use Rattle.mf_rows.specs.Bands.{AreSplit}
@@ -42,29 +43,12 @@ some-negated [] some = λ none. some none
 some-negated (e ∷ es) some = λ none. absurd (omega (arith, ap length none))
 
 -- an edge changes one lawful weight to another, so it can be negated
-pub record IsChange (e : Edge) : Type 0 where
-  pub least : pos 0 ≤ℤ (e.weight +ℤ (greatest_weight +ℤ greatest_weight))
-  pub greatest : e.weight ≤ℤ (greatest_weight +ℤ greatest_weight)
-
-changes_from : (low w : ℤ) (es : List Edge) → AreEdgesFrom low es → IsLawfulWeight w → ((x : ℤ) → IsLawfulWeight (w +ℤ weight_in es x)) → All IsChange es
-changes_from low w [] edges start lawful = All-nil IsChange
-changes_from low w (e ∷ es) edges start lawful =
-    let next = w +ℤ e.weight in
-    let none : weight_in es e.x ≡ pos 0 = weight_in-before (e.x +ℤ pos 1) es e.x edges.2 (omega (arith, ints)) in
-    let here = weight_in-left e es e.x (omega (arith, ints)) in
-    let after : IsLawfulWeight next = subst IsLawfulWeight (omega (arith, ints, none, here)) (lawful e.x) in
-    let others : (x : ℤ) → IsLawfulWeight (next +ℤ weight_in es x) =
-    λ x. by_lt_z x e.x
-    (λ before. subst IsLawfulWeight (omega (arith, ints, weight_in-before (e.x +ℤ pos 1) es x edges.2 (omega (arith, ints)))) after)
-    (λ here. subst IsLawfulWeight (omega (arith, ints, weight_in-left e es x here)) (lawful x)) in
-    All-cons IsChange e es
-    (record { least = omega (arith, ints); greatest = omega (arith, ints) })
-    (changes_from (e.x +ℤ pos 1) next es edges.2 after others)
-
-pub are_changes : (es : List Edge) → AreEdges es → All IsChange es
-are_changes es edges =
-    changes_from least_coordinate (pos 0) es edges.sorted (record { least = omega (arith, ints); greatest = omega (arith, ints) })
-    (λ x. subst IsLawfulWeight (omega (arith, ints)) (edges.lawful x))
+pub are_changes : (es : List Edge) → AreEdges es → All (λ e. IsChange e.weight) es
+are_changes es edges k d inside =
+    let step = step_at_edge least_coordinate es k d edges.sorted inside in
+    let upper = edges.lawful (get_or es k d).x in
+    let lower = edges.lawful ((get_or es k d).x -ℤ pos 1) in
+    record { least = omega (arith, ints, step, upper, lower); greatest = omega (arith, ints, step, upper, lower) }
 
 -- ---- rows
 
@@ -105,12 +89,12 @@ pub with_sign_all : (P : ℤ → Type 0) (s : Sign) (rs : List EdgeRow) → All 
 with_sign_all P Plus rs all = all
 with_sign_all P Minus rs all = All-map (λ r. P r.y) negated_row rs all
 
-pub with_sign_split : (s : Sign) {high low : ℤ} {rs first rest : List EdgeRow} → AreSplit high low rs first rest
-    → AreSplit high low (with_sign s rs) (with_sign s first) (with_sign s rest)
-with_sign_split s {high} {low} {first = first} {rest = rest} split = record {
+pub with_sign_split : (s : Sign) {y z : ℤ} {rs first rest : List EdgeRow} → AreSplit y z rs first rest
+    → AreSplit y z (with_sign s rs) (with_sign s first) (with_sign s rest)
+with_sign_split s {y} {z} {first = first} {rest = rest} split = record {
   all = ap (with_sign s) split.all ∙ with_sign-append s first rest;
-  above = with_sign_all (λ y. high <ℤ y) s first split.above;
-  below = with_sign_all (λ y. y <ℤ low) s rest split.below;
+  above = with_sign_all (λ v. y <ℤ v) s first split.above;
+  below = with_sign_all (λ v. v <ℤ z) s rest split.below;
 }
 
 -- the weights of rows with a sign depend on the weights of these rows alone

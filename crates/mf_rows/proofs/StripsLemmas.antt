@@ -10,23 +10,23 @@ use Rattle.mf_rows.specs.Bands.{AreBelow}
 use Rattle.mf_edges.specs.Edges.{weight_in, AreEdges}
 use Rattle.mf_rows.specs.EdgeRows.{EdgeRow, AreRowsFrom, weight_in_rows}
 use Rattle.mf_rows.specs.RowMoves.{strip}
-use Rattle.mf_rows.specs.Strips.{strip_between, ReachDownTo, HasStrip}
+use Rattle.mf_rows.specs.Strips.{strip_between, AreDownTo, HasStrip}
 use Rattle.mf_rows.proofs.EdgeRowsLemmas.{weight_in_rows-append, weight_in_rows-here, weight_in_rows-elsewhere}
 use Rattle.mf_rows.proofs.EdgeRowsLemmas.{weight_in_rows-none, weight_in_rows-above, rows_from-append}
 use Rattle.mf_rows.proofs.RowSums.{by_same}
 
 -- rows have no weight below the height down to which they reach
-pub below_reach : (bottom : ℤ) (rs : List EdgeRow) (x y : ℤ) → ReachDownTo bottom rs → y <ℤ bottom → weight_in_rows rs x y ≡ pos 0
-below_reach bottom rs x y down lt =
-    weight_in_rows-above rs x y (All-weaker (λ r. bottom ≤ℤ r.y) (λ r. y <ℤ r.y) (λ r le. omega (arith, ints, le, lt)) rs down.reach)
+pub below_bottom : (bottom : ℤ) (rs : List EdgeRow) (x y : ℤ) → AreDownTo bottom rs → y <ℤ bottom → weight_in_rows rs x y ≡ pos 0
+below_bottom bottom rs x y down lt =
+    weight_in_rows-above rs x y (All-weaker (λ r. bottom ≤ℤ r.y) (λ r. y <ℤ r.y) (λ r le. omega (arith, ints, le, lt)) rs down.from)
 
 -- a strip with no rows or no edges adds nothing
-pub no_strip : (rs : List EdgeRow) (es : List Edge) (bottom top : ℤ) → ReachDownTo top rs → bottom ≤ℤ top
+pub no_strip : (rs : List EdgeRow) (es : List Edge) (bottom top : ℤ) → AreDownTo top rs → bottom ≤ℤ top
     → (bottom <ℤ top → es ≡ []) → HasStrip (strip_between es bottom top) rs rs
 unfolding weight_in
 no_strip rs es bottom top down le none = record {
   rows = grind (arith, ints, All-weaker);
-  strip = λ x y ge lt. rw (none (omega (arith, ints, ge, lt))) (below_reach top rs x y down lt);
+  strip = λ x y ge lt. rw (none (omega (arith, ints, ge, lt))) (below_bottom top rs x y down lt);
   above = λ x y ge. refl;
 }
 
@@ -63,7 +63,7 @@ strip_rows top bottom es (suc n) low high reach some edges =
 -- ---- strips below other rows
 
 -- a strip with edges goes below rows that reach down to its top
-pub strip_below : (old : List EdgeRow) (es : List Edge) (bottom top : ℤ) → ReachDownTo top old → least_coordinate ≤ℤ bottom → bottom <ℤ top
+pub strip_below : (old : List EdgeRow) (es : List Edge) (bottom top : ℤ) → AreDownTo top old → least_coordinate ≤ℤ bottom → bottom <ℤ top
     → top ≤ℤ greatest_coordinate → es ≢ [] → AreEdges es → HasStrip (strip_between es bottom top) old (old ++ strip bottom es (unsigned_abs (top -ℤ bottom)))
 strip_below old es bottom top down low below in_reach some edges =
     let n = unsigned_abs (top -ℤ bottom) in
@@ -72,15 +72,15 @@ strip_below old es bottom top down low below in_reach some edges =
     let heights = rw size at (strip_heights bottom es n) in
     let within = λ (t : EdgeRow). (bottom ≤ℤ t.y) × (t.y <ℤ top) in
     let lower = All-weaker (λ r. top ≤ℤ r.y) (λ r. AreBelow r.y new)
-    (λ r above. All-weaker within (λ t. t.y <ℤ r.y) (λ t inside. omega (arith, ints, above, inside.1)) new heights) old down.reach in
+    (λ r above. All-weaker within (λ t. t.y <ℤ r.y) (λ t inside. omega (arith, ints, above, inside.1)) new heights) old down.from in
     record {
       rows = record {
         rows = rows_from-append last_in_field old new down.rows
             (strip_rows last_in_field bottom es n low (omega (arith, ints)) (omega (arith, ints)) some edges) lower;
-        reach = All-append (λ r. bottom ≤ℤ r.y) old new (All-weaker (λ r. top ≤ℤ r.y) (λ r. bottom ≤ℤ r.y) (λ r le. omega (arith, ints)) old down.reach)
+        from = All-append (λ r. bottom ≤ℤ r.y) old new (All-weaker (λ r. top ≤ℤ r.y) (λ r. bottom ≤ℤ r.y) (λ r le. omega (arith, ints)) old down.from)
             (All-weaker within (λ t. bottom ≤ℤ t.y) (λ t inside. inside.0) new heights);
       };
       strip = λ x y ge lt.
-          omega (arith, ints, strip_weight-inside bottom es n x y ge (rw size lt), weight_in_rows-append old new x y, below_reach top old x y down lt);
+          omega (arith, ints, strip_weight-inside bottom es n x y ge (rw size lt), weight_in_rows-append old new x y, below_bottom top old x y down lt);
       above = λ x y ge. grind (arith, ints, strip_weight-outside, weight_in_rows-append);
     }

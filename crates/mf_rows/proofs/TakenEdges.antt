@@ -44,29 +44,29 @@ pub record SplitRow : Type 0 where
   pub edge : Edge
   pub others : List Edge
 
--- the side from which edges of two rows are taken: all edges together, that one of them is taken and what is left then, and that one
--- column comes before another
+-- the side from which edges of two rows are taken: all edges together, that an edge is at this end of both rows and what is left
+-- without it, and that one column comes before another
 pub record Side : Type 1 where
   pub all : List Edge
-  pub IsTaken : Edge → List Edge → List Edge → Type 0
+  pub IsEndOfBoth : Edge → List Edge → List Edge → Type 0
   pub before : ℤ → ℤ → Type 0
 
 -- an edge of each of two rows. The numbers are as the code computes them
 pub record AreTaken (s : Side) (l r : SplitRow) : Type 0 where
-  pub left : s.before (to_z w32 (of_z w32 l.edge.x)) (to_z w32 (of_z w32 r.edge.x)) → s.IsTaken l.edge l.others r.row
-  pub right : s.before (to_z w32 (of_z w32 r.edge.x)) (to_z w32 (of_z w32 l.edge.x)) → s.IsTaken r.edge l.row r.others
+  pub left : s.before (to_z w32 (of_z w32 l.edge.x)) (to_z w32 (of_z w32 r.edge.x)) → s.IsEndOfBoth l.edge l.others r.row
+  pub right : s.before (to_z w32 (of_z w32 r.edge.x)) (to_z w32 (of_z w32 l.edge.x)) → s.IsEndOfBoth r.edge l.row r.others
   pub sum : FitsSigned w32 (to_z w32 (of_z w32 l.edge.weight) +ℤ to_z w32 (of_z w32 r.edge.weight))
   pub here : to_z w32 (of_z w32 l.edge.x) ≡ to_z w32 (of_z w32 r.edge.x) → sum_of l.edge r.edge ≢ 0
-      → s.IsTaken (record { x = to_z w32 (of_z w32 r.edge.x); weight = to_z w32 (sum_of l.edge r.edge) }) l.others r.others
+      → s.IsEndOfBoth (record { x = to_z w32 (of_z w32 r.edge.x); weight = to_z w32 (sum_of l.edge r.edge) }) l.others r.others
   pub cancelled : to_z w32 (of_z w32 l.edge.x) ≡ to_z w32 (of_z w32 r.edge.x) → sum_of l.edge r.edge ≡ 0
       → AreLeftOfBoth l.others r.others × (edges_of_both l.others r.others ≡ s.all)
 
-taken : (s : Side) (l r : SplitRow) → IsEdge l.edge → IsEdge r.edge → IsDifference l.edge.weight → IsDifference r.edge.weight
-    → AreLeftOfBoth l.others r.others → (s.before l.edge.x r.edge.x → s.IsTaken l.edge l.others r.row)
-    → (s.before r.edge.x l.edge.x → s.IsTaken r.edge l.row r.others)
+are_taken : (s : Side) (l r : SplitRow) → IsEdge l.edge → IsEdge r.edge → IsDifference l.edge.weight → IsDifference r.edge.weight
+    → AreLeftOfBoth l.others r.others → (s.before l.edge.x r.edge.x → s.IsEndOfBoth l.edge l.others r.row)
+    → (s.before r.edge.x l.edge.x → s.IsEndOfBoth r.edge l.row r.others)
     → (put : List Edge → List Edge) → put [] ≡ edges_of_both l.others r.others → (l.edge.x ≡ r.edge.x → s.all ≡ put (edge_of_both l.edge r.edge))
-    → ((g : Edge) → s.all ≡ put (g ∷ []) → s.IsTaken g l.others r.others) → AreTaken s l r
-taken s l r edge other left right others first second put none all_is some =
+    → ((g : Edge) → s.all ≡ put (g ∷ []) → s.IsEndOfBoth g l.others r.others) → AreTaken s l r
+are_taken s l r edge other left right others first second put none all_is some =
     let e = l.edge in
     let f = r.edge in
     let x : to_z w32 (of_z w32 e.x) ≡ e.x = omega (arith, ints, edge.column) in
@@ -102,14 +102,14 @@ module _ {all ls rs : List Edge} (now : AreLeftOfBoth ls rs × (edges_of_both ls
       rw (← now.1, none, right_is) (record { all = refl; others = record { left = left_of_none; right = rest_left f fs (rw right_is at now.0.right) } })
 
   pub first_taken : {e f : Edge} {es fs : List Edge} → ls ≡ e ∷ es → rs ≡ f ∷ fs
-      → AreTaken (record { all = all; IsTaken = IsFirstOfBoth all; before = λ x y. x <ℤ y })
+      → AreTaken (record { all = all; IsEndOfBoth = IsFirstOfBoth all; before = λ x y. x <ℤ y })
       (record { row = ls; edge = e; others = es }) (record { row = rs; edge = f; others = fs })
   first_taken {e = e} {f = f} {es = es} {fs = fs} left_is right_is =
       let left = rw left_is at now.0.left in
       let right = rw right_is at now.0.right in
       let rest = rest_left e es left in
       let others = rest_left f fs right in
-      rw (← now.1, left_is, right_is) (taken _ _ _ left.sorted.0 right.sorted.0
+      rw (← now.1, left_is, right_is) (are_taken _ _ _ left.sorted.0 right.sorted.0
       (All-head (λ e. IsDifference e.weight) e es left.differences) (All-head (λ e. IsDifference e.weight) f fs right.differences)
       (record { left = rest; right = others })
       (λ lt. record {
@@ -148,7 +148,7 @@ module _ {all ls rs : List Edge} (now : AreLeftOfBoth ls rs × (edges_of_both ls
   last_of_right {f = f} {fs = fs} none right_is = grind (arith, ints, left_of_none, rest_before)
 
   pub last_taken : {e f : Edge} {es fs : List Edge} → ls ≡ es ++ e ∷ [] → rs ≡ fs ++ f ∷ []
-      → AreTaken (record { all = all; IsTaken = IsLastOfBoth all; before = λ x y. y <ℤ x })
+      → AreTaken (record { all = all; IsEndOfBoth = IsLastOfBoth all; before = λ x y. y <ℤ x })
       (record { row = ls; edge = e; others = es }) (record { row = rs; edge = f; others = fs })
   last_taken {e = e} {f = f} {es = es} {fs = fs} left_is right_is =
       let whole = rw left_is at now.0.left in
@@ -157,7 +157,7 @@ module _ {all ls rs : List Edge} (now : AreLeftOfBoth ls rs × (edges_of_both ls
       let right = last_among f fs right_whole in
       let rest = rest_before e es whole in
       let others = rest_before f fs right_whole in
-      rw (← now.1, left_is, right_is) (taken _ _ _ left.edge right.edge rest.1 others.1 (record { left = rest.0; right = others.0 })
+      rw (← now.1, left_is, right_is) (are_taken _ _ _ left.edge right.edge rest.1 others.1 (record { left = rest.0; right = others.0 })
       (λ lt. record {
         all = both-left_last e es (fs ++ f ∷ []) left.edge left.ended (ends_before e.x f fs right.ended lt);
         others = record { left = rest.0; right = right_whole };

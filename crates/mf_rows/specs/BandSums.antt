@@ -18,7 +18,7 @@ AreAfter n rs = AreBelow (lowest_of n) rs
 abbrev pub AreSplitAtBand : ℤ → List EdgeRow → List EdgeRow → List EdgeRow → Type 0
 AreSplitAtBand n = AreSplit (lowest_of n -ℤ pos 1) (lowest_of n)
 
--- rows were appended that have the weights of two lists of rows together and reach no further than these
+-- rows were appended that have the weights of two lists of rows together and are no higher and no lower than these
 pub record HasSum (before rs ss after : List EdgeRow) : Type 0 where
   pub more : List EdgeRow
   pub all : after ≡ before ++ more

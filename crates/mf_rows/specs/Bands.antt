@@ -53,8 +53,8 @@ AreAbove y rs = All (λ r. y <ℤ r.y) rs
 abbrev pub AreBelow : ℤ → List EdgeRow → Type 0
 AreBelow y rs = All (λ r. r.y <ℤ y) rs
 
--- rows are split into those above row `high` and those below row `low`
-pub record AreSplit (high low : ℤ) (rs first rest : List EdgeRow) : Type 0 where
+-- rows are split into those above row y and those below row z
+pub record AreSplit (y z : ℤ) (rs first rest : List EdgeRow) : Type 0 where
   pub all : rs ≡ first ++ rest
-  pub above : AreAbove high first
-  pub below : AreBelow low rest
+  pub above : AreAbove y first
+  pub below : AreBelow z rest

@@ -20,7 +20,6 @@ pub mod KeptEdges
 pub mod Merging
 pub mod Moves
 pub mod Names
-pub mod NewEdges
 pub mod Order
 pub mod Owned
 pub mod PixelsOfRows

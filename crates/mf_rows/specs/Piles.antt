@@ -1,8 +1,8 @@
 -- The rows of a picture whose newest contours are kept beside the others.
-use Rattle.std.specs.Prelude.{◌≡◌, ◌⊎◌, ℤ, pos, ◌+ℤ◌, ◌≤ℤ◌, ◌<ℤ◌, List, Option}
+use Rattle.std.specs.Prelude.{◌≡◌, ◌⊎◌, ℤ, ◌+ℤ◌, ◌≤ℤ◌, ◌<ℤ◌, List, Option}
 use Rattle.std.specs.declared.alloc.Global.{Global}
 use Rattle.std.specs.declared.sync.Arc.{Arc}
-use Rattle.mf_edges.specs.LawfulWeights.{greatest_weight}
+use Rattle.mf_edges.specs.LawfulWeights.{greatest_weight, IsInReach}
 use Rattle.mf_rows.specs.declared.group.Group.{Group}
 use Rattle.mf_rows.specs.Groups.{rows_of_groups, AreGroups}
 use Rattle.mf_rows.specs.Sums.{sum_in_rows}
@@ -10,8 +10,7 @@ use Rattle.mf_rows.specs.Sums.{sum_in_rows}
 -- no weight exceeds a reach in absolute value, and the reach is at most 32767
 pub record IsReachOf (reach : ℤ) (f : ℤ → ℤ → ℤ) : Type 0 where
   pub most : reach ≤ℤ greatest_weight
-  pub least : (x y : ℤ) → pos 0 ≤ℤ (f x y +ℤ reach)
-  pub greatest : (x y : ℤ) → f x y ≤ℤ reach
+  pub within : (x y : ℤ) → IsInReach reach (f x y)
 
 -- the sum of two reaches, or the greatest weight where that is less
 abbrev pub IsReachOfSum : ℤ → ℤ → ℤ → Type 0

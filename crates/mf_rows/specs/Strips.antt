@@ -12,9 +12,9 @@ first_height_of [] = least_coordinate
 first_height_of (k ∷ ks) = k.y
 
 -- rows of the field, none of them below row `bottom`
-pub record ReachDownTo (bottom : ℤ) (rs : List EdgeRow) : Type 0 where
+pub record AreDownTo (bottom : ℤ) (rs : List EdgeRow) : Type 0 where
   pub rows : AreRowsFrom last_in_field rs
-  pub reach : All (λ r. bottom ≤ℤ r.y) rs
+  pub from : All (λ r. bottom ≤ℤ r.y) rs
 
 -- a row at each height from `bottom` up to the one below `top`, all with these edges
 pub record Strip : Type 0 where
@@ -27,6 +27,6 @@ strip_between es bottom top = record { edges = es; bottom = bottom; top = top }
 
 -- the new rows are the old ones and those of a strip
 pub record HasStrip (s : Strip) (old new : List EdgeRow) : Type 0 where
-  pub rows : ReachDownTo s.bottom new
+  pub rows : AreDownTo s.bottom new
   pub strip : (x y : ℤ) → s.bottom ≤ℤ y → y <ℤ s.top → weight_in_rows new x y ≡ weight_in s.edges x
   pub above : (x y : ℤ) → s.top ≤ℤ y → weight_in_rows new x y ≡ weight_in_rows old x y

@@ -37,7 +37,7 @@ pub record HaveRowWeights (f : ℤ → ℤ → ℤ) (rs : List EdgeRow) : Type 0
 pub record HaveFieldWeights (f : ℤ → ℤ → ℤ) (rs : List EdgeRow) : Type 0 where
   pub weights : (x y : ℤ) → IsInField x y → weight_in_rows rs x y ≡ f x y
 
--- the rows of a sum reach no higher and no lower than those from which it is made
+-- the rows of a sum are no higher and no lower than those from which it is made
 pub record StayWithin (rs ss sum : List EdgeRow) : Type 0 where
   pub above : (y : ℤ) → AreAbove y rs → AreAbove y ss → AreAbove y sum
   pub below : (y : ℤ) → AreBelow y rs → AreBelow y ss → AreBelow y sum

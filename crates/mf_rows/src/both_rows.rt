@@ -116,7 +116,7 @@ impl<'a> RowsAhead<'a> {
     }
 
     /// Takes the first row.
-    #[tactic(auto, using(crate::proofs::BothRowsLemmas::rows_left, crate::proofs::BothRowsLemmas::none_left, crate::proofs::BothRowsLemmas::rows_taken))]
+    #[tactic(auto, using(crate::proofs::BothRowsLemmas::rows_left, crate::proofs::BothRowsLemmas::none_after, crate::proofs::BothRowsLemmas::rows_taken))]
     #[inline(always)]
     fn take_first(&mut self) -> Option<Row<'a>>
         ensures first { IfSome result (λ row. rows_ahead self.old ≡ edge_row row ∷ rows_ahead self.new) }

@@ -4,7 +4,7 @@ ghost use Rattle.mf_geom.specs.Coordinates.{least_coordinate, greatest_coordinat
 ghost use Rattle.mf_rows.specs.Corners.{AreCorners, added_by_all};
 ghost use Rattle.mf_edges.specs.Edges.{AreEdges};
 ghost use Rattle.mf_rows.specs.EdgeRows.{AreRows};
-ghost use Rattle.mf_rows.specs.Strips.{first_height_of, strip_between, ReachDownTo, HasStrip};
+ghost use Rattle.mf_rows.specs.Strips.{first_height_of, strip_between, AreDownTo, HasStrip};
 ghost use Rattle.mf_rows.specs.Sums.{HaveFieldWeights};
 
 use crate::new_edges::NewEdges;
@@ -79,7 +79,7 @@ fn push_strip(
     requires order { bottom ≤ℤ top }
     requires top { top ≤ℤ greatest_coordinate }
     requires edges { bottom <ℤ top → AreEdges edges.now }
-    requires rows { ReachDownTo top rows.old }
+    requires rows { AreDownTo top rows.old }
     ensures { OnOk result (HasStrip (strip_between edges.now bottom top) rows.old rows.new) }
 {
     if edges.is_empty() || bottom == top {

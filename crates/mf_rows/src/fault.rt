@@ -1,4 +1,6 @@
 //! Why weights cannot be added.
+ghost use Rattle.std.specs.Prelude.{◌≡◌};
+ghost use Rattle.mf_rows.specs.declared.fault.AddFault.TheVariants.{OutOfMemory};
 
 use mf_base::OutOfMemory;
 use std::alloc::{AllocError, AllocFailed};
@@ -31,9 +33,6 @@ impl fmt::Display for AddFault {
 impl Error for AddFault {}
 
 impl From<OutOfMemory> for AddFault {
-    ghost use Rattle.std.specs.Prelude.{◌≡◌};
-    ghost use Rattle.mf_rows.specs.declared.fault.AddFault.TheVariants.{OutOfMemory};
-
     ghost from_gives = { λ _ fault. fault ≡ OutOfMemory };
 
     fn from(_fault: OutOfMemory) -> AddFault {
@@ -42,9 +41,6 @@ impl From<OutOfMemory> for AddFault {
 }
 
 impl From<AllocError> for AddFault {
-    ghost use Rattle.std.specs.Prelude.{◌≡◌};
-    ghost use Rattle.mf_rows.specs.declared.fault.AddFault.TheVariants.{OutOfMemory};
-
     ghost from_gives = { λ _ fault. fault ≡ OutOfMemory };
 
     fn from(_fault: AllocError) -> AddFault {
@@ -53,9 +49,6 @@ impl From<AllocError> for AddFault {
 }
 
 impl<T: Drop> From<AllocFailed<T>> for AddFault {
-    ghost use Rattle.std.specs.Prelude.{◌≡◌};
-    ghost use Rattle.mf_rows.specs.declared.fault.AddFault.TheVariants.{OutOfMemory};
-
     ghost from_gives = { λ _ fault. fault ≡ OutOfMemory };
 
     fn from(_fault: AllocFailed<T>) -> AddFault {

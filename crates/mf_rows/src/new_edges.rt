@@ -31,12 +31,11 @@ impl NewEdges {
     ghost use Rattle.std.specs.Prelude.{◌≡◌, [], IfOk};
     ghost use Rattle.mf_edges.specs.Edges.{AreEdges};
     ghost use Rattle.mf_rows.specs.Bands.{edge_row};
-    ghost use Rattle.mf_rows.specs.NewEdges.{new_edges};
 
     /// These edges.
     pub(crate) fn new(alloc: Global, edges: Vec<Edge>) -> Result<NewEdges, OutOfMemory>
         requires { AreEdges edges.items }
-        ensures { IfOk result (λ new. new_edges new ≡ edges.items) }
+        ensures { IfOk result (λ new. kept_edges new.kept ≡ edges.items) }
     {
         let reach = reach_of(&edges);
         let kept = if edges.len() <= MANY_EDGES {
@@ -49,7 +48,7 @@ impl NewEdges {
 
     /// No edges. Allocates nothing.
     pub(crate) fn none(alloc: Global) -> NewEdges
-        ensures { new_edges result ≡ [] }
+        ensures { kept_edges result.kept ≡ [] }
     {
         NewEdges {
             reach: 0,
@@ -60,7 +59,7 @@ impl NewEdges {
     /// A copy of these edges.
     pub(crate) fn copy_of(alloc: Global, edges: &[Edge]) -> Result<NewEdges, OutOfMemory>
         requires { AreEdges edges.now }
-        ensures { IfOk result (λ new. new_edges new ≡ edges.now) }
+        ensures { IfOk result (λ new. kept_edges new.kept ≡ edges.now) }
     {
         let mut copy = Vec::new(alloc);
         copy.extend_from_slice(edges)?;
@@ -69,7 +68,7 @@ impl NewEdges {
 
     /// Row y with these edges.
     pub(crate) fn row(&self, y: i32) -> Row<'_>
-        ensures { edge_row result ≡ record { y = y; edges = new_edges self.now } }
+        ensures { edge_row result ≡ record { y = y; edges = kept_edges self.now.kept } }
     {
         let reach = self.reach;
         match &self.kept {

@@ -20,16 +20,16 @@ push_run-requires-clause-after c =
     (ends_before_from_pixels _ _ _ _ last.all c.requires.rows c.requires.fits.run c.requires.fits.before).columns
     (c.requires.last.last c.index-rows-last.result)
 
-pushed : (c : After-push_run) → OnOk c.push_run.result
+are_pushed : (c : After-push_run) → OnOk c.push_run.result
     (ArePushed (open_rows c.args.rows.now) c.args.run (open_rows (set c.args.rows.now (length c.args.rows.now - 1) c.push_run.new.self)))
-pushed c =
+are_pushed c =
     let last = last_is_last c.args.rows.now c.index-rows-last.result c.requires.last.some in
     on_ok_weaker c.push_run.result
     (pushed_on_last _ _ c.push_run.new.self c.args.run c.requires.rows c.requires.fits last (c.requires.last.last c.index-rows-last.result))
     c.push_run.ensures.ok
 
 pub returns-clause-ok : goal.returns-clause-ok
-returns-clause-ok c = on_ok_weaker c.push_run.result (λ new. new.picture) (pushed c)
+returns-clause-ok c = on_ok_weaker c.push_run.result (λ new. new.picture) (are_pushed c)
 
 pub returns-clause-unchanged : goal.returns-clause-unchanged
 returns-clause-unchanged c =
@@ -42,5 +42,5 @@ returns-clause-succeeds c = λ room. c.push_run.ensures.succeeds (room c.index-r
 -- in either case the rows are lawful
 pub returns-clause-rows : goal.returns-clause-rows
 returns-clause-rows c =
-    by_result c.push_run.result (on_ok_weaker c.push_run.result (λ new. new.rows) (pushed c))
+    by_result c.push_run.result (on_ok_weaker c.push_run.result (λ new. new.rows) (are_pushed c))
     (on_err_weaker c.push_run.result (λ same. rw same c.requires.rows) (returns-clause-unchanged c))

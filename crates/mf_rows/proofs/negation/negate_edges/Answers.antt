@@ -8,8 +8,8 @@ use Rattle.mf_rows.proofs.negation.negate_edges.Goals as goal
 
 pub overflow_sub-edge : goal.overflow_sub-edge
 overflow_sub-edge c =
-    let change = are_changes c.args.edges.now c.requires c.loop-edge.edge-index (record { x = pos 0; weight = pos 0 }) c.loop-edge-test.true in
-    omega (arith, ints, change.least, change.greatest)
+    let none : Edge = record { x = pos 0; weight = pos 0 } in
+    omega (arith, ints, are_changes c.args.edges.now c.requires c.loop-edge.edge-index none c.loop-edge-test.true)
 
 pub loop-edge-preserved : goal.loop-edge-preserved
 loop-edge-preserved c =
@@ -18,6 +18,6 @@ loop-edge-preserved c =
     let e : Edge = get_or c.args.edges.now i none in
     let change = are_changes c.args.edges.now c.requires i none c.loop-edge-test.true in
     let x_is : to_z w32 (of_z w32 e.x) ≡ e.x = omega (arith, ints) in
-    let weight_is : to_z w32 (of_z w32 (pos 0 -ℤ to_z w32 (of_z w32 e.weight))) ≡ neg_ℤ e.weight = omega (arith, ints, change.least, change.greatest) in
+    let weight_is : to_z w32 (of_z w32 (pos 0 -ℤ to_z w32 (of_z w32 e.weight))) ≡ neg_ℤ e.weight = omega (arith, ints, change) in
     rw (c.in_ok-push.ensures.items, x_is, weight_is)
     (ap (λ es. es ++ negated_edge e ∷ []) c.loop-edge.invariant ∙ sym (map_more negated_edge c.args.edges.now i none c.loop-edge-test.true))

@@ -4,7 +4,7 @@ use Rattle.std.proofs.lemmas.List.Elements.{All-head, All-tail}
 use Rattle.mf_geom.specs.Coordinates.{last_in_field}
 use Rattle.mf_rows.specs.Bands.{edge_row, slice_rows}
 use Rattle.mf_rows.specs.EdgeRows.{IsEdgeRow}
-use Rattle.mf_rows.specs.NewEdges.{new_edges}
+use Rattle.mf_rows.specs.KeptEdges.{kept_edges}
 use Rattle.mf_rows.specs.Signs.{negated_edges, negated_row, negated_rows}
 use Rattle.mf_rows.proofs.RowChangesLemmas.{same_edges}
 use Rattle.mf_rows.proofs.RowRuns.{edge_rows_from}
@@ -35,7 +35,7 @@ loop-row-preserved c =
     let to_come = rw c.in-Some.ensures.first at c.loop-row.invariant.to_come in
     let bounds = All-head IsEdgeRow (edge_row row) rest to_come in
     let y_is : to_z w32 (of_z w32 row.y) ≡ row.y = omega (arith, ints, bounds.bottom, bounds.top) in
-    let done : (c.if-ne.last.now ≡ row.edges.now) × (new_edges c.if-ne.image ≡ negated_edges c.if-ne.last.now) =
+    let done : (c.if-ne.last.now ≡ row.edges.now) × (kept_edges c.if-ne.image.kept ≡ negated_edges c.if-ne.last.now) =
     elim c.if-ne.branch [
       | then-ne+in_ok-negate_edges+in_ok-image w ↦
           (ap (λ es. es.now) w.last-is, rw (w.last-is, w.image-is, w.in_ok-image.ensures) w.in_ok-negate_edges.ensures)

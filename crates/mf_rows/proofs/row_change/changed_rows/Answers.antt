@@ -5,7 +5,7 @@ use Rattle.std.proofs.lemmas.List.Elements.{All-head}
 use Rattle.mf_edges.specs.Edges.{weight_in}
 use Rattle.mf_rows.specs.Bands.{edge_row}
 use Rattle.mf_rows.specs.BlankRows.{unless_blank}
-use Rattle.mf_rows.specs.NewEdges.{new_edges}
+use Rattle.mf_rows.specs.KeptEdges.{kept_edges}
 use Rattle.mf_edges.specs.RowChanges.{AreChanged, EdgesAllowChange, image_in}
 use Rattle.mf_rows.proofs.RowChangesLemmas.{next_rows, same_edges, made_none, change_more, change_all, image_of_blank}
 use Rattle.mf_rows.proofs.row_change.changed_rows.Goals.{then-ne+in_ok-changed_edges+in_ok-image, else-ne}
@@ -33,7 +33,7 @@ loop-row-preserved c =
     let next = rw (next_rows _ _ _ c.loop-row-test.true c.row-item.is) at c.loop-row.invariant.so_far in
     let bounds = next.to_come.0 in
     let y_is : to_z w32 (of_z w32 row.y) ≡ row.y = omega (arith, ints, bounds.bottom, bounds.top) in
-    let done : (c.if-ne.last.now ≡ row.edges.now) × AreChanged c.args.change.now c.if-ne.last.now (new_edges c.if-ne.image) =
+    let done : (c.if-ne.last.now ≡ row.edges.now) × AreChanged c.args.change.now c.if-ne.last.now (kept_edges c.if-ne.image.kept) =
     elim c.if-ne.branch [
       | then-ne+in_ok-changed_edges+in_ok-image w ↦
           (ap (λ es. es.now) w.last-is, rw (w.last-is, w.image-is, w.in_ok-image.ensures) w.in_ok-changed_edges.ensures)

@@ -1,6 +1,6 @@
 use Rattle.std.proofs.Common.{drop}
 use Rattle.mf_rows.specs.Bands.{edge_rows}
-use Rattle.mf_rows.specs.NewEdges.{new_edges}
+use Rattle.mf_rows.specs.KeptEdges.{kept_edges}
 use Rattle.mf_edges.specs.RowChanges.{AreChanged}
 use Rattle.mf_rows.proofs.RowChangesLemmas.{IsChangeSoFar}
 use Rattle.mf_rows.proofs.row_change.changed_rows.Given as goal
@@ -9,5 +9,5 @@ use Rattle.mf_rows.proofs.row_change.changed_rows.Given as goal
 abbrev pub invariant-loop-row : goal.invariant-loop-row
 invariant-loop-row l = record {
   so_far : IsChangeSoFar l.change (edge_rows l.rows) (edge_rows (drop l.row-index l.rows)) l.changed;
-  image : AreChanged l.change l.last (new_edges l.image);
+  image : AreChanged l.change l.last (kept_edges l.image.kept);
 }

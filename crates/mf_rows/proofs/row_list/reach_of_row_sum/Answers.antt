@@ -1,5 +1,6 @@
 use Rattle.std.proofs.Common.{◌≡◌, ◌+ℤ◌, to_z, of_z, w32, arith}
 use Rattle.std.proofs.lemmas.Int.{ints}
+use Rattle.mf_edges.specs.Sums.{weight_in_both}
 use Rattle.mf_edges.proofs.ReachesLemmas.{sum_is_changes, reach_of_sum, reach_bounds, reach_is, least_is_reach, least_reach_is}
 use Rattle.mf_rows.proofs.row_list.reach_of_row_sum.Goals as goal
 
@@ -24,3 +25,12 @@ returns-clause-reach c =
     let is = least_reach_is _ _ changes least in
     let most = rw is at c.if-least-gt-MAX_WEIGHT.false in
     rw is (least_is_reach _ _ least (omega (arith, ints, most)))
+
+pub returns-then-least-gt-MAX_WEIGHT-clause-too_large : goal.returns-then-least-gt-MAX_WEIGHT-clause-too_large
+unfolding weight_in_both
+returns-then-least-gt-MAX_WEIGHT-clause-too_large c =
+    let changes = sum_is_changes _ _ c.args.sum.now c.requires.sum c.requires.left c.requires.right in
+    let least = c.reach_of-least.ensures in
+    let most = rw (least_reach_is _ _ changes least) at c.if-least-gt-MAX_WEIGHT.true in
+    let all = c.requires.sum.weights.weights least.x in
+    record { x = least.x; unlawful = λ lawful. absurd (omega (arith, ints, most, least.here, all, lawful)) }

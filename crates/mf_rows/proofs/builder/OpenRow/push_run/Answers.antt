@@ -1,21 +1,16 @@
-use Rattle.std.proofs.Common.{◌≡◌, Result, Ok, Err, ◌+ℤ◌, ◌-ℤ◌, pos, to_z, of_z, w32, arith}
-use Rattle.std.specs.Result.{IsOk, OnErr}
+use Rattle.std.proofs.Common.{◌≡◌, ◌+ℤ◌, ◌-ℤ◌, pos, to_z, of_z, w32, arith}
 use Rattle.std.proofs.lemmas.Int.{ints}
 use Rattle.std.proofs.lemmas.Result.{on_ok_weaker}
 use Rattle.mf_rows.specs.Building.{open_row}
-use Rattle.mf_rows.proofs.RunEdges.{run_begun, run_added}
+use Rattle.mf_rows.proofs.RunEdges.{AreOpenEdges-run, HasRun-edges}
 use Rattle.mf_rows.proofs.builder.OpenRow.push_run.Goals as goal
-
-on_err-from_ok : {T E : Type 0} (r : Result T E) (P : Type 0) → IsOk r → OnErr r P
-on_err-from_ok (Ok x) P ok = tt
-on_err-from_ok (Err e) P ok = cc
 
 pub add_edge-requires-2-clause-edges : goal.add_edge-requires-2-clause-edges
 add_edge-requires-2-clause-edges c =
     let run = c.args.run in
     let x_is : to_z w32 (of_z w32 run.x) ≡ run.x = omega (arith, ints) in
     let weight_is : to_z w32 (of_z w32 run.weight) ≡ run.weight = omega (arith, ints) in
-    run_begun _ _ run c.requires.edges c.requires.after c.requires.run.lawful c.add_edge.ensures.sorted
+    AreOpenEdges-run _ _ run c.requires.edges c.requires.after c.requires.run.lawful c.add_edge.ensures.sorted
     (rw (c.reserve.ensures.items, x_is, weight_is) at c.in_ok-add_edge.ensures.weights)
 
 pub returns-clause-ok : goal.returns-clause-ok
@@ -26,7 +21,7 @@ returns-clause-ok c =
     let end_is : to_z w32 (of_z w32 (to_z w32 (of_z w32 run.x) +ℤ to_z w32 run.len)) ≡ run.x +ℤ pos run.len = omega (arith, ints) in
     let negated_is : to_z w32 (of_z w32 (pos 0 -ℤ to_z w32 (of_z w32 run.weight))) ≡ pos 0 -ℤ run.weight = omega (arith, ints) in
     on_ok_weaker c.add_edge-2.result
-    (λ second. run_added (open_row c.args.self.now) (record { y = c.args.self.now.y; edges = c.add_edge-2.new.edges.items }) _ run c.requires.run
+    (λ second. HasRun-edges (open_row c.args.self.now) (record { y = c.args.self.now.y; edges = c.add_edge-2.new.edges.items }) _ run c.requires.run
     c.requires.edges c.requires.after c.requires.row c.add_edge-2.ensures.sorted
     (rw (c.reserve.ensures.items, x_is, weight_is) at c.in_ok-add_edge.ensures.weights) (rw (end_is, negated_is) at second))
     c.add_edge-2.ensures.weights

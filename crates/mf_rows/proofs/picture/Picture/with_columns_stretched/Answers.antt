@@ -3,7 +3,7 @@ use Rattle.mf_edges.specs.Axes.{source_of}
 use Rattle.mf_rows.specs.Moves.{moved_columns}
 use Rattle.mf_rows.proofs.PictureRows.{image_made}
 use Rattle.mf_rows.proofs.StretchBounds.{columns_allowed, columns_same}
-use Rattle.mf_rows.proofs.PictureGroups.{pictured}
+use Rattle.mf_rows.proofs.PictureGroups.{picture_of_rows-groups}
 use Rattle.mf_rows.proofs.picture.Picture.with_columns_stretched.Goals as goal
 use Rattle.std.proofs.Common.{arith}
 
@@ -13,7 +13,7 @@ returns-then-columns-eq0-clause-weights c = grind (arith, columns_same, IfOk-wea
 pub changed_rows-requires-clause-allowed : goal.changed_rows-requires-clause-allowed
 changed_rows-requires-clause-allowed c =
     let rows = c.in_ok-rows.ensures in
-    let picture = pictured _ c.in_ok-groups.groups.items _ (rw c.deref.ensures.value at rows.all) c.in_ok-groups.ensures.picture in
+    let picture = picture_of_rows-groups _ c.in_ok-groups.groups.items _ (rw c.deref.ensures.value at rows.all) c.in_ok-groups.ensures.picture in
     rw c.deref-2.ensures.value (columns_allowed c.args.columns.now _ rows.rows (rw picture c.requires.inside))
 
 pub returns-clause-weights : goal.returns-clause-weights

@@ -1,6 +1,6 @@
 use Rattle.std.proofs.lemmas.Result.{err_from_is_err_and}
 use Rattle.mf_rows.proofs.GroupsLemmas.{rows_of_groups_are_rows}
-use Rattle.mf_rows.proofs.PilesLemmas.{are_piled_apart, pile_apart, rows_in_pile, reach_fits, reach_is_no_less, stay_as, stay_in_pile}
+use Rattle.mf_rows.proofs.PilesLemmas.{are_piled_apart, pile_apart, AreRows-pile, reach_fits, reach_is_no_less, stay_as, stay_in_pile}
 use Rattle.mf_rows.proofs.PilesLemmas.{stay_in_sum, sum_through, unlawful_through_both}
 use Rattle.mf_rows.proofs.SignsLemmas.{with_sign_reach, with_sign_same}
 use Rattle.mf_rows.proofs.pile.Pile.add.Goals as goal
@@ -40,4 +40,4 @@ returns-clause-weights c =
     (sum_through _ _ _ _ _ c.in_ok-groups.ensures.weights (with_sign_same c.args.sign _ _ c.in_ok-others.ensures.weights) weights)
 
 pub returns-clause-rows : goal.returns-clause-rows
-returns-clause-rows c = rows_in_pile _ _ _ (invariant_of-self c)
+returns-clause-rows c = AreRows-pile _ _ _ (invariant_of-self c)

@@ -2,23 +2,23 @@ use Rattle.std.proofs.Common.{refl, ◌∙◌, ap}
 use Rattle.std.proofs.lemmas.Result.{err_from_is_err_and}
 use Rattle.mf_rows.specs.EdgeRows.{picture_of_rows}
 use Rattle.mf_rows.proofs.PictureGroups.{same_picture}
-use Rattle.mf_rows.proofs.PilesLemmas.{are_piled_apart, pile_apart, rows_in_pile, reach_fits, same_rows, sum_through, unlawful_through_both}
+use Rattle.mf_rows.proofs.PilesLemmas.{are_piled_apart, pile_apart, AreRows-pile, reach_fits, same_rows, sum_through, unlawful_through_both}
 use Rattle.mf_rows.proofs.SettledGroups.{pile_same, rows_same, rows_settled, same_among}
 use Rattle.mf_rows.proofs.pile.Pile.add_and_measure.Goals as goal
 
 pub returns-in_err-take_up-clause-rows : goal.returns-in_err-take_up-clause-rows
 returns-in_err-take_up-clause-rows c =
-    rows_in_pile _ _ _ (pile_same _ _ _ _ _ c.self.invariant c.take_up.ensures.groups c.take_up.ensures.newest c.take_up.ensures.weights)
+    AreRows-pile _ _ _ (pile_same _ _ _ _ _ c.self.invariant c.take_up.ensures.groups c.take_up.ensures.newest c.take_up.ensures.weights)
 
 pub returns-in_err-take_up-clause-unchanged : goal.returns-in_err-take_up-clause-unchanged
 returns-in_err-take_up-clause-unchanged c =
     let p = err_from_is_err_and c.from_residual.result c.from_residual.ensures.1 in
     let same = rows_same _ _ _ _ c.take_up.ensures.weights in
-    rw p.1 (same_picture _ _ (rows_in_pile _ _ _ c.self.invariant) (returns-in_err-take_up-clause-rows c) same ∙ ap picture_of_rows c.self.view_is)
+    rw p.1 (same_picture _ _ (AreRows-pile _ _ _ c.self.invariant) (returns-in_err-take_up-clause-rows c) same ∙ ap picture_of_rows c.self.view_is)
 
 pub returns-in_err-add_rows-clause-rows : goal.returns-in_err-add_rows-clause-rows
 returns-in_err-add_rows-clause-rows c =
-    rows_in_pile _ _ _ (pile_same _ _ _ _ _ c.self.invariant c.add_rows.ensures.groups c.take_up.ensures.newest
+    AreRows-pile _ _ _ (pile_same _ _ _ _ _ c.self.invariant c.add_rows.ensures.groups c.take_up.ensures.newest
     (same_among _ _ c.take_up.new.groups.items c.take_up.new.newest.items c.add_rows.new.groups.items c.take_up.ensures.weights
     c.in_err-add_rows.ensures.unchanged))
 
@@ -28,7 +28,7 @@ returns-in_err-add_rows-clause-unchanged c =
     let same =
     rows_same _ _ _ _ (same_among _ _ c.take_up.new.groups.items c.take_up.new.newest.items c.add_rows.new.groups.items c.take_up.ensures.weights
     c.in_err-add_rows.ensures.unchanged) in
-    rw p.1 (same_picture _ _ (rows_in_pile _ _ _ c.self.invariant) (returns-in_err-add_rows-clause-rows c) same ∙ ap picture_of_rows c.self.view_is)
+    rw p.1 (same_picture _ _ (AreRows-pile _ _ _ c.self.invariant) (returns-in_err-add_rows-clause-rows c) same ∙ ap picture_of_rows c.self.view_is)
 
 pub returns-in_err-add_rows-clause-too_large : goal.returns-in_err-add_rows-clause-too_large
 returns-in_err-add_rows-clause-too_large c =
@@ -52,4 +52,4 @@ returns-clause-weights c =
     (sum_through _ _ _ _ _ same (same_rows _) weights)
 
 pub returns-clause-rows : goal.returns-clause-rows
-returns-clause-rows c = rows_in_pile _ _ _ (invariant_of-self-2 c)
+returns-clause-rows c = AreRows-pile _ _ _ (invariant_of-self-2 c)

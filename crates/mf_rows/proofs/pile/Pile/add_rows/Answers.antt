@@ -2,7 +2,7 @@ use Rattle.std.proofs.Common.{◌≡◌, ◌+ℤ◌, to_z, of_z, w32, ap, ◌∙
 use Rattle.std.proofs.lemmas.Int.{ints}
 use Rattle.mf_rows.specs.BothRows.{rows_of_both}
 use Rattle.mf_rows.specs.Groups.{rows_of_groups}
-use Rattle.mf_rows.proofs.PilesLemmas.{rows_in_pile, pile_with, reach_fits, reach_is_no_less, weights_with}
+use Rattle.mf_rows.proofs.PilesLemmas.{AreRows-pile, pile_with, reach_fits, reach_is_no_less, weights_with}
 use Rattle.mf_rows.proofs.SettledGroups.{pile_same, same_beside}
 use Rattle.mf_rows.proofs.pile.Pile.add_rows.Goals as goal
 
@@ -27,11 +27,11 @@ pub returns-in-Ok-clause-weights : goal.returns-in-Ok-clause-weights
 returns-in-Ok-clause-weights c = grind (arith, ints, weights_with)
 
 pub returns-in-Ok-clause-rows : goal.returns-in-Ok-clause-rows
-returns-in-Ok-clause-rows c = rows_in_pile _ _ _ (invariant_of-self c)
+returns-in-Ok-clause-rows c = AreRows-pile _ _ _ (invariant_of-self c)
 
 pub returns-in-Err-OutOfMemory-clause-rows : goal.returns-in-Err-OutOfMemory-clause-rows
 returns-in-Err-OutOfMemory-clause-rows c =
-    rows_in_pile _ _ _ (pile_same _ _ _ _ _ c.self.invariant c.self.invariant.older c.add_rows.ensures.groups
+    AreRows-pile _ _ _ (pile_same _ _ _ _ _ c.self.invariant c.self.invariant.older c.add_rows.ensures.groups
     (same_beside c.self.inside.older.items c.self.inside.groups.items c.add_rows.new.groups.items c.in-Err-OutOfMemory.ensures.unchanged))
 
 pub invariant_of-self-in-Err-WeightTooLarge : goal.invariant_of-self-in-Err-WeightTooLarge

@@ -1,6 +1,6 @@
 use Rattle.mf_rows.specs.Groups.{rows_of_groups}
 use Rattle.mf_rows.proofs.GroupsLemmas.{rows_of_groups_are_rows}
-use Rattle.mf_rows.proofs.PilesLemmas.{rows_in_pile}
+use Rattle.mf_rows.proofs.PilesLemmas.{AreRows-pile}
 use Rattle.mf_rows.proofs.RowTotals.{IsTotalOfBoth, total_with}
 use Rattle.mf_rows.proofs.pile.Pile.total.Goals as goal
 
@@ -18,4 +18,4 @@ pub returns-clause-total : goal.returns-clause-total
 returns-clause-total c = rw (← c.self.view_is) (both c).is
 
 pub returns-clause-rows : goal.returns-clause-rows
-returns-clause-rows c = rw c.self.view_is at (rows_in_pile _ _ _ c.self.invariant)
+returns-clause-rows c = rw c.self.view_is at (AreRows-pile _ _ _ c.self.invariant)

@@ -1,10 +1,10 @@
 use Rattle.std.proofs.Common.{refl, sym, append_assoc, ◌∙◌, arith}
 use Rattle.mf_rows.specs.Walk.{runs_of_edges}
-use Rattle.mf_rows.proofs.EdgeRuns.{edge_taken}
+use Rattle.mf_rows.proofs.EdgeRuns.{first_edge_of}
 use Rattle.mf_rows.proofs.walk.Walk.next_edge.Goals as goal
 
 pub overflow_add-self : goal.overflow_add-self
-overflow_add-self c = (edge_taken _ _ _ _ c.in_ok-edge.ensures.first c.enter_row.new.self.rest).fits
+overflow_add-self c = (first_edge_of _ _ _ _ c.in_ok-edge.ensures.first c.enter_row.new.self.rest).fits
 
 -- no edge is left
 pub invariant_of-self : goal.invariant_of-self
@@ -12,14 +12,14 @@ invariant_of-self c = grind (arith)
 
 pub invariant_of-self-2 : goal.invariant_of-self-2
 invariant_of-self-2 c =
-    let edge = edge_taken _ _ _ _ c.in_ok-edge.ensures.first c.enter_row.new.self.rest in
+    let edge = first_edge_of _ _ _ _ c.in_ok-edge.ensures.first c.enter_row.new.self.rest in
     record { rest = rw edge.sum edge.rest; others = c.enter_row.new.self.others }
 
 pub returns-clause-edge : goal.returns-clause-edge
 unfolding runs_of_edges
 returns-clause-edge c =
     let row = c.enter_row.new.self in
-    let edge = edge_taken _ _ _ _ c.in_ok-edge.ensures.first row.rest in
+    let edge = first_edge_of _ _ _ _ c.in_ok-edge.ensures.first row.rest in
     record {
       runs = sym c.enter_row.ensures.runs ∙ rw (c.in_ok-edge.ensures.first, edge.sum, edge.column, append_assoc) refl;
       column = rw edge.column edge.left;
@@ -27,4 +27,4 @@ returns-clause-edge c =
     }
 
 pub returns-clause-changed : goal.returns-clause-changed
-returns-clause-changed c = grind (arith, edge_taken)
+returns-clause-changed c = grind (arith, first_edge_of)
