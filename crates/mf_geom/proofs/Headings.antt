@@ -29,11 +29,7 @@ signum-product (pos (suc m)) (negsuc n) a_apart b_apart = let positive = suc-mul
 signum-product (negsuc m) (pos (suc n)) a_apart b_apart = let positive = suc-mul-suc m n in grind (arith, ints)
 signum-product (negsuc m) (negsuc n) a_apart b_apart = let positive = suc-mul-suc m n in grind (arith, ints)
 
--- the heading of a segment that leads right or left, in quarter turns from the right
-abbrev level_heading : Bool → ℤ
-level_heading rightwards = if rightwards then pos 0 else pos 2
-
--- the heading of a segment that leads up or down
+-- the heading of a segment that leads up or down, in quarter turns from the right
 abbrev upright_heading : Bool → ℤ
 upright_heading upwards = if upwards then pos 1 else pos 3
 
