@@ -88,8 +88,8 @@ unfolding area
 area-strips ps cycle =
     ap (λ s. int_div s (pos 2)) (shoelace-strips ps cycle) ∙ int_div-mul 2 (sum_below (length ps) (λ i. area_beside (segment_at ps i))) (omega arith)
 
-pub shoelace-area : (ps : List Point) → IsRectilinearCycle ps → sum_below (length ps) (shoelace_at ps) ≡ pos 2 *ℤ area ps
-shoelace-area ps cycle = shoelace-strips ps cycle ∙ ap (λ n. pos 2 *ℤ n) (sym (area-strips ps cycle))
+pub shoelace_is_area : (ps : List Point) → IsRectilinearCycle ps → sum_below (length ps) (shoelace_at ps) ≡ pos 2 *ℤ area ps
+shoelace_is_area ps cycle = shoelace-strips ps cycle ∙ ap (λ n. pos 2 *ℤ n) (sym (area-strips ps cycle))
 
 pub sum_over_field-winding : (ps : List Point) → IsRectilinearCycle ps → sum_over_field (winding ps) ≡ area ps
 unfolding crossing_at segment_at

@@ -96,9 +96,9 @@ unfolding turn_at segment_into
 turn_at-next_place ps i never below = grind (arith, ints, next_place-below, previous_place-next_place, turn-bend)
 
 -- round a cycle the differences of the headings add up to 0
-pub turns-turning : (ps : List Point) → NeverReverses ps → sum_below (length ps) (turn_at ps) ≡ pos 4 *ℤ turning ps
+pub turns_are_turning : (ps : List Point) → NeverReverses ps → sum_below (length ps) (turn_at ps) ≡ pos 4 *ℤ turning ps
 unfolding turning
-turns-turning ps never =
+turns_are_turning ps never =
     let headings : ℕ → ℤ = λ i. heading_of (segment_at ps i) in
     let jumps : ℕ → ℤ = λ i. jump (headings (next_place ps i) -ℤ headings i) in
     let whole : sum_below (length ps) (turn_at ps) ≡ pos 4 *ℤ sum_below (length ps) jumps =

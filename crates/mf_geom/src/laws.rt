@@ -41,12 +41,14 @@ pub fn whole_turns()
 
 /// The turns of a rectilinear path that never turns straight back add up to four times its turning number, so the
 /// division loses nothing.
+#[tactic(auto, using(crate::proofs::Headings::turns_are_turning))]
 pub fn whole_turn_of_a_path()
     ensures { (ps : List Point) → NeverReverses ps →
         sum_below (length ps) (turn_at ps) ≡ pos 4 *ℤ turning ps }
 {}
 
 /// The shoelace sum of a rectilinear cycle is twice its area, so the division loses nothing.
+#[tactic(auto, using(crate::proofs::Areas::shoelace_is_area))]
 pub fn area_is_whole()
     ensures { (ps : List Point) → IsRectilinearCycle ps →
         sum_below (length ps) (shoelace_at ps) ≡ pos 2 *ℤ area ps }
