@@ -57,10 +57,6 @@ ahead_later low between high ds rs others le more ordered later so_far = grind (
 pub taken_is_lawful : (o : Option Run) (r : Run) (rs : List Run) → o ≡ Some r → AreRuns (with_next o rs) → IsRun r
 taken_is_lawful o r rs some ordered = (subst AreRuns (with_next-some o r rs some) ordered).runs.0
 
-one_more : (low : ℤ) (ds : List Dot) (r : Run) (rs : List Run) → place (r.x +ℤ pos r.len) r.y ≤ℤ low → AreAhead low ds (r ∷ rs) → AreAhead low ds rs
-one_more low ds r rs end so_far =
-    ahead_later low low low ds (r ∷ rs) rs (omega (arith, ints)) (omega (arith, ints)) (runs-rest r rs so_far.order) (same_after r rs low end) so_far
-
 -- the run that an iterator returns is the first of those that it had left
 next_taken : (o : Option Run) (rs others : List Run) → MatchOption o ((rs ≡ []) × (others ≡ [])) (λ r. rs ≡ r ∷ others) → rs ≡ with_next o others
 next_taken None rs others none = none.0
@@ -70,7 +66,9 @@ pub one_more_passed : (low : ℤ) (ds : List Dot) (o p : Option Run) (r : Run) (
     → place (r.x +ℤ pos r.len) r.y ≤ℤ low → MatchOption p ((rs ≡ []) × (others ≡ [])) (λ s. rs ≡ s ∷ others)
     → AreAhead low ds (with_next o rs) → AreAhead low ds (with_next p others)
 one_more_passed low ds o p r rs others some end next so_far =
-    subst (AreAhead low ds) (next_taken p rs others next) (one_more low ds r rs end (subst (AreAhead low ds) (with_next-some o r rs some) so_far))
+    let all = subst (AreAhead low ds) (with_next-some o r rs some) so_far in
+    let later = ahead_later low low low ds (r ∷ rs) rs (omega (arith, ints)) (omega (arith, ints)) (runs-rest r rs all.order) (same_after r rs low end) all in
+    subst (AreAhead low ds) (next_taken p rs others next) later
 
 pub fewer_ahead : (o p : Option Run) (r : Run) (rs others : List Run) → o ≡ Some r
     → MatchOption p ((rs ≡ []) × (others ≡ [])) (λ s. rs ≡ s ∷ others) → length (with_next p others) < length (with_next o rs)

@@ -8,7 +8,7 @@ ghost use Rattle.mf_show.specs.RunsAhead.{runs_ahead, dots_ahead, AreSameFrom, I
 
 use mf_rows::{Picture, Run, Runs};
 
-/// A walk over the weights of a picture, which passes each of its runs once. `run` is the first run that may reach the next
+/// A walk over the weights of a picture, which passes each of its runs once. `run` is the first run that may have the next
 /// pixel; it is already taken from `runs`.
 #[derive(Drop)]
 pub(crate) struct Weights<'a> {
@@ -52,7 +52,7 @@ impl<'a> Weights<'a> {
         requires left { least_coordinate ≤ℤ x }
         requires right { x ≤ℤ last_in_field }
         ensures order { AreRuns (runs_ahead self.new) }
-        ensures reach { IfSome self.new.run (IsNotBefore x y) }
+        ensures not_before { IfSome self.new.run (IsNotBefore x y) }
         ensures later { AreSameFrom (place x y) (dots_ahead self.old) (dots_ahead self.new) }
     {
         while let Some(run) = self.run {
@@ -80,7 +80,7 @@ fn is_before(run: &Run, x: i32, y: i32) -> bool
 /// The weight that a run gives to a pixel that it does not end before.
 fn weight_of_run(run: &Run, x: i32, y: i32) -> i32
     requires run { IsRun run.now }
-    requires reach { IsNotBefore x y run.now }
+    requires not_before { IsNotBefore x y run.now }
     ensures { result ≡ weight_at (dots_of run.now) x y }
 {
     if run.y == y && run.x <= x {
