@@ -1,5 +1,5 @@
 -- Shades, and the shades of cells.
-use Rattle.std.proofs.Common.{◌≡◌, ℕ, zero, suc, ◌<◌, if◌then◌else◌, Bool, ◌&&◌, true, false, ℤ, pos, ◌+ℤ◌, ◌≤ℤ◌, ◌<ℤ◌, List}
+use Rattle.std.proofs.Common.{◌≡◌, ℕ, zero, suc, if◌then◌else◌, Bool, ◌&&◌, true, false, ℤ, pos, ◌+ℤ◌, ◌≤ℤ◌, ◌<ℤ◌, List}
 use Rattle.std.proofs.Common.{[], ◌∷◌, ◌++◌, refl, sym, ap, ◌∙◌, arith}
 use Rattle.std.specs.Prelude.{max}
 use Rattle.std.specs.Bool.{Decides}
@@ -14,13 +14,6 @@ use Rattle.mf_frame.specs.declared.shade.Shade.TheVariants.{Blank, Negative, One
 use Rattle.mf_frame.specs.contracts.shade.ShadeOrd.TheImpl as ord
 use Rattle.mf_frame.specs.Cells.{cell_of, cell_shade, darker, depth, shade_of}
 use Rattle.mf_frame.proofs.Floors.{cell-next}
-
--- a number is below another, the same, or above it
-pub by_place : {P : Type 0} (k p : ℕ) → (k < p → P) → (k ≡ p → P) → (p < k → P) → P
-by_place zero zero below same above = same refl
-by_place zero (suc p) below same above = below (omega arith)
-by_place (suc k) zero below same above = above (omega arith)
-by_place (suc k) (suc p) below same above = by_place k p (λ less. below (omega arith)) (λ equal. same (ap suc equal)) (λ more. above (omega arith))
 
 -- the shade of a depth
 shade_at : ℕ → Shade

@@ -1,10 +1,11 @@
 -- Runs painted on the cells of a window.
 use Rattle.std.proofs.Common.{◌≡◌, ◌≢◌, ◌≤◌, ◌<◌, ℕ, zero, suc, ◌+◌, ◌*◌, ℤ, pos, ◌+ℤ◌, ◌-ℤ◌, ◌*ℤ◌, ◌≤ℤ◌, ◌<ℤ◌, List, [], ◌∷◌, ◌++◌, length}
-use Rattle.std.proofs.Common.{get_or, set, refl, sym, ap, ◌∙◌, subst, arith, mul-le-mul_right, get_or-set_other, get_or-set_same}
+use Rattle.std.proofs.Common.{get_or, set, inl, inr, refl, sym, ap, ◌∙◌, subst, arith, mul-le-mul_right, get_or-set_other, get_or-set_same}
 use native.Mathlib.Nat.{suc-mul}
 use Rattle.std.specs.Int.RustNames.{unsigned_abs}
 use Rattle.std.specs.List.{flat_map}
 use Rattle.std.specs.Prelude.{replicate}
+use Rattle.std.proofs.lemmas.Bool.{cases_order}
 use Rattle.std.proofs.lemmas.Int.{ints, by_lt_z}
 use Rattle.std.proofs.lemmas.List.{length-replicate, get_or-replicate}
 use Rattle.std.proofs.lemmas.List.Elements.{All-head, All-tail}
@@ -19,7 +20,7 @@ use Rattle.mf_frame.specs.declared.window.Window.{Window}
 use Rattle.mf_frame.specs.Cells.{Darkening, cell_of, cell_shade, darker, shade_of, place_in, shade_in, IsCellOf, AreCells, AreDarkened}
 use Rattle.mf_frame.specs.Cells.{ArePainted, IsRunInWindow, AreInWindow}
 use Rattle.mf_frame.specs.Windows.{IsWindow}
-use Rattle.mf_frame.proofs.Darkness.{by_place, darker-blank, shade-append, shade-none, equal_dots-inside, equal_dots-outside}
+use Rattle.mf_frame.proofs.Darkness.{darker-blank, shade-append, shade-none, equal_dots-inside, equal_dots-outside}
 use Rattle.mf_frame.proofs.Floors.{cell-le}
 
 -- ---- a stretch of places
@@ -46,10 +47,11 @@ darkened_more d old place shades new more room written kept so_far =
       to = omega arith;
       so_far = record {
         count = kept ∙ done.count;
-        inside = λ k from to. by_place k place
-            (λ below. other k (omega arith) ∙ done.inside k from below)
-            (λ same. rw same (here ∙ ap (λ s. darker s shade) (done.after place (omega arith))))
-            (λ above. absurd (omega arith));
+        inside = λ k from to. elim (cases_order k place) [
+          | inl same ↦ rw same (here ∙ ap (λ s. darker s shade) (done.after place (omega arith)))
+          | inr (inl below) ↦ other k (omega arith) ∙ done.inside k from below
+          | inr (inr above) ↦ absurd (omega arith)
+        ];
         before = λ k below. other k (omega (arith, so_far.from)) ∙ done.before k below;
         after = λ k above. other k (omega arith) ∙ done.after k (omega arith);
       };

@@ -161,13 +161,13 @@ first-least canvas b s (suc n) t from to =
     (λ after. first-least canvas b (s +ℤ pos 1) n t (omega (arith, ints)) before)
     (λ here. let same : t ≡ s = omega (arith, ints) in rw same no)) to
 
-pub scale-fits : (canvas : Size) (b : Box4) → IsSize canvas → IsBoxOfField b → fits_on canvas (window_at b (scale_of canvas b)) ≡ true
+pub scale_fits : (canvas : Size) (b : Box4) → IsSize canvas → IsBoxOfField b → fits_on canvas (window_at b (scale_of canvas b)) ≡ true
 unfolding scale_of
-scale-fits canvas b size box = first-fits canvas b (pos 1) lesser_scales size box (omega (arith, ints))
+scale_fits canvas b size box = first-fits canvas b (pos 1) lesser_scales size box (omega (arith, ints))
 
-pub scale-least : (canvas : Size) (b : Box4) (s : ℤ) → pos 1 ≤ℤ s → s <ℤ scale_of canvas b → fits_on canvas (window_at b s) ≡ false
+pub no_lesser_scale : (canvas : Size) (b : Box4) (s : ℤ) → pos 1 ≤ℤ s → s <ℤ scale_of canvas b → fits_on canvas (window_at b s) ≡ false
 unfolding scale_of
-scale-least canvas b s = first-least canvas b (pos 1) lesser_scales s
+no_lesser_scale canvas b s = first-least canvas b (pos 1) lesser_scales s
 
 pub is_scale : (canvas : Size) (b : Box4) → IsScale (scale_of canvas b)
 unfolding scale_of
@@ -179,7 +179,7 @@ unfolding window_at
 lawful_window canvas b size box =
     let scale = is_scale canvas b in
     let field = window_of_field b (scale_of canvas b) box scale.least in
-    grind (arith, ints, fitting_parts canvas (window_at b (scale_of canvas b)) (scale-fits canvas b size box), scale-fits)
+    grind (arith, ints, fitting_parts canvas (window_at b (scale_of canvas b)) (scale_fits canvas b size box), scale_fits)
 
 -- the scales before this one are those at which the window does not fit
 pub record IsScaleFrom (canvas : Size) (b : Box4) (s : ℤ) : Type 0 where
@@ -203,7 +203,7 @@ unfolding first_fitting
 scale_last canvas b s last so_far = rw last at so_far.first
 
 pub few_lines : (canvas : Size) (b : Box4) → IsSize canvas → IsBoxOfField b → (window_at b (scale_of canvas b)).lines ≤ picture_lines canvas
-few_lines canvas b size box = (fitting_parts canvas (window_at b (scale_of canvas b)) (scale-fits canvas b size box)).lines
+few_lines canvas b size box = (fitting_parts canvas (window_at b (scale_of canvas b)) (scale_fits canvas b size box)).lines
 
 -- the cell that the code finds
 found_cell : (s p r : ℤ) → IsScale s → least_coordinate ≤ℤ p → p ≤ℤ last_in_field → r ≡ cell_of (to_z w32 (of_z w32 s)) (to_z w32 (of_z w32 p))

@@ -15,6 +15,7 @@ pub fn dark_where_positive()
 {}
 
 /// The window of a box of the field fits on a canvas at its scale, which is at least 1, and at no lesser one.
+#[tactic(auto, using(crate::proofs::Windows::scale_fits, crate::proofs::Windows::no_lesser_scale, crate::proofs::Windows::is_scale))]
 pub fn scale_is_least()
     ensures fits { (canvas : Size) (b : Box4) → IsSize canvas → IsBoxOfField b → IsTrue (fits_on canvas (window_at b (scale_of canvas b))) }
     ensures least { (canvas : Size) (b : Box4) (s : ℤ) → pos 1 ≤ℤ s → s <ℤ scale_of canvas b → IsFalse (fits_on canvas (window_at b s)) }
