@@ -17,10 +17,10 @@ weight-dark k dark = grind (arith, ints)
 weight-light : (k : ℕ) → negative_base < k → k < maxval → weight_of_gray_value k ≡ neg_ℤ (pos (k - negative_base))
 weight-light k light below = grind (arith, ints)
 
-pub read_back : (w : ℤ) → least_distinct_weight ≤ℤ w → w ≤ℤ greatest_distinct_weight → weight_of_gray_value (gray_value w) ≡ w
-read_back (negsuc n) least greatest = grind (arith, ints, gray_value-light, weight-light)
-read_back (pos zero) least greatest = refl
-read_back (pos (suc zero)) least greatest = refl
-read_back (pos (suc (suc zero))) least greatest = refl
-read_back (pos (suc (suc (suc zero)))) least greatest = refl
-read_back (pos (suc (suc (suc (suc n))))) least greatest = grind (arith, ints, gray_value-dark, weight-dark)
+pub weight_of_its_gray_value : (w : ℤ) → least_distinct_weight ≤ℤ w → w ≤ℤ greatest_distinct_weight → weight_of_gray_value (gray_value w) ≡ w
+weight_of_its_gray_value (negsuc n) least greatest = grind (arith, ints, gray_value-light, weight-light)
+weight_of_its_gray_value (pos zero) least greatest = refl
+weight_of_its_gray_value (pos (suc zero)) least greatest = refl
+weight_of_its_gray_value (pos (suc (suc zero))) least greatest = refl
+weight_of_its_gray_value (pos (suc (suc (suc zero)))) least greatest = refl
+weight_of_its_gray_value (pos (suc (suc (suc (suc n))))) least greatest = grind (arith, ints, gray_value-dark, weight-dark)

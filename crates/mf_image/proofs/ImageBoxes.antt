@@ -11,7 +11,7 @@ use Rattle.mf_show.specs.Grid.{extent}
 use Rattle.mf_rows.proofs.BoxesOfDots.{least_box_of_dots, least_box_of_field, same_least_box}
 use Rattle.mf_image.specs.declared.svg_image.ViewBox.{ViewBox}
 use Rattle.mf_image.specs.Boxes.{IsImageBox, IsTooLargeForImage, image_box, origin}
-use Rattle.mf_image.specs.Svg.{IsSmall, IsSmallBox, view_box_of}
+use Rattle.mf_image.specs.Svg.{IsImageNumber, HasImageNumbers, view_box_of}
 
 least_is_image_box : (ds : List Dot) (b : Box4) → IsLeastBox ds b → b ≡ image_box ds
 unfolding image_box
@@ -27,29 +27,29 @@ pub box_of_blank : (ds : List Dot) → ds ≡ [] → IsImageBox ds origin
 unfolding image_box
 box_of_blank ds blank = grind (arith, ints)
 
-pub blank_is_small : (ds : List Dot) → ds ≡ [] → IsTooLargeForImage ds → ⊥
-blank_is_small ds blank large = ⊎_elim (λ wide. omega (arith, wide)) (λ high. omega (arith, high)) (rw (sym (box_of_blank ds blank).is) at large)
+pub blank_fits : (ds : List Dot) → ds ≡ [] → IsTooLargeForImage ds → ⊥
+blank_fits ds blank large = ⊎_elim (λ wide. omega (arith, wide)) (λ high. omega (arith, high)) (rw (sym (box_of_blank ds blank).is) at large)
 
 -- ---- the numbers of a view box
 
-pub is_within : (first last : ℤ) → least_coordinate ≤ℤ first → last ≤ℤ last_in_field → first ≤ℤ last → extent first last ≤ field_size
-is_within first last left right order = omega (arith, ints)
+pub extent_in_field : (first last : ℤ) → least_coordinate ≤ℤ first → last ≤ℤ last_in_field → first ≤ℤ last → extent first last ≤ field_size
+extent_in_field first last left right order = omega (arith, ints)
 
-pub side : (n : ℕ) → n ≤ field_size → to_z w32 (of_z w32 (to_z w32 n +ℤ pos 2)) ≡ pos (n + 2)
-side n small = omega (arith, ints)
+pub margin_stays : (n : ℕ) → n ≤ field_size → to_z w32 (of_z w32 (to_z w32 n +ℤ pos 2)) ≡ pos (n + 2)
+margin_stays n small = omega (arith, ints)
 
-pub signed : (n : ℕ) → n ≤ field_size → to_z w32 n ≡ pos n
-signed n small = omega (arith, ints)
+pub side_stays : (n : ℕ) → n ≤ field_size → to_z w32 n ≡ pos n
+side_stays n small = omega (arith, ints)
 
-pub small_box : (b : Box4) → IsBoxOfField b → IsSmallBox (view_box_of b)
-small_box b field = omega (arith, ints, field)
+pub view_box_numbers : (b : Box4) → IsBoxOfField b → HasImageNumbers (view_box_of b)
+view_box_numbers b field = omega (arith, ints, field)
 
--- a small number stays itself as a value of 32 bits
+-- a number of an image stays itself as a value of 32 bits
 abbrev StaysItself : ℤ → Type 0
 StaysItself z = to_z w32 (of_z w32 z) ≡ z
 
-stays_small : (z : ℤ) → IsSmall z → StaysItself z
-stays_small z small = omega (arith, ints, small.least, small.greatest)
+number_stays : (z : ℤ) → IsImageNumber z → StaysItself z
+number_stays z small = omega (arith, ints, small.least, small.greatest)
 
-pub box_stays_small : (v : ViewBox) → IsSmallBox v → StaysItself v.left × StaysItself v.top × StaysItself v.width × StaysItself v.height
-box_stays_small v small = (stays_small v.left small.left, stays_small v.top small.top, stays_small v.width small.width, stays_small v.height small.height)
+pub numbers_stay : (v : ViewBox) → HasImageNumbers v → StaysItself v.left × StaysItself v.top × StaysItself v.width × StaysItself v.height
+numbers_stay v small = (number_stays v.left small.left, number_stays v.top small.top, number_stays v.width small.width, number_stays v.height small.height)

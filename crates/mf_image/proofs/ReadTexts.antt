@@ -14,7 +14,7 @@ use Rattle.mf_rows.specs.Runs.{equal_dots}
 use Rattle.mf_show.specs.Grid.{digit_zero, line_feed, minus_sign}
 use Rattle.mf_image.specs.declared.svg_image.ViewBox.{ViewBox}
 use Rattle.mf_image.specs.Reading.{rest_after, after_first, before_edge, before_width, number, dots_in, with_digits}
-use Rattle.mf_image.specs.Svg.{IsSmall, IsSmallBox, axes, cover, grid, opening, rectangle}
+use Rattle.mf_image.specs.Svg.{IsImageNumber, HasImageNumbers, axes, cover, grid, opening, rectangle}
 
 -- ---- digits
 
@@ -27,7 +27,7 @@ pass_decimal f digit n bs small =
     decimal_by_steps (λ k ds. (rest : List ℕ) → f (ds ++ rest) ≡ f rest) (λ d below rest. digit d rest below)
     (grind (arith, ints, append_assoc)) n small bs
 
-pass_number : {A : Type 0} (f : List ℕ → A) → PassesDigits f → ((bs : List ℕ) → f (minus_sign ∷ bs) ≡ f bs) → (z : ℤ) (bs : List ℕ) → IsSmall z
+pass_number : {A : Type 0} (f : List ℕ → A) → PassesDigits f → ((bs : List ℕ) → f (minus_sign ∷ bs) ≡ f bs) → (z : ℤ) (bs : List ℕ) → IsImageNumber z
     → f (signed_decimal z ++ bs) ≡ f bs
 pass_number f digit sign (pos n) bs small = pass_decimal f digit n bs (omega (arith, ints, small.greatest))
 pass_number f digit sign (negsuc n) bs small = sign (decimal (suc n) ++ bs) ∙ pass_decimal f digit (suc n) bs (omega (arith, ints, small.least))
@@ -55,7 +55,7 @@ with_digits-end : (n c : ℕ) (bs : List ℕ) → is_ascii_digit c ≡ false →
 unfolding with_digits
 with_digits-end n c bs other = rw other refl
 
-pub number_read : (z : ℤ) (c : ℕ) (bs : List ℕ) → IsSmall z → is_ascii_digit c ≡ false → number (signed_decimal z ++ c ∷ bs) ≡ z
+pub number_read : (z : ℤ) (c : ℕ) (bs : List ℕ) → IsImageNumber z → is_ascii_digit c ≡ false → number (signed_decimal z ++ c ∷ bs) ≡ z
 unfolding number
 number_read (pos n) c bs small other = grind (arith, ints, number-decimal, with_digits-decimal, with_digits-end)
 number_read (negsuc n) c bs small other = grind (arith, ints, with_digits-decimal, with_digits-end)
@@ -78,7 +78,7 @@ IsPassed w t = (rest : List ℕ) → dots_in false w (t ++ rest) ≡ dots_in fal
 abbrev pub IsEnd : ℤ → List ℕ → Type 0
 IsEnd w t = (rest : List ℕ) → dots_in false w (t ++ rest) ≡ dots_in true w rest
 
-pub number_passed : (w z : ℤ) → IsSmall z → IsPassed w (signed_decimal z)
+pub number_passed : (w z : ℤ) → IsImageNumber z → IsPassed w (signed_decimal z)
 unfolding dots_in
 number_passed w z small rest = pass_number (dots_in false w) (read_passes_digits w) (λ bs. refl) z rest small
 
@@ -92,10 +92,10 @@ unfolding dots_in grid rest_after
 grid_read w rest = refl
 
 -- a number and a mark after it are passed
-pair_end : (w z : ℤ) (mark t : List ℕ) → IsSmall z → IsPassed w mark → IsEnd w t → IsEnd w (signed_decimal z ++ (mark ++ t))
+pair_end : (w z : ℤ) (mark t : List ℕ) → IsImageNumber z → IsPassed w mark → IsEnd w t → IsEnd w (signed_decimal z ++ (mark ++ t))
 pair_end w z mark t small passed end = end_after w (signed_decimal z) (mark ++ t) (number_passed w z small) (end_after w mark t passed end)
 
-pub opening_read : (w : ℤ) (s : ViewBox) (rest : List ℕ) → IsSmallBox s → dots_in true w (opening s ++ rest) ≡ dots_in true w rest
+pub opening_read : (w : ℤ) (s : ViewBox) (rest : List ℕ) → HasImageNumbers s → dots_in true w (opening s ++ rest) ≡ dots_in true w rest
 unfolding opening dots_in rest_after
 opening_read w s rest small =
     let line = signed_decimal s.left ++ (codes " " ++ (signed_decimal s.top ++ (codes " " ++ (signed_decimal s.width ++ (codes " "
@@ -107,7 +107,7 @@ opening_read w s rest small =
     let text : opening s ++ rest ≡ codes "<svg xmlns=\"http://www.w3.org/2000/svg\" viewBox=\"" ++ (line ++ rest) = simp append_assoc in
     ap (dots_in true w) text ∙ ends rest
 
-pub cover_read : (w : ℤ) (s : ViewBox) (fill rest : List ℕ) → IsSmallBox s → IsPassed w fill → dots_in true w (cover s fill ++ rest) ≡ dots_in true w rest
+pub cover_read : (w : ℤ) (s : ViewBox) (fill rest : List ℕ) → HasImageNumbers s → IsPassed w fill → dots_in true w (cover s fill ++ rest) ≡ dots_in true w rest
 unfolding cover dots_in rest_after
 cover_read w s fill rest small filled =
     let line = signed_decimal s.left ++ (codes "\" y=\"" ++ (signed_decimal s.top ++ (codes "\" width=\"" ++ (signed_decimal s.width
@@ -119,7 +119,7 @@ cover_read w s fill rest small filled =
     let text : cover s fill ++ rest ≡ codes "<rect x=\"" ++ (line ++ rest) = simp append_assoc in
     ap (dots_in true w) text ∙ ends rest
 
-pub axes_read : (w : ℤ) (s : ViewBox) (rest : List ℕ) → IsSmallBox s → dots_in true w (axes s ++ rest) ≡ dots_in true w rest
+pub axes_read : (w : ℤ) (s : ViewBox) (rest : List ℕ) → HasImageNumbers s → dots_in true w (axes s ++ rest) ≡ dots_in true w rest
 unfolding axes dots_in rest_after
 axes_read w s rest small =
     let line = signed_decimal s.top ++ (codes "v" ++ (signed_decimal s.height ++ (codes "M" ++ (signed_decimal s.left ++ (codes " 0h"
@@ -147,13 +147,13 @@ sides_on : (x top : ℤ) (n : ℕ) (rest : List ℕ)
     → sides x top n ++ rest ≡ signed_decimal x ++ before_edge ∷ (signed_decimal top ++ before_width ∷ width_on n rest)
 sides_on x top n rest = simp append_assoc
 
-sides_passed : (w x top : ℤ) (n : ℕ) → IsSmall x → IsSmall top → IsSmall (pos n) → IsEnd w (sides x top n)
+sides_passed : (w x top : ℤ) (n : ℕ) → IsImageNumber x → IsImageNumber top → IsImageNumber (pos n) → IsEnd w (sides x top n)
 unfolding dots_in
 sides_passed w x top n column row width =
     pair_end w x (codes " ") _ column (λ more. refl) (pair_end w top (codes "h") _ row (λ more. refl)
     (grind (arith, ints, number_passed w (pos n) width, pair_end, end_after)))
 
-top_found : (x top : ℤ) (n : ℕ) (rest : List ℕ) → IsSmall x
+top_found : (x top : ℤ) (n : ℕ) (rest : List ℕ) → IsImageNumber x
     → after_first before_edge (sides x top n ++ rest) ≡ signed_decimal top ++ before_width ∷ width_on n rest
 unfolding after_first
 top_found x top n rest column =
@@ -161,7 +161,7 @@ top_found x top n rest column =
     ∙ pass_number (after_first before_edge) (first_passes_digits before_edge (λ d below same. omega arith)) (λ bs. refl) x
     (before_edge ∷ (signed_decimal top ++ before_width ∷ width_on n rest)) column
 
-width_found : (x top : ℤ) (n : ℕ) (rest : List ℕ) → IsSmall x → IsSmall top → after_first before_width (sides x top n ++ rest) ≡ width_on n rest
+width_found : (x top : ℤ) (n : ℕ) (rest : List ℕ) → IsImageNumber x → IsImageNumber top → after_first before_width (sides x top n ++ rest) ≡ width_on n rest
 unfolding after_first
 width_found x top n rest column row =
     let digits = first_passes_digits before_width (λ d below same. omega arith) in
@@ -174,9 +174,9 @@ pub rectangle_read : (w : ℤ) (r : Run) (rest : List ℕ) → IsRun r → dots_
 unfolding rectangle dots_in rest_after
 rectangle_read w r rest run =
     let top = neg_ℤ (r.y +ℤ pos 1) in
-    let column : IsSmall r.x = omega (arith, ints, run) in
-    let row : IsSmall top = omega (arith, ints, run) in
-    let width : IsSmall (pos r.len) = omega (arith, ints, run) in
+    let column : IsImageNumber r.x = omega (arith, ints, run) in
+    let row : IsImageNumber top = omega (arith, ints, run) in
+    let width : IsImageNumber (pos r.len) = omega (arith, ints, run) in
     let text = sides r.x top r.len ++ rest in
     let x : number text ≡ r.x = ap number (sides_on r.x top r.len rest) ∙ number_read r.x _ _ column refl in
     let edge : number (after_first before_edge text) ≡ top = ap number (top_found r.x top r.len rest column) ∙ number_read top _ _ row refl in

@@ -15,12 +15,12 @@ image_box [] = origin
 image_box (d ∷ ds) = box_of_dots d ds
 
 -- the greatest number of columns, and of rows, of an image (here as well as in the code, so that a wrong constant there is not proved)
-abbrev pub greatest_side : ℕ
-greatest_side = 4096
+abbrev pub greatest_image_side : ℕ
+greatest_image_side = 4096
 
 -- the box of the image of a picture has more columns or rows than an image may have
 abbrev pub IsTooLargeForImage : List Dot → Type 0
-IsTooLargeForImage ds = IsLargerThan greatest_side (image_box ds)
+IsTooLargeForImage ds = IsLargerThan greatest_image_side (image_box ds)
 
 -- the box is that of a picture's image
 pub record IsImageBox (ds : List Dot) (b : Box4) : Type 0 where

@@ -1,6 +1,6 @@
 -- The SVG image of a picture (Scalable Vector Graphics 1.1): for each weight a path of rectangles, one for each maximal run.
 -- Pixel (x, y) is the unit square with (x, -(y + 1)) at its upper left corner, since y points down in SVG.
-use Rattle.std.specs.Prelude.{ℕ, ◌+◌, zero, suc, ℤ, pos, negsuc, neg_ℤ, ◌≤ℤ◌, ◌+ℤ◌, ◌-ℤ◌, int_lt, if◌then◌else◌}
+use Rattle.std.specs.Prelude.{ℕ, ◌+◌, zero, suc, ℤ, pos, neg_ℤ, ◌≤ℤ◌, ◌+ℤ◌, ◌-ℤ◌, int_lt, if◌then◌else◌}
 use Rattle.std.specs.Prelude.{List, [], ◌∷◌, ◌++◌, codes, flat_map, fold, map}
 use Rattle.std.specs.Int.{int_max, int_min}
 use Rattle.std.specs.Fmt.{signed_decimal}
@@ -92,17 +92,17 @@ axes v =
 abbrev pub greatest_number : ℕ
 greatest_number = 40000
 
--- a number of an image is small
-pub record IsSmall (z : ℤ) : Type 0 where
-  pub least : negsuc greatest_number ≤ℤ z
+-- an image may have this number
+pub record IsImageNumber (z : ℤ) : Type 0 where
+  pub least : neg_ℤ (pos greatest_number) ≤ℤ z
   pub greatest : z ≤ℤ pos greatest_number
 
--- the numbers of a view box are small
-pub record IsSmallBox (v : ViewBox) : Type 0 where
-  pub left : IsSmall v.left
-  pub top : IsSmall v.top
-  pub width : IsSmall v.width
-  pub height : IsSmall v.height
+-- an image may have the numbers of this view box
+pub record HasImageNumbers (v : ViewBox) : Type 0 where
+  pub left : IsImageNumber v.left
+  pub top : IsImageNumber v.top
+  pub width : IsImageNumber v.width
+  pub height : IsImageNumber v.height
 
 -- the image of runs in a view box: paper, the paths, and over them the grid and the axes
 unfoldable pub image : ViewBox → List Run → List ℕ

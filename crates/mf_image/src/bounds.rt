@@ -6,7 +6,7 @@ use mf_rows::{Box4, Picture};
 use mf_show::is_larger_than;
 
 /// The greatest number of columns, and of rows, of an image.
-const MAX_SIDE: u32 = 4096;
+const MAX_IMAGE_SIDE: u32 = 4096;
 
 /// The box of the image of the blank picture: the pixel at the origin.
 const ORIGIN: Box4 = Box4 {
@@ -18,6 +18,7 @@ const ORIGIN: Box4 = Box4 {
 
 /// The box of a picture's image: the least box or, where the picture is blank, that of the pixel at the origin. `None` where it is
 /// wider or higher than an image may be.
+#[tactic(auto, using(crate::proofs::ImageBoxes::box_of_blank, crate::proofs::ImageBoxes::blank_fits, mf_show::proofs::GridTexts::neither))]
 pub(crate) fn image_box(picture: &Picture) -> Option<Box4>
     ensures bounds { IfSome result (IsImageBox picture.now) }
     ensures too_large { IsTooLargeForImage picture.now ↔ IsNone result }
@@ -25,7 +26,7 @@ pub(crate) fn image_box(picture: &Picture) -> Option<Box4>
     let Some(bounds) = picture.bounds() else {
         return Some(ORIGIN);
     };
-    if is_larger_than(&bounds, MAX_SIDE) {
+    if is_larger_than(&bounds, MAX_IMAGE_SIDE) {
         return None;
     }
     Some(bounds)

@@ -17,7 +17,7 @@ pub fn pgm_has_each_pixel()
 {}
 
 /// The gray value of a weight in -54..=42 gives the weight back.
-#[tactic(auto, using(crate::proofs::GrayValues::read_back))]
+#[tactic(auto, using(crate::proofs::GrayValues::weight_of_its_gray_value))]
 pub fn gray_values_are_read_back()
     ensures { (w : ℤ) → least_distinct_weight ≤ℤ w → w ≤ℤ greatest_distinct_weight → weight_of_gray_value (gray_value w) ≡ w }
 {}

@@ -5,7 +5,7 @@ ghost use Rattle.mf_rows.specs.Order.{IsRun};
 ghost use Rattle.mf_rows.specs.Runs.{runs_of};
 ghost use Rattle.mf_rows.specs.Boxes.{IsBoxOfField};
 ghost use Rattle.mf_image.specs.Boxes.{IsImageBox, IsTooLargeForImage};
-ghost use Rattle.mf_image.specs.Svg.{IsSmallBox, axes, color, cover, greatest_weight_of, least_weight_of, opening, path_of_weight};
+ghost use Rattle.mf_image.specs.Svg.{HasImageNumbers, axes, color, cover, greatest_weight_of, least_weight_of, opening, path_of_weight};
 ghost use Rattle.mf_image.specs.Svg.{paths, rectangle, rectangle_of, svg_text, view_box_of};
 
 use crate::bounds::image_box;
@@ -50,7 +50,7 @@ impl ViewBox {
     fn round(bounds: &Box4) -> ViewBox
         requires { IsBoxOfField bounds.now }
         ensures value { result ≡ view_box_of bounds.now }
-        ensures small { IsSmallBox result }
+        ensures numbers { HasImageNumbers result }
     {
         ViewBox {
             left: bounds.min_x - 1,
@@ -62,7 +62,7 @@ impl ViewBox {
 
     /// Appends the size of the image, and the pattern of the grid.
     fn push_opening(&self, text: &mut Vec<u8>) -> Result<(), OutOfMemory>
-        requires { IsSmallBox self.now }
+        requires { HasImageNumbers self.now }
         ensures { IfOk result (λ _. text.new.items ≡ text.old.items ++ opening self.now) }
     {
         text.extend_from_slice(b"<svg xmlns=\"http://www.w3.org/2000/svg\" viewBox=\"")?;
@@ -74,7 +74,7 @@ impl ViewBox {
 
     /// Appends a rectangle over the whole view box that is filled with this.
     fn push_cover(&self, text: &mut Vec<u8>, fill: &[u8]) -> Result<(), OutOfMemory>
-        requires { IsSmallBox self.now }
+        requires { HasImageNumbers self.now }
         ensures { IfOk result (λ _. text.new.items ≡ text.old.items ++ cover self.now fill.now) }
     {
         text.extend_from_slice(b"<rect x=\"")?;
@@ -89,7 +89,7 @@ impl ViewBox {
 
     /// Appends the axes, as high and as wide as the view box. One that does not meet the view box lies outside of it.
     fn push_axes(&self, text: &mut Vec<u8>) -> Result<(), OutOfMemory>
-        requires { IsSmallBox self.now }
+        requires { HasImageNumbers self.now }
         ensures { IfOk result (λ _. text.new.items ≡ text.old.items ++ axes self.now) }
     {
         text.extend_from_slice(b"<path d=\"M0 ")?;

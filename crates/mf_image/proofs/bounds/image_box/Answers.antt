@@ -2,14 +2,10 @@ use Rattle.std.proofs.Common.{refl, subst, arith}
 use Rattle.std.proofs.lemmas.Bool.{false≢true}
 use Rattle.mf_show.specs.Grid.{IsLargerThan}
 use Rattle.mf_rows.proofs.BoxesOfDots.{least_box_of_field}
-use Rattle.mf_show.proofs.GridTexts.{neither}
-use Rattle.mf_image.specs.Boxes.{greatest_side}
-use Rattle.mf_image.proofs.ImageBoxes.{blank_is_small, box_of_blank, box_of_picture}
+use Rattle.mf_image.specs.Boxes.{greatest_image_side}
+use Rattle.mf_image.proofs.ImageBoxes.{box_of_picture}
 use Rattle.mf_image.proofs.bounds.image_box.Goals as goal
 use Rattle.std.proofs.lemmas.Int.{ints}
-
-pub returns-in_default : goal.returns-in_default
-returns-in_default c = grind (arith, box_of_blank, neither, blank_is_small)
 
 pub is_larger_than-requires : goal.is_larger_than-requires
 is_larger_than-requires c = least_box_of_field _ _ c.bounds.ensures.lawful c.in-Some.ensures.least
@@ -17,7 +13,7 @@ is_larger_than-requires c = least_box_of_field _ _ c.bounds.ensures.lawful c.in-
 pub returns-then-is_larger_than-clause-too_large : goal.returns-then-is_larger_than-clause-too_large
 returns-then-is_larger_than-clause-too_large c =
     let box = box_of_picture _ _ c.bounds.ensures.lawful c.in-Some.ensures.least in
-    (λ _. refl, λ _. subst (IsLargerThan greatest_side) box.is (c.if-is_larger_than.ensures.0 refl))
+    (λ _. refl, λ _. subst (IsLargerThan greatest_image_side) box.is (c.if-is_larger_than.ensures.0 refl))
 
 pub returns : goal.returns
 returns c =
