@@ -101,7 +101,7 @@ def over(rows: int) -> str:
 
 
 # The side that a picture may have in an image, in pixels.
-MAX_SIDE = 4096
+MAX_IMAGE_SIDE = 4096
 LEVELS = {1: 120, 2: 80, 3: 40}
 
 
@@ -110,7 +110,7 @@ def is_too_large(picture: Picture) -> bool:
     if not picture:
         return False
     left, right, low, high = box_of(picture)
-    return right - left >= MAX_SIDE or high - low >= MAX_SIDE
+    return right - left >= MAX_IMAGE_SIDE or high - low >= MAX_IMAGE_SIDE
 
 
 def read_svg(text: str) -> Picture:

@@ -14,7 +14,7 @@ const MIN_COLUMNS: u32 = 50;
 const MIN_ROWS: u32 = 6;
 
 /// The greatest number of columns, and of rows, that a canvas uses.
-const MAX_SIDE: u32 = 1000;
+const MAX_CANVAS_SIDE: u32 = 1000;
 
 /// A canvas that has fewer than 50 columns or fewer than 6 rows.
 #[derive(Clone, Copy, Debug, PartialEq, Eq)]
@@ -63,8 +63,8 @@ impl Canvas {
             return Err(TooSmall);
         }
         Ok(Canvas {
-            columns: columns.min(MAX_SIDE),
-            rows: rows.min(MAX_SIDE),
+            columns: columns.min(MAX_CANVAS_SIDE),
+            rows: rows.min(MAX_CANVAS_SIDE),
         })
     }
 

@@ -17,7 +17,7 @@ use mf_rows::{Box4, Picture};
 use std::alloc::Global;
 
 /// The greatest number of columns, and of rows, of a grid.
-const MAX_SIDE: u32 = 128;
+const MAX_GRID_SIDE: u32 = 128;
 
 /// The grid text of a picture: a line for each row of its least box, from the top, with a character for the weight of each pixel.
 /// `.` is 0, `1` to `9` are themselves, `+` is any greater weight, `a` to `i` are -1 to -9, and `-` is any lesser weight. The
@@ -31,7 +31,7 @@ pub fn proof_grid(alloc: Global, picture: &Picture) -> Result<Vec<u8>, GridFault
     let Some(bounds) = picture.bounds() else {
         return Ok(blank(alloc)?);
     };
-    if is_larger_than(&bounds, MAX_SIDE) {
+    if is_larger_than(&bounds, MAX_GRID_SIDE) {
         return Err(GridFault::ProofTooLarge);
     }
     Ok(box_text(alloc, picture, &bounds)?)
