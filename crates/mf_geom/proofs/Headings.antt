@@ -29,13 +29,9 @@ signum-product (pos (suc m)) (negsuc n) a_apart b_apart = let positive = suc-mul
 signum-product (negsuc m) (pos (suc n)) a_apart b_apart = let positive = suc-mul-suc m n in grind (arith, ints)
 signum-product (negsuc m) (negsuc n) a_apart b_apart = let positive = suc-mul-suc m n in grind (arith, ints)
 
--- the heading of a segment that leads up or down, in quarter turns from the right
-abbrev upright_heading : Bool → ℤ
-upright_heading upwards = if upwards then pos 1 else pos 3
-
--- the heading of a segment that leads a to the right and b up, where it is rectilinear
+-- the heading of a segment that leads a to the right and b up, where it is rectilinear, in quarter turns from the right
 abbrev heading : ℤ → ℤ → ℤ
-heading a b = if int_lt (pos 0) a then pos 0 else (if int_lt a (pos 0) then pos 2 else upright_heading (int_lt (pos 0) b))
+heading a b = if int_lt (pos 0) a then pos 0 else (if int_lt a (pos 0) then pos 2 else (if int_lt (pos 0) b then pos 1 else pos 3))
 
 -- the whole turns to add to a difference of headings to get the turn: 1 from down to right, -1 from right to down, else
 -- 0

@@ -52,14 +52,6 @@ sum_below-next (suc n) f =
     let last : f (n + 1) ≡ f (suc n) = ap f (omega arith) in
     omega (arith, ints)
 
-next_place-inner : (ps : List Point) (i : ℕ) → i + 1 < length ps → next_place ps i ≡ i + 1
-unfolding next_place
-next_place-inner ps i inner = grind (arith, nat_tests)
-
-next_place-last : (ps : List Point) (i : ℕ) → i + 1 ≡ length ps → next_place ps i ≡ 0
-unfolding next_place
-next_place-last ps i last = grind (arith, nat_tests)
-
 pub next_place-below : (ps : List Point) (i : ℕ) → i < length ps → next_place ps i < length ps
 unfolding next_place
 next_place-below ps i below = grind (arith, nat_tests)
@@ -75,7 +67,8 @@ sum_below-round (suc n) next f inner last =
 
 -- round a cycle, the sum over the next places is the sum over the places
 pub sum_below-next_place : (ps : List Point) (f : ℕ → ℤ) → sum_below (length ps) (λ i. f (next_place ps i)) ≡ sum_below (length ps) f
-sum_below-next_place ps f = sum_below-round (length ps) (next_place ps) f (next_place-inner ps) (next_place-last ps)
+unfolding next_place
+sum_below-next_place ps f = sum_below-round (length ps) (next_place ps) f (λ i inner. grind (arith, nat_tests)) (λ i last. grind (arith, nat_tests))
 
 -- so the differences from each place to the next add up to 0
 pub sum_below-differences : (ps : List Point) (f : ℕ → ℤ) → sum_below (length ps) (λ i. f (next_place ps i) -ℤ f i) ≡ pos 0
