@@ -2,6 +2,7 @@
 use Rattle.std.proofs.Common.{ℤ, pos, negsuc, ◌+ℤ◌, ◌*ℤ◌, ◌≤ℤ◌, ◌<ℤ◌, arith}
 use Rattle.std.proofs.lemmas.Int.{ints, by_lt_z}
 use Rattle.mf_geom.specs.Coordinates.{least_coordinate, greatest_coordinate, last_in_field}
+use Rattle.mf_geom.specs.Field.{IsColumnOrRow}
 use Rattle.mf_edges.proofs.Sources.{mul-le, mul-next, quotient-within}
 use Rattle.mf_frame.specs.Cells.{cell_of}
 use Rattle.mf_frame.specs.Windows.{line_of}
@@ -34,15 +35,11 @@ cell-le s p q positive le = let within = cell-within s p positive in cell-from s
 pub cell-next : (s p : ℤ) → pos 1 ≤ℤ s → cell_of s (p +ℤ pos 1) ≤ℤ (cell_of s p +ℤ pos 1)
 cell-next s p positive = let within = cell-within s p positive in grind (arith, ints, mul-next, cell-to)
 
--- a cell is no further from the axis than its pixels
-pub record IsCellInField (c : ℤ) : Type 0 where
-  pub least : least_coordinate ≤ℤ c
-  pub greatest : c ≤ℤ last_in_field
-
 field_product : (s : ℤ) → pos 1 ≤ℤ s → ((least_coordinate *ℤ s) ≤ℤ least_coordinate) × (last_in_field ≤ℤ (last_in_field *ℤ s))
 field_product s positive = (omega (arith, ints), omega (arith, ints))
 
-pub cell_in_field : (s p : ℤ) → pos 1 ≤ℤ s → least_coordinate ≤ℤ p → p ≤ℤ last_in_field → IsCellInField (cell_of s p)
+-- a cell is no further from the axis than its pixels
+pub cell_in_field : (s p : ℤ) → pos 1 ≤ℤ s → least_coordinate ≤ℤ p → p ≤ℤ last_in_field → IsColumnOrRow (cell_of s p)
 cell_in_field s p positive least greatest =
     let products = field_product s positive in
     record {

@@ -4,6 +4,7 @@ use Rattle.std.specs.Int.RustNames.{unsigned_abs}
 use Rattle.std.proofs.lemmas.Bool.{cond-true, cond-false, cond_both, and_parts, and_from, leb-true, le-leb}
 use Rattle.std.proofs.lemmas.Int.{ints, by_lt_z}
 use Rattle.mf_geom.specs.Coordinates.{least_coordinate, greatest_coordinate, last_in_field}
+use Rattle.mf_geom.specs.Field.{IsColumnOrRow}
 use Rattle.mf_rows.specs.declared.bounds.Box4.{Box4}
 use Rattle.mf_rows.specs.declared.run.Run.{Run}
 use Rattle.mf_rows.specs.Order.{IsRun}
@@ -13,17 +14,17 @@ use Rattle.mf_frame.specs.declared.window.Window.{Window}
 use Rattle.mf_frame.specs.Canvases.{Size, IsSize, picture_lines}
 use Rattle.mf_frame.specs.Cells.{cell_of}
 use Rattle.mf_frame.specs.Windows.{lesser_scales, line_of, window_at, fits_on, first_fitting, scale_of, IsScale, IsWindow}
-use Rattle.mf_frame.proofs.Floors.{IsCellInField, cell-le, cell_in_field, cell_at_greatest, line-within, line-le}
+use Rattle.mf_frame.proofs.Floors.{cell-le, cell_in_field, cell_at_greatest, line-within, line-le}
 
 -- the columns and lines of a box of the field
 pub record IsWindowOfField (b : Box4) (s : ℤ) : Type 0 where
-  pub first_column : IsCellInField (cell_of s b.min_x)
-  pub last_column : IsCellInField (cell_of s b.max_x)
+  pub first_column : IsColumnOrRow (cell_of s b.min_x)
+  pub last_column : IsColumnOrRow (cell_of s b.max_x)
   pub columns : cell_of s b.min_x ≤ℤ cell_of s b.max_x
-  pub first_row : IsCellInField (cell_of s b.min_y)
-  pub last_row : IsCellInField (cell_of s b.max_y)
-  pub first_line : IsCellInField (line_of (cell_of s b.min_y))
-  pub last_line : IsCellInField (line_of (cell_of s b.max_y))
+  pub first_row : IsColumnOrRow (cell_of s b.min_y)
+  pub last_row : IsColumnOrRow (cell_of s b.max_y)
+  pub first_line : IsColumnOrRow (line_of (cell_of s b.min_y))
+  pub last_line : IsColumnOrRow (line_of (cell_of s b.max_y))
   pub lines : line_of (cell_of s b.min_y) ≤ℤ line_of (cell_of s b.max_y)
 
 pub window_of_field : (b : Box4) (s : ℤ) → IsBoxOfField b → pos 1 ≤ℤ s → IsWindowOfField b s
@@ -64,7 +65,7 @@ pub cell_value : (s p r : ℤ) → IsScale s → least_coordinate ≤ℤ p → p
     → r ≡ cell_of (to_z w32 (of_z w32 s)) (to_z w32 (of_z w32 p)) → r ≡ cell_of s p
 cell_value s p r scale least greatest computed = grind (arith, ints, stays)
 
-line_value : (j c l : ℤ) → IsCellInField j → c ≡ j → l ≡ line_of (to_z w32 (of_z w32 c)) → l ≡ line_of j
+line_value : (j c l : ℤ) → IsColumnOrRow j → c ≡ j → l ≡ line_of (to_z w32 (of_z w32 c)) → l ≡ line_of j
 line_value j c l field same computed = grind (arith, ints, stays)
 
 pub window_ends : (b : Box4) (s left right low high bottom top : ℤ) → IsBoxOfField b → IsScale s

@@ -3,6 +3,11 @@ use Rattle.std.specs.Prelude.{ℤ, pos, ◌+ℤ◌, ◌≤ℤ◌}
 use Rattle.mf_geom.specs.Coordinates.{least_coordinate, last_in_field, field_size}
 use Rattle.mf_geom.specs.Sum.{sum_below}
 
+-- a column, or row, of the field
+pub record IsColumnOrRow (p : ℤ) : Type 0 where
+  pub least : least_coordinate ≤ℤ p
+  pub greatest : p ≤ℤ last_in_field
+
 -- the pixel (x, y) lies in the field
 pub record IsInField (x y : ℤ) : Type 0 where
   pub left : least_coordinate ≤ℤ x

@@ -7,14 +7,13 @@ use Rattle.std.proofs.lemmas.Bool.{cases_eq}
 use Rattle.std.proofs.lemmas.Int.{ints, by_lt_z}
 use Rattle.mf_geom.specs.Coordinates.{least_coordinate, greatest_coordinate, last_in_field, field_size}
 use Rattle.mf_geom.specs.Crossing.{unit_step}
-use Rattle.mf_geom.specs.Field.{sum_over_field}
+use Rattle.mf_geom.specs.Field.{IsColumnOrRow, sum_over_field}
 use Rattle.mf_geom.specs.Sum.{sum_below}
 use Rattle.mf_geom.proofs.Areas.{sum_below-unit_step_in_field}
 use Rattle.mf_geom.proofs.Crossings.{unit_step-reached, unit_step-beyond}
 use Rattle.mf_geom.proofs.Sums.{sum_below-same, sum_below-zero, sum_below-next, sum_below-sub, sum_below-mul, sum_below-swap}
 use Rattle.mf_edges.specs.Axes.{opposite}
 use Rattle.mf_rows.specs.Moves.{quarter_turn}
-use Rattle.mf_ops.specs.Moves.{IsColumnOrRow}
 use borrow.Author.Differences.{up, down, product_is}
 
 -- the sum over the columns, or rows, of the field

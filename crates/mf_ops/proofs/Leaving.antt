@@ -7,7 +7,7 @@ use Rattle.std.proofs.lemmas.List.Elements.{All-nil, All-cons, All-contains}
 use Rattle.std.proofs.lemmas.List.Folds.{list_any_none}
 use Rattle.std.specs.List.{All, Any, list_any}
 use Rattle.mf_geom.specs.Coordinates.{IsCoordinate, is_coordinate}
-use Rattle.mf_geom.specs.Field.{IsInField}
+use Rattle.mf_geom.specs.Field.{IsColumnOrRow, IsInField}
 use borrow.Author.Differences.{up, down}
 use Rattle.mf_rows.proofs.DotsLemmas.{dots_from-lawful}
 use Rattle.mf_rows.specs.Bounds.{IsLeastBox}
@@ -17,7 +17,7 @@ use Rattle.mf_rows.specs.Dots.{Dot, IsPicture, start_of_field}
 use Rattle.mf_edges.specs.Axes.{PlaceStaysInside}
 use Rattle.mf_rows.specs.Moves.{PixelsStayInside}
 use Rattle.mf_edges.proofs.Sources.{mul-le}
-use Rattle.mf_ops.specs.Moves.{Factors, IsColumnOrRow, scale_by, shift_by, stays_inside}
+use Rattle.mf_ops.specs.Moves.{Factors, scale_by, shift_by, stays_inside}
 use Rattle.mf_ops.proofs.Faults.{IsForWeights}
 use Rattle.mf_ops.specs.declared.op.Op.TheVariants.{Shift, Scale}
 

@@ -11,7 +11,7 @@ use Rattle.std.proofs.lemmas.List.Folds.{Any-from_list_any}
 use Rattle.mf_geom.specs.Coordinates.{least_coordinate, greatest_coordinate}
 use Rattle.mf_geom.specs.declared.check.Check.{Check}
 use Rattle.mf_geom.specs.declared.point.Point.{Point}
-use Rattle.mf_geom.specs.Field.{IsInField}
+use Rattle.mf_geom.specs.Field.{IsColumnOrRow, IsInField}
 use Rattle.mf_geom.specs.Winding.{contour, winding}
 use Rattle.mf_rows.specs.declared.sign.Sign.{Sign}
 use Rattle.mf_rows.specs.declared.sign.Sign.TheVariants.{Plus, Minus}
@@ -20,7 +20,7 @@ use Rattle.mf_edges.specs.Axes.{opposite, PlaceStaysInside}
 use Rattle.mf_rows.proofs.DotsLemmas.{IsAt, weight_at-dot, dots_from-lawful, weight_at-outside}
 use Rattle.mf_ops.specs.Cull.{IsLawfulCull, culled_weight}
 use Rattle.mf_rows.specs.Moves.{quarter_turn}
-use Rattle.mf_ops.specs.Moves.{Factors, AreFactors, IsFactor, IsColumnOrRow, HasPlace, scale_by, scale_source, shift_by, stays_inside, turn_by}
+use Rattle.mf_ops.specs.Moves.{Factors, AreFactors, IsFactor, HasPlace, scale_by, scale_source, shift_by, stays_inside, turn_by}
 use Rattle.mf_ops.specs.Step.{step_at, leaves, op_fault, LiesOutside, TurnsLawfully}
 use Rattle.mf_ops.specs.declared.cull.CullRule.{CullRule}
 use Rattle.mf_ops.specs.declared.cull.CullRule.TheVariants.{Keeping, Dropping}

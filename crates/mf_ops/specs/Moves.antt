@@ -2,7 +2,7 @@
 -- plane: the new weight of a pixel is the old weight of the pixel whose moved square contains it.
 use Rattle.std.specs.Prelude.{◌≢◌, ◌&&◌, Bool, ℤ, pos, nat_abs, ◌+ℤ◌, ◌*ℤ◌, ◌≤ℤ◌, int_lt, if◌then◌else◌}
 use Rattle.std.specs.Int.{int_max, int_min}
-use Rattle.mf_geom.specs.Coordinates.{IsCoordinate, least_coordinate, last_in_field, is_coordinate}
+use Rattle.mf_geom.specs.Coordinates.{IsCoordinate, is_coordinate}
 use Rattle.mf_edges.specs.Axes.{opposite, source_of, target_of}
 use Rattle.mf_edges.specs.declared.stretch.Stretch.{Stretch}
 use Rattle.mf_rows.specs.Moves.{moved_columns, moved_rows, quarter_turn}
@@ -13,11 +13,6 @@ use Rattle.mf_ops.specs.declared.quarter.Quarter.TheVariants.{Once, Twice, Thric
 pub record Factors : Type 0 where
   pub x : ℤ
   pub y : ℤ
-
--- a column, or row, of the field
-pub record IsColumnOrRow (p : ℤ) : Type 0 where
-  pub least : least_coordinate ≤ℤ p
-  pub greatest : p ≤ℤ last_in_field
 
 -- f may be a factor of a scale: it is in -4095..4095, as a coordinate is, and not 0
 pub record IsFactor (f : ℤ) : Type 0 where

@@ -1,11 +1,12 @@
 //! Shifts, scales and turns.
 ghost use Rattle.std.specs.Prelude.{◌≡◌, ◌↔◌, None, Some, Err, IfOk, IfErr, OnOk, IsTrue};
 ghost use Rattle.mf_geom.specs.Coordinates.{IsCoordinate};
+ghost use Rattle.mf_geom.specs.Field.{IsColumnOrRow};
 ghost use Rattle.mf_rows.specs.Dots.{IsPicture, weight_at};
 ghost use Rattle.mf_edges.specs.Axes.{PlaceStaysInside, target_of};
 ghost use Rattle.mf_rows.specs.Moves.{PixelsStayInside};
 ghost use Rattle.mf_rows.specs.Sums.{HasWeights};
-ghost use Rattle.mf_ops.specs.Moves.{IsColumnOrRow, reflection, turn_by};
+ghost use Rattle.mf_ops.specs.Moves.{reflection, turn_by};
 ghost use Rattle.mf_ops.specs.Step.{IsRefusal, next_picture, op_fault};
 ghost use Rattle.mf_ops.specs.declared.op.Op.TheVariants as ops;
 
