@@ -35,17 +35,12 @@ cell-le s p q positive le = let within = cell-within s p positive in cell-from s
 pub cell-next : (s p : ℤ) → pos 1 ≤ℤ s → cell_of s (p +ℤ pos 1) ≤ℤ (cell_of s p +ℤ pos 1)
 cell-next s p positive = let within = cell-within s p positive in grind (arith, ints, mul-next, cell-to)
 
-field_product : (s : ℤ) → pos 1 ≤ℤ s → ((least_coordinate *ℤ s) ≤ℤ least_coordinate) × (last_in_field ≤ℤ (last_in_field *ℤ s))
-field_product s positive = (omega (arith, ints), omega (arith, ints))
-
 -- a cell is no further from the axis than its pixels
 pub cell_in_field : (s p : ℤ) → pos 1 ≤ℤ s → least_coordinate ≤ℤ p → p ≤ℤ last_in_field → IsColumnOrRow (cell_of s p)
-cell_in_field s p positive least greatest =
-    let products = field_product s positive in
-    record {
-      least = cell-from s least_coordinate p positive (omega (arith, ints, products.0));
-      greatest = cell-to s last_in_field p positive (omega (arith, ints, products.1));
-    }
+cell_in_field s p positive least greatest = record {
+  least = cell-from s least_coordinate p positive (omega (arith, ints));
+  greatest = cell-to s last_in_field p positive (omega (arith, ints));
+}
 
 -- at the greatest scale the field is two cells wide
 pub cell_at_greatest : (p : ℤ) → least_coordinate ≤ℤ p → p ≤ℤ last_in_field

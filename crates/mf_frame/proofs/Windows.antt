@@ -57,8 +57,8 @@ pub record AreWindowEnds (b : Box4) (s : ℤ) (ends : WindowEnds) : Type 0 where
   pub bottom : ends.line ≡ line_of (cell_of s b.min_y)
   pub top : ends.last_line ≡ line_of (cell_of s b.max_y)
 
--- a number of the field stays itself as a value of 32 bits
-stays : (p : ℤ) → least_coordinate ≤ℤ p → p ≤ℤ greatest_coordinate → to_z w32 (of_z w32 p) ≡ p
+-- a number of the field, or a scale, stays itself as a value of 32 bits
+pub stays : (p : ℤ) → least_coordinate ≤ℤ p → p ≤ℤ greatest_coordinate → to_z w32 (of_z w32 p) ≡ p
 stays p least greatest = omega (arith, ints)
 
 pub cell_value : (s p r : ℤ) → IsScale s → least_coordinate ≤ℤ p → p ≤ℤ last_in_field
@@ -234,6 +234,3 @@ found_cells s run row first last scale r row_computed first_computed last_comput
       last_is = found_cell s ((run.x +ℤ pos run.len) -ℤ pos 1) last scale (omega (arith, ints, r.some, r.left))
           (omega (arith, ints, r.right)) (rw end at last_computed);
     }
-
-pub stays_scale : (s : ℤ) → IsScale s → to_z w32 (of_z w32 s) ≡ s
-stays_scale s scale = stays s (omega (arith, ints, scale.least)) scale.greatest

@@ -5,7 +5,7 @@ use Rattle.mf_rows.proofs.BoxesOfDots.{least_box_is, least_box_of_field}
 use Rattle.mf_frame.specs.Frames.{frame_text}
 use Rattle.mf_frame.proofs.DotsInWindow.{all_in_window}
 use Rattle.mf_frame.proofs.FrameLines.{drawn_lines}
-use Rattle.mf_frame.proofs.Windows.{is_scale, stays_scale}
+use Rattle.mf_frame.proofs.Windows.{is_scale, stays}
 use Rattle.mf_frame.proofs.frame.draw_box.Goals as goal
 
 pub fitting-window-requires : goal.fitting-window-requires
@@ -22,7 +22,8 @@ unfolding frame_text
 returns c =
     let w = c.fitting-window.result in
     let lines = drawn_lines c.args.style _ _ _ c.in_ok-shades.ensures in
-    let scale = stays_scale w.scale c.fitting-window.ensures.lawful.scale in
+    let of_window = c.fitting-window.ensures.lawful.scale in
+    let scale = stays w.scale (omega (arith, ints, of_window.least)) of_window.greatest in
     let total : to_z w64 (of_z w64 c.total-total.result) ≡ total_of c.args.picture.now = omega (arith, ints, c.total-total.ensures.value) in
     rw (least_box_is _ _ c.requires, ← c.fitting-window.ensures.value, c.in_ok-push_measures.ensures, c.in_ok-push_heading.ensures, c.in_ok-push_lines.ensures)
     (rw (c.in_ok-push_empty_lines_above.ensures, c.new-text.ensures.items, c.deref.ensures.value, total, lines, scale) refl)
