@@ -1,5 +1,5 @@
 -- What goes to the screen of an easel.
-use Rattle.std.specs.Prelude.{◌≡◌, ◌==◌, ◌<◌, Bool, false, ℕ, List, [], ◌∷◌, ◌++◌, Option, None, Some, IfSome, codes, decimal, if◌then◌else◌}
+use Rattle.std.specs.Prelude.{◌≡◌, ◌==◌, ◌<◌, Bool, false, ℕ, List, [], ◌++◌, Option, None, Some, IfSome, codes, decimal, if◌then◌else◌}
 use Rattle.std.specs.Io.KnownBytes.{Appends}
 use Rattle.mf_base.specs.Messages.{GetsFront}
 use Rattle.mf_easel.specs.declared.fault.EaselFault.{EaselFault}
@@ -7,10 +7,11 @@ use Rattle.mf_easel.specs.declared.fault.EaselFault.TheVariants.{WriteFault}
 use Rattle.mf_frame.specs.Canvases.{Size, frame_lines}
 use Rattle.mf_frame.specs.declared.tile.Style.{Style}
 use Rattle.mf_frame.specs.declared.tile.Style.TheVariants.{Colored, Plain}
+use Rattle.mf_frame.specs.Tiles.{escape}
 
 -- the control sequence that moves the cursor up this many lines
 abbrev pub cursor_up : ℕ → List ℕ
-cursor_up n = 27 ∷ codes "[" ++ decimal n ++ codes "A"
+cursor_up n = escape ++ codes "[" ++ decimal n ++ codes "A"
 
 -- what comes before a frame: in the style `Colored` the cursor moves up to the first line of the frame that was drawn last
 abbrev pub cursor_to_last_frame : Style → Size → Option ℕ → List ℕ
