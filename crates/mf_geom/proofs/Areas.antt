@@ -55,10 +55,6 @@ sum_over_field-crossing e from to =
 abbrev remainder : Point → ℤ
 remainder p = greatest_length *ℤ p.y -ℤ p.x *ℤ p.y
 
-shoelace-level : (x x' y : ℤ)
-    → x *ℤ y -ℤ x' *ℤ y ≡ pos 2 *ℤ ((greatest_coordinate -ℤ x) *ℤ (y -ℤ y)) +ℤ ((greatest_length *ℤ y -ℤ x' *ℤ y) -ℤ (greatest_length *ℤ y -ℤ x *ℤ y))
-shoelace-level x x' y = let flat = mul-self (greatest_coordinate -ℤ x) y in omega (arith, ints)
-
 shoelace-upright : (x y y' : ℤ)
     → x *ℤ y' -ℤ x *ℤ y ≡ pos 2 *ℤ ((greatest_coordinate -ℤ x) *ℤ (y -ℤ y')) +ℤ ((greatest_length *ℤ y' -ℤ x *ℤ y') -ℤ (greatest_length *ℤ y -ℤ x *ℤ y))
 shoelace-upright x y y' =
@@ -70,7 +66,7 @@ shoelace-area_beside : (e : Segment) → IsRectilinear e
 unfolding IsRectilinear across up
 shoelace-area_beside e (inl level) =
     let same_height : e.to.y ≡ e.from.y = let rise = level.1 in omega (arith, ints) in
-    rw same_height (shoelace-level e.from.x e.to.x e.from.y)
+    rw same_height (let flat = mul-self (greatest_coordinate -ℤ e.from.x) e.from.y in omega (arith, ints))
 shoelace-area_beside e (inr upright) =
     let same_column : e.to.x ≡ e.from.x = let run = upright.0 in omega (arith, ints) in
     rw same_column (shoelace-upright e.from.x e.from.y e.to.y)

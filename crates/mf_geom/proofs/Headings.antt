@@ -50,12 +50,6 @@ cross-level : (a c : ℤ) → a ≢ pos 0 → c ≢ pos 0 → ((a *ℤ c +ℤ po
     → int_signum (a *ℤ pos 0 -ℤ pos 0 *ℤ c) ≡ bend (heading c (pos 0) -ℤ heading a (pos 0))
 cross-level a c a_apart c_apart onward = grind (arith, ints, same_side)
 
-cross-level-upright : (a d : ℤ) → a ≢ pos 0 → d ≢ pos 0 → int_signum (a *ℤ d -ℤ pos 0 *ℤ pos 0) ≡ bend (heading (pos 0) d -ℤ heading a (pos 0))
-cross-level-upright a d a_apart d_apart = grind (arith, ints, signum-product)
-
-cross-upright-level : (b c : ℤ) → b ≢ pos 0 → c ≢ pos 0 → int_signum (pos 0 *ℤ pos 0 -ℤ b *ℤ c) ≡ bend (heading c (pos 0) -ℤ heading (pos 0) b)
-cross-upright-level b c b_apart c_apart = grind (arith, ints, signum-product)
-
 cross-upright : (b d : ℤ) → b ≢ pos 0 → d ≢ pos 0 → ((pos 0 *ℤ pos 0 +ℤ b *ℤ d) <ℤ pos 0 → ⊥)
     → int_signum (pos 0 *ℤ d -ℤ b *ℤ pos 0) ≡ bend (heading (pos 0) d -ℤ heading (pos 0) b)
 cross-upright b d b_apart d_apart onward = grind (arith, ints, same_side)
@@ -67,8 +61,8 @@ cross-bend : (a b c d : ℤ) → ((a ≢ pos 0) × (b ≡ pos 0)) ⊎ ((a ≡ po
     → int_signum (a *ℤ d -ℤ b *ℤ c) ≡ bend (heading c d -ℤ heading a b)
 cross-bend a b c d (inl from) (inl to) onward =
     rw (from.1, to.1) (cross-level a c from.0 to.0 (λ less. onward (rw (from.1, to.1) less)))
-cross-bend a b c d (inl from) (inr to) onward = rw (from.1, to.0) (cross-level-upright a d from.0 to.1)
-cross-bend a b c d (inr from) (inl to) onward = rw (from.0, to.1) (cross-upright-level b c from.1 to.0)
+cross-bend a b c d (inl from) (inr to) onward = rw (from.1, to.0) (grind (arith, ints, signum-product a d from.0 to.1))
+cross-bend a b c d (inr from) (inl to) onward = rw (from.0, to.1) (grind (arith, ints, signum-product b c from.1 to.0))
 cross-bend a b c d (inr from) (inr to) onward =
     rw (from.0, to.0) (cross-upright b d from.1 to.1 (λ less. onward (rw (from.0, to.0) less)))
 
