@@ -80,10 +80,10 @@ abbrev pub darkening_of : Window → Run → Darkening
 darkening_of w r = record { start = run_start w r; end = run_end w r; shade = shade_of r.weight }
 
 -- the run gives no shade to a cell that it does not reach
-unreached : (w : Window) (r : Run) (old new : List Shade) (i j : ℤ) → get_or new (place_in w i j) Blank ≡ get_or old (place_in w i j) Blank
+shade_in-kept : (w : Window) (r : Run) (old new : List Shade) (i j : ℤ) → get_or new (place_in w i j) Blank ≡ get_or old (place_in w i j) Blank
     → cell_shade w.scale (dots_of r) i j ≡ Blank → shade_in w new i j ≡ darker (shade_in w old i j) (cell_shade w.scale (dots_of r) i j)
 unfolding shade_in
-unreached w r old new i j kept blank = rw blank (kept ∙ sym (darker-blank (get_or old (place_in w i j) Blank)))
+shade_in-kept w r old new i j kept blank = rw blank (kept ∙ sym (darker-blank (get_or old (place_in w i j) Blank)))
 
 -- a run reaches no cell that none of its columns and rows is in
 outside_run : (w : Window) (r : Run) (i j : ℤ) → pos 1 ≤ℤ w.scale
@@ -118,12 +118,12 @@ in_row w r old new i window within cell dark =
     by_lt_z i first
     (λ left.
     let before : p < run_start w r = omega (arith, ints, cell.left, within.first.left) in
-    unreached w r old new i row (dark.before p before)
+    shade_in-kept w r old new i row (dark.before p before)
     (outside_run w r i row positive (λ u from to column _. let le = cell-le w.scale r.x u positive from in omega (arith, ints, column))))
     (λ from. by_lt_z last i
     (λ right.
     let after : run_end w r ≤ p = omega (arith, ints, cell.left, within.last.left) in
-    unreached w r old new i row (dark.after p after)
+    shade_in-kept w r old new i row (dark.after p after)
     (outside_run w r i row positive
     (λ u start to column _. let le = cell-le w.scale u ((r.x +ℤ pos r.len) -ℤ pos 1) positive (omega (arith, ints)) in omega (arith, ints, column))))
     (λ to.
@@ -145,19 +145,19 @@ painted_cell w r old new i j window within cell dark =
     (λ below.
     let apart = row-apart a b w.columns (omega (arith, ints, cell.bottom, within.first.bottom)) in
     let before : place_in w i j < run_start w r = omega (arith, ints, cell.left, cell.right) in
-    unreached w r old new i j (dark.before (place_in w i j) before) (outside_run w r i j positive (λ u from to _ same. omega (arith, ints, same))))
+    shade_in-kept w r old new i j (dark.before (place_in w i j) before) (outside_run w r i j positive (λ u from to _ same. omega (arith, ints, same))))
     (λ from_row. by_lt_z row j
     (λ above.
     let apart = row-apart b a w.columns (omega (arith, ints, cell.bottom, within.first.bottom)) in
     let after : run_end w r ≤ place_in w i j = omega (arith, ints, within.last.left, within.last.right) in
-    unreached w r old new i j (dark.after (place_in w i j) after) (outside_run w r i j positive (λ u from to _ same. omega (arith, ints, same))))
+    shade_in-kept w r old new i j (dark.after (place_in w i j) after) (outside_run w r i j positive (λ u from to _ same. omega (arith, ints, same))))
     (λ to_row.
     let same : j ≡ row = omega (arith, ints) in
     rw same (in_row w r old new i window within (rw same at cell) dark)))
 
-pub painted : (w : Window) (r : Run) (old new : List Shade) → IsWindow w → IsRunInWindow w r
+pub painted_run : (w : Window) (r : Run) (old new : List Shade) → IsWindow w → IsRunInWindow w r
     → AreDarkened (darkening_of w r) old new → ArePainted w r old new
-painted w r old new window within dark = record { count = dark.count; cells = λ i j cell. painted_cell w r old new i j window within cell dark }
+painted_run w r old new window within dark = record { count = dark.count; cells = λ i j cell. painted_cell w r old new i j window within cell dark }
 
 -- ---- all runs
 

@@ -16,7 +16,7 @@ use Rattle.mf_frame.specs.Cells.{cell_of}
 use Rattle.mf_frame.specs.Windows.{lesser_scales, line_of, window_at, fits_on, first_fitting, scale_of, IsScale, IsWindow}
 use Rattle.mf_frame.proofs.Floors.{cell-le, cell_in_field, cell_at_greatest, line-within, line-le}
 
--- the columns and lines of a box of the field
+-- the columns, rows and lines of the cells of a box of the field: their numbers are those of columns and rows of the field
 pub record IsWindowOfField (b : Box4) (s : ℤ) : Type 0 where
   pub first_column : IsColumnOrRow (cell_of s b.min_x)
   pub last_column : IsColumnOrRow (cell_of s b.max_x)
