@@ -1,11 +1,9 @@
 //! Commands, made from the values of lines, and the refusals of these values.
-ghost use Rattle.std.specs.Prelude.{◌≡◌, ◌≢◌, ◌≤◌, List, IfOk, IfErr, length};
-ghost use Rattle.mf_geom.specs.declared.point.Point.{Point};
+ghost use Rattle.std.specs.Prelude.{◌≡◌, IfOk, IfErr};
 ghost use Rattle.mf_ops.specs.ContourWeight.{IsContourWeight};
-ghost use Rattle.mf_geom.specs.Lawful.{most_points};
 ghost use Rattle.mf_text.specs.Grammar as grammar;
-ghost use Rattle.mf_text.specs.Grammar.{weight_value};
-ghost use Rattle.mf_text.specs.Meaning.{AWeight, IsAnswerOf, IsUnlawful, Means, Refuses, check_of, contour_meaning, scale_meaning};
+ghost use Rattle.mf_text.specs.Grammar.{path_value, weight_value};
+ghost use Rattle.mf_text.specs.Meaning.{AWeight, IsAnswerOf, IsUnlawful, Means, Refuses, check_of, scale_meaning};
 ghost use Rattle.mf_text.specs.Reads.{HasPoints};
 
 use crate::command::{Command, Name};
@@ -19,10 +17,7 @@ use mf_ops::{Cull, Quarter, Scale, Weight};
 /// The command of a contour. Refused, in this order, with `TooManyPoints`, with `OutOfMemory` where an allocation failed for a
 /// point, with another fault of the points, or with `BadWeight`.
 pub fn contour_command(name: Name, path: Path, weight: Option<Int>) -> Result<Command, TextFault>
-    ensures given { IfOk result (λ command. (points : List Point) → HasPoints path points → Means (contour_meaning name points (weight_value weight)) command) }
-    ensures refused { IfErr result (λ fault. fault ≢ TextFault.OutOfMemory → (points : List Point)
-        → HasPoints path points → Refuses (contour_meaning name points (weight_value weight)) fault) }
-    ensures few { IfErr result (λ fault. fault ≡ TextFault.OutOfMemory → (points : List Point) → HasPoints path points → length points ≤ most_points) }
+    ensures { (tree : grammar.Path) → HasPoints path (path_value tree) → IsAnswerOf (grammar.AddContour name tree weight) result }
 {
     if path.corners > MAX_POINTS {
         return Err(TextFault::Cycle(CycleFault::TooManyPoints));
@@ -36,8 +31,7 @@ fn contour_through(
     points: Vec<Point>,
     weight: Option<Int>,
 ) -> Result<Command, TextFault>
-    ensures given { IfOk result (Means (contour_meaning name points.items (weight_value weight))) }
-    ensures refused { IfErr result (Refuses (contour_meaning name points.items (weight_value weight))) }
+    ensures { (tree : grammar.Path) → points.items ≡ path_value tree → IsAnswerOf (grammar.AddContour name tree weight) result }
 {
     let cycle = match Cycle::new(points) {
         Ok(cycle) => cycle,

@@ -3,5 +3,5 @@ use Rattle.mf_geom.proofs.FirstFaults.{form_fault-many}
 use Rattle.mf_text.proofs.value.contour_command.Goals as goal
 use Rattle.std.proofs.lemmas.Int.{ints}
 
-pub returns-then-path-gt-MAX_POINTS-clause-refused : goal.returns-then-path-gt-MAX_POINTS-clause-refused
-returns-then-path-gt-MAX_POINTS-clause-refused c memory points is = grind (arith, ints, form_fault-many)
+pub returns-then-path-gt-MAX_POINTS : goal.returns-then-path-gt-MAX_POINTS
+returns-then-path-gt-MAX_POINTS c tree is = grind (arith, ints, form_fault-many)
