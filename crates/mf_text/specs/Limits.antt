@@ -6,10 +6,11 @@ use Rattle.std.specs.Prelude.{ℕ}
 abbrev pub longest_line : ℕ
 longest_line = 65536
 
--- the greatest number of digits of a number, and the least number that has more of them
+-- the greatest number of digits of a number
 abbrev pub most_digits : ℕ
 most_digits = 9
 
+-- the least number that has more digits
 abbrev pub number_bound : ℕ
 number_bound = 1000000000
 
@@ -17,13 +18,15 @@ number_bound = 1000000000
 abbrev pub greatest_code : ℕ
 greatest_code = 255
 
--- the blanks, and the last printed byte of ASCII, of which the space is the first
+-- the tab, one of the two blanks
 abbrev pub tab : ℕ
 tab = 9
 
+-- the space, the other blank and the first printed byte of ASCII
 abbrev pub space : ℕ
 space = 32
 
+-- the last printed byte of ASCII, `~`
 abbrev pub last_printed : ℕ
 last_printed = 126
 
@@ -31,9 +34,10 @@ last_printed = 126
 abbrev pub percent_sign : ℕ
 percent_sign = 37
 
--- the first and the last letter that is a token
+-- the first letter that is a token
 abbrev pub letter_a : ℕ
 letter_a = 97
 
+-- the last letter that is a token
 abbrev pub letter_z : ℕ
 letter_z = 122

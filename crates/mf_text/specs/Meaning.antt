@@ -105,13 +105,13 @@ pub record IsUnlawful (value : Value) (refused : TextFault) : Type 0 where
   pub unlawful : IsLawfulValue value → ⊥
   pub is : HasRefusal value refused
 
--- the command that a meaning gives, where all of its checks pass
+-- all checks of the meaning pass, and this is its command
 abbrev pub Means : Meaning → Command → Type 0
 Means (Is made) given = given ≡ made
 Means (If value rest) given = IsLawfulValue value × Means rest given
 Means (Turns name angle) given = IsTurn name angle given
 
--- the refusal of the first value that is not lawful
+-- this is the refusal of the first value of the meaning that is not lawful
 abbrev pub Refuses : Meaning → TextFault → Type 0
 Refuses (Is made) refused = ⊥
 Refuses (If value rest) refused = IsUnlawful value refused ⊎ (IsLawfulValue value × Refuses rest refused)
