@@ -87,27 +87,28 @@ are_tokens line = cut-within (length line) 1 line (omega arith)
 
 -- ---- in one way only
 
-blanks_passed : (column : ℕ) (blanks rest : List ℕ) → All blank_byte blanks → tokens_from column (blanks ++ rest) ≡ tokens_from (column + length blanks) rest
+tokens_from-blanks : (column : ℕ) (blanks rest : List ℕ) → All blank_byte blanks
+    → tokens_from column (blanks ++ rest) ≡ tokens_from (column + length blanks) rest
 unfolding tokens_from tokens_within
-blanks_passed column [] rest all = ap (λ n. tokens_from n rest) (omega arith)
-blanks_passed column (b ∷ bs) rest all = grind (arith, ints, All-tail, All-head, blanks_passed (column + 1) bs rest (All-tail blank_byte b bs all))
+tokens_from-blanks column [] rest all = ap (λ n. tokens_from n rest) (omega arith)
+tokens_from-blanks column (b ∷ bs) rest all = grind (arith, ints, All-tail, All-head, tokens_from-blanks (column + 1) bs rest (All-tail blank_byte b bs all))
 
-none_left : (column : ℕ) (rest : List ℕ) → IsEnd rest → tokens_from column rest ≡ []
+tokens_from-end : (column : ℕ) (rest : List ℕ) → IsEnd rest → tokens_from column rest ≡ []
 unfolding tokens_from tokens_within
-none_left column [] end = refl
-none_left column (b ∷ bs) end = tokens_at_comment column (b ∷ bs) (omega arith) end
+tokens_from-end column [] end = refl
+tokens_from-end column (b ∷ bs) end = tokens_at_comment column (b ∷ bs) (omega arith) end
 
-one_passed : (p : PlacedToken) (text rest : List ℕ) → IsTokenText p.token text rest → BeginsToken text → p.after ≡ p.column + length text
+tokens_from-text : (p : PlacedToken) (text rest : List ℕ) → IsTokenText p.token text rest → BeginsToken text → p.after ≡ p.column + length text
     → tokens_from p.column (text ++ rest) ≡ p ∷ tokens_from p.after rest
-one_passed p [] rest is begun after = absurd (omega (arith, begun.some))
-one_passed p (b ∷ bs) rest is begun after =
+tokens_from-text p [] rest is begun after = absurd (omega (arith, begun.some))
+tokens_from-text p (b ∷ bs) rest is begun after =
     tokens-step p.column b (bs ++ rest) begun.clear begun.no_comment ∙ rw (text_first p.token (b ∷ bs) rest is, drop-append_seam (b ∷ bs) rest, sym after) refl
 
 -- bytes are cut into these tokens alone
 pub one_cut : (column : ℕ) (bs : List ℕ) (ps : List PlacedToken) → AreTokens column bs ps → ps ≡ tokens_from column bs
-one_cut column bs [] end = grind (arith, ints, blanks_passed, none_left)
+one_cut column bs [] end = grind (arith, ints, tokens_from-blanks, tokens_from-end)
 one_cut column bs (p ∷ ps) (cut, later) =
     let xs : List ℕ = cut.text ++ cut.rest in
     ap (λ (qs : List PlacedToken). p ∷ qs) (one_cut p.after cut.rest ps later)
-    ∙ sym (one_passed p cut.text cut.rest cut.token (begins p.token cut.text cut.rest cut.token) cut.after_is) ∙ ap (λ n. tokens_from n xs) cut.column_is
-    ∙ sym (blanks_passed column cut.blanks xs cut.blank) ∙ sym (ap (tokens_from column) cut.parts)
+    ∙ sym (tokens_from-text p cut.text cut.rest cut.token (begins p.token cut.text cut.rest cut.token) cut.after_is) ∙ ap (λ n. tokens_from n xs) cut.column_is
+    ∙ sym (tokens_from-blanks column cut.blanks xs cut.blank) ∙ sym (ap (tokens_from column) cut.parts)

@@ -17,7 +17,7 @@ use Rattle.mf_text.specs.Limits.{most_digits}
 use Rattle.mf_text.specs.Token.{value_in}
 use Rattle.mf_text.specs.Token as token
 use Rattle.mf_text.specs.Tokens.{Finds, first_token, number_token}
-use Rattle.mf_text.proofs.Found.{number_lacking}
+use Rattle.mf_text.proofs.Finds.{no_number}
 use Rattle.mf_text.proofs.TokenTexts.{digits_first}
 
 -- ---- the number of the digits at the front of a text
@@ -59,21 +59,21 @@ number-more text i value to inside digit not_last =
       more = grind (arith, ints, digit_goes_on);
     }
 
-number-ends : (text : List ℕ) (i value : ℕ) → IsNumberTo text i value → i ≡ prefix_len is_ascii_digit text
+number_token_is : (text : List ℕ) (i value : ℕ) → IsNumberTo text i value → i ≡ prefix_len is_ascii_digit text
     → token.Number value ≡ number_token (take_while is_ascii_digit text)
 unfolding number_token
-number-ends text i value to ends = grind (arith, ints, le-leb, length-take-le, prefix_len-le-length)
+number_token_is text i value to ends = grind (arith, ints, le-leb, length-take-le, prefix_len-le-length)
 
-pub number-whole : (text : List ℕ) (i value : ℕ) → IsNumberTo text i value → length text ≤ i → i ≡ prefix_len is_ascii_digit text
-number-whole text i value to ended = omega (arith, to.in_prefix, ended, prefix_len-le-length is_ascii_digit text)
+pub number_at_end : (text : List ℕ) (i value : ℕ) → IsNumberTo text i value → length text ≤ i → i ≡ prefix_len is_ascii_digit text
+number_at_end text i value to ended = omega (arith, to.in_prefix, ended, prefix_len-le-length is_ascii_digit text)
 
 -- the number that is found once all of its digits are passed
-pub number-found : (text : List ℕ) (i value : ℕ) → IsNumberTo text i value → i ≡ prefix_len is_ascii_digit text
+pub finds_number : (text : List ℕ) (i value : ℕ) → IsNumberTo text i value → i ≡ prefix_len is_ascii_digit text
     → Finds value_in text (if nat_lt 0 i then Some (value, i) else None)
-number-found text i value to ends =
-    grind (arith, ints, cond_both, digits_first, ltb-true, number_lacking, ltb-false, length-prefix_len, number-ends, prefix_len-le-length)
+finds_number text i value to ends =
+    grind (arith, ints, cond_both, digits_first, ltb-true, no_number, ltb-false, length-prefix_len, number_token_is, prefix_len-le-length)
 
 -- with a tenth digit there is no number
-pub number-long : (text : List ℕ) (i value : ℕ) → IsNumberTo text i value → i ≡ most_digits → i < length text
+pub no_long_number : (text : List ℕ) (i value : ℕ) → IsNumberTo text i value → i ≡ most_digits → i < length text
     → is_ascii_digit (get_or text i 0) ≡ true → value_in (first_token text).token ≡ None
-number-long text i value to last inside digit = number_lacking text (λ some few. omega (arith, few, last, digit_goes_on text i to.in_prefix inside digit))
+no_long_number text i value to last inside digit = no_number text (λ some few. omega (arith, few, last, digit_goes_on text i to.in_prefix inside digit))

@@ -8,12 +8,12 @@ use Rattle.mf_text.specs.Reads.{TakesToken, TakesValue, ahead, next_value, remai
 use Rattle.mf_text.specs.Token.{Ahead, Token, Unknown, this_in}
 use Rattle.mf_text.specs.Tokens.{IsClear, first_token, mark_among, token_at, tokens_from}
 use Rattle.mf_text.proofs.LineTokens.{tokens_at_comment, tokens_at_end, tokens-step}
-use Rattle.mf_text.proofs.Reading.{fewer, this_missed, this_passed}
+use Rattle.mf_text.proofs.Reading.{next_value_fewer, from_or_none, from_or}
 
 -- the token at the front is the first that remains, unless none does
 data IsAtFront (column : ℕ) (text : List ℕ) : Type 0 where
   Ended : tokens_from column text ≡ [] → (first_token text).token ≡ Unknown → IsAtFront column text
-  Starts : tokens_from column text ≡ token_at column (first_token text) ∷ tokens_from (column + (first_token text).bytes) (drop (first_token text).bytes text)
+  Remains : tokens_from column text ≡ token_at column (first_token text) ∷ tokens_from (column + (first_token text).bytes) (drop (first_token text).bytes text)
       → IsAtFront column text
 
 first : (column : ℕ) (text : List ℕ) → IsClear text → IsAtFront column text
@@ -36,25 +36,25 @@ module _ (old : Tokens) (column : ℕ) (text : List ℕ) (same : remaining_token
   module _ {A : Type 0} (f : Token → Option A) (none : f Unknown ≡ None) where
     value_at : (v : Option A) → f (first_token text).token ≡ v → IsAtFront column text → next_value f (remaining_tokens old) ≡ option_map (λ a. (a, onward)) v
     value_at v is (Ended ended unknown) = ap (next_value f) (same ∙ ended) ∙ ap (option_map (λ a. (a, onward))) (sym none ∙ sym (ap f unknown) ∙ is)
-    value_at v is (Starts starts) = ap (next_value f) (same ∙ starts) ∙ ap (option_map (λ a. (a, onward))) is
+    value_at v is (Remains remains) = ap (next_value f) (same ∙ remains) ∙ ap (option_map (λ a. (a, onward))) is
 
-    pub value_missed : f (first_token text).token ≡ None → TakesValue f old old None
-    value_missed is = (value_at None is (first column text clear), refl)
+    pub takes_no_value : f (first_token text).token ≡ None → TakesValue f old old None
+    takes_no_value is = (value_at None is (first column text clear), refl)
 
-    pub value_taken : (a : A) (new : Tokens) (n : ℕ) → (f (first_token text).token ≡ Some a) × (n ≡ bytes) × (n ≤ length text)
+    pub takes_value : (a : A) (new : Tokens) (n : ℕ) → (f (first_token text).token ≡ Some a) × (n ≡ bytes) × (n ≤ length text)
         → new.rest.now ≡ drop n text → new.column ≡ column + n → TakesValue f old new (Some a)
-    value_taken a new n (found, size, _) rest column_is =
+    takes_value a new n (found, size, _) rest column_is =
         value_at (Some a) found (first column text clear) ∙ ap (λ after. Some (a, after)) (onward_is new n size rest column_is)
 
   -- a token that is at the front
   module _ (u : Token) (none : this_in u Unknown ≡ None) where
-    pub token_taken : (new : Tokens) (n : ℕ) → (this_in u (first_token text).token ≡ Some tt) × (n ≡ bytes) × (n ≤ length text)
+    pub takes_token : (new : Tokens) (n : ℕ) → (this_in u (first_token text).token ≡ Some tt) × (n ≡ bytes) × (n ≤ length text)
         → new.rest.now ≡ drop n text → new.column ≡ column + n → TakesToken u old new true
-    token_taken = value_taken (this_in u) none tt
+    takes_token = takes_value (this_in u) none tt
 
-    pub token_fewer : (new : Tokens) (n : ℕ) → (this_in u (first_token text).token ≡ Some tt) × (n ≡ bytes) × (n ≤ length text)
+    pub leaves_fewer : (new : Tokens) (n : ℕ) → (this_in u (first_token text).token ≡ Some tt) × (n ≡ bytes) × (n ≤ length text)
         → new.rest.now ≡ drop n text → new.column ≡ column + n → length (remaining_tokens new) < length (remaining_tokens old)
-    token_fewer new n found rest column_is = fewer (this_in u) tt (remaining_tokens old) (ahead new) (token_taken new n found rest column_is)
+    leaves_fewer new n found rest column_is = next_value_fewer (this_in u) tt (remaining_tokens old) (ahead new) (takes_token new n found rest column_is)
 
 -- what the search needs where a given token is taken, or is not there
-pub ruleset this_taken = (value_missed, token_taken, this_passed, this_missed)
+pub ruleset takes_this = (takes_no_value, takes_token, from_or, from_or_none)

@@ -1,7 +1,7 @@
 pub mod Cuts
 pub mod Digits
 pub mod FirstTokens
-pub mod Found
+pub mod Finds
 pub mod LineAnswers
 pub mod LineReading
 pub mod LineTokens

@@ -50,22 +50,22 @@ of_values fault of = ((λ e. cc), λ bytes bad. bad)
 -- ---- the answer
 
 -- this is the answer to a line: a command that it gives, or its refusal
-abbrev Answered : List ℕ → Result Command TextFault → Type 0
-Answered bytes r = IfOk r (Gives bytes) × IfErr r (IsRefused bytes)
+abbrev IsAnswerTo : List ℕ → Result Command TextFault → Type 0
+IsAnswerTo bytes r = IfOk r (Gives bytes) × IfErr r (IsRefused bytes)
 
-form-answered : (line : List ℕ) (l : Line) (r : Result Command TextFault) → IsLineOf line l → IsAnswerOf l.form r → Answered line r
-form-answered bytes l (Ok given) is answer = (record { line = l; line_is = is; so = answer }, tt)
-form-answered bytes l (Err faults.OutOfMemory) is answer = (tt, record { line = l; line_is = is; so = answer })
-form-answered bytes l (Err fault) is answer =
+answer_of_form : (line : List ℕ) (l : Line) (r : Result Command TextFault) → IsLineOf line l → IsAnswerOf l.form r → IsAnswerTo line r
+answer_of_form bytes l (Ok given) is answer = (record { line = l; line_is = is; so = answer }, tt)
+answer_of_form bytes l (Err faults.OutOfMemory) is answer = (tt, record { line = l; line_is = is; so = answer })
+answer_of_form bytes l (Err fault) is answer =
     (tt, (of_values fault (refusals_of_values (meaning l.form) fault answer)).1 bytes (record { line = l; line_is = is; so = answer }))
 
-read_answered : (line_bytes : List ℕ) (o : Result Line ℕ) (r : Result Command TextFault) → IsText line_bytes
-    → from line (line_ahead line_bytes) ≡ o → AnswersLine o r → Answered line_bytes r
-read_answered bytes (Ok l) r text is answer = form-answered bytes l r (record { text = text; spelled = is_line (line_ahead bytes) l is }) answer
-read_answered bytes (Err column) r text is answer = subst (Answered bytes) (sym answer) (tt, (text, goes_wrong bytes column is))
+answer_of_reading : (line_bytes : List ℕ) (o : Result Line ℕ) (r : Result Command TextFault) → IsText line_bytes
+    → from line (line_ahead line_bytes) ≡ o → AnswersLine o r → IsAnswerTo line_bytes r
+answer_of_reading bytes (Ok l) r text is answer = answer_of_form bytes l r (record { text = text; spelled = is_line (line_ahead bytes) l is }) answer
+answer_of_reading bytes (Err column) r text is answer = subst (IsAnswerTo bytes) (sym answer) (tt, (text, goes_wrong bytes column is))
 
-pub answered : (bytes : List ℕ) (start : Tokens) (r : Result Command TextFault) → IsText bytes → remaining_tokens start ≡ tokens bytes → start.column ≡ 1
-    → AnswersLine (from line (ahead start)) r → Answered bytes r
-answered bytes start r text tokens_are column_is answer =
+pub answer_of_line : (bytes : List ℕ) (start : Tokens) (r : Result Command TextFault) → IsText bytes → remaining_tokens start ≡ tokens bytes → start.column ≡ 1
+    → AnswersLine (from line (ahead start)) r → IsAnswerTo bytes r
+answer_of_line bytes start r text tokens_are column_is answer =
     let same : ahead start ≡ line_ahead bytes = rw (tokens_are, column_is) refl in
-    read_answered bytes (from line (line_ahead bytes)) r text refl (subst (λ a. AnswersLine (from line a) r) same answer)
+    answer_of_reading bytes (from line (line_ahead bytes)) r text refl (subst (λ a. AnswersLine (from line a) r) same answer)

@@ -11,21 +11,21 @@ use Rattle.mf_text.specs.Token.{Ahead, PlacedToken, Token, ahead_after, token_co
 use Rattle.mf_text.specs.Grammar.{Line, spell_line}
 use Rattle.mf_text.specs.Lines.{line_ahead}
 use Rattle.mf_text.specs.Rests.{Rest, ends, follow, from, is_code_number, step, line}
-use Rattle.mf_text.specs.Syntax.{StartsLine, IsSyntaxFault, IsWrongAt, is_negative_code, report_place}
+use Rattle.mf_text.specs.Syntax.{IsLinePrefix, IsSyntaxFault, IsWrongAt, is_negative_code, report_place}
 use Rattle.mf_text.specs.Tokens.{without_columns, tokens}
 use Rattle.mf_text.specs.TokenTexts.{AreTokens, IsTokenText}
 use Rattle.mf_text.proofs.Cuts.{are_tokens}
 use Rattle.mf_text.proofs.Rests.{CanGoOn, is_code_number_at, line_to, rest_ends, reads}
-use Rattle.mf_text.proofs.Sound.{coded, spelled, spells_line}
+use Rattle.mf_text.proofs.Sound.{is_coded, spell_line_is, spells_line}
 use Rattle.mf_text.proofs.TokenTexts.{mark_length}
 
 -- ---- lines are what is read
 
 pub read_is_line : (ts : List Token) (l : Line) → reads (Some line) ts ≡ Some l → ts ≡ spell_line l
-read_is_line ts l is = sym (spelled ts [] line l spells_line is)
+read_is_line ts l is = sym (spell_line_is ts [] line l spells_line is)
 
 pub line_is_read : (ts : List Token) (l : Line) → ts ≡ spell_line l → reads (Some line) ts ≡ Some l
-line_is_read ts l is = let some = line_to l in ap (reads (Some line)) (is ∙ spelled some.tokens [] line l spells_line some.read) ∙ some.read
+line_is_read ts l is = let some = line_to l in ap (reads (Some line)) (is ∙ spell_line_is some.tokens [] line l spells_line some.read) ∙ some.read
 
 -- a list of tokens is at most one line
 pub same_line : (l m : Line) → spell_line l ≡ spell_line m → l ≡ m
@@ -37,17 +37,17 @@ goes_on_or_not None ts = inr (λ on. none-some on.1.0 on.1.1)
 goes_on_or_not (Some r) [] = inl (rest_ends r)
 goes_on_or_not (Some r) (t ∷ ts) = goes_on_or_not (step r t) ts
 
-starts : (ts : List Token) → CanGoOn (Some line) ts → StartsLine ts
-starts ts on = record { rest = on.0; line = record { tree = on.1.0; spelled = read_is_line (ts ++ on.0) on.1.0 on.1.1 } }
+is_line_prefix : (ts : List Token) → CanGoOn (Some line) ts → IsLinePrefix ts
+is_line_prefix ts on = record { rest = on.0; line = record { tree = on.1.0; spelled = read_is_line (ts ++ on.0) on.1.0 on.1.1 } }
 
-goes_on : (ts : List Token) → StartsLine ts → CanGoOn (Some line) ts
-goes_on ts begun = (begun.rest, (begun.line.tree, line_is_read (ts ++ begun.rest) begun.line.tree begun.line.spelled))
+prefix_goes_on : (ts : List Token) → IsLinePrefix ts → CanGoOn (Some line) ts
+prefix_goes_on ts prefix = (prefix.rest, (prefix.line.tree, line_is_read (ts ++ prefix.rest) prefix.line.tree prefix.line.spelled))
 
-pub starts_or_not : (ts : List Token) → StartsLine ts ⊎ (StartsLine ts → ⊥)
-starts_or_not ts =
+pub line_prefix_or_not : (ts : List Token) → IsLinePrefix ts ⊎ (IsLinePrefix ts → ⊥)
+line_prefix_or_not ts =
     elim (goes_on_or_not (Some line) ts) [
-      | inl on ↦ inl (starts ts on)
-      | inr ends_here ↦ inr (λ begun. ends_here (goes_on ts begun))
+      | inl on ↦ inl (is_line_prefix ts on)
+      | inr ends_here ↦ inr (λ prefix. ends_here (prefix_goes_on ts prefix))
     ]
 
 -- ---- where tokens go wrong
@@ -58,15 +58,15 @@ record Wrong (r : Option Rest) (ts : List Token) (k : ℕ) : Type 0 where
   wrong : k < length ts → CanGoOn r (take (suc k) ts) → ⊥
   unended : k ≡ length ts → (l : Line) → reads r ts ≡ Some l → ⊥
 
--- the column that is reported of the next token
-abbrev reported : Bool → Ahead → ℕ
-reported is_coded ahead = if is_coded then ahead.past - 1 else column_of ahead.tokens ahead.past
+-- the column that is report_column of the next token
+abbrev report_column : Bool → Ahead → ℕ
+report_column is_coded ahead = if is_coded then ahead.past - 1 else column_of ahead.tokens ahead.past
 
--- the tokens that must be this rest go wrong, which is reported at this column
+-- the tokens that must be this rest go wrong, which is report_column at this column
 record Stops (r : Rest) (past : ℕ) (ps : List PlacedToken) (column : ℕ) : Type 0 where
   place : ℕ
   at : Wrong (Some r) (without_columns ps) place
-  column_is : column ≡ reported (is_code_number_at (Some r) (without_columns ps) place) (ahead_after place ps past)
+  column_is : column ≡ report_column (is_code_number_at (Some r) (without_columns ps) place) (ahead_after place ps past)
 
 at_end : (r : Rest) (past column : ℕ) (end : Option Line) → ends r ≡ end → ok_or end past ≡ Err column → Stops r past [] column
 unfolding reads is_code_number_at
@@ -78,14 +78,14 @@ unfolding reads
 later r t ts k wrong = grind (arith, ints)
 
 at_token : (r : Rest) (past : ℕ) (t : PlacedToken) (ps : List PlacedToken) (column : ℕ) (q : Option Rest) → step r t.token ≡ q
-    → follow (ok_or q (reported (is_code_number r t.token) (record { tokens = t ∷ ps; past = past }))) t.after ps ≡ Err column
+    → follow (ok_or q (report_column (is_code_number r t.token) (record { tokens = t ∷ ps; past = past }))) t.after ps ≡ Err column
     → ((s : Rest) → follow (Ok s) t.after ps ≡ Err column → Stops s t.after ps column) → Stops r past (t ∷ ps) column
 unfolding reads is_code_number_at follow
 at_token r past t ps column None is wrong after_it = grind (arith, ints, rest_ends, none-some, reads)
 at_token r past t ps column (Some s) is wrong after_it = let stops = after_it s wrong in record {
   place = suc stops.place;
   at = later r t.token (without_columns ps) stops.place (subst (λ q. Wrong q (without_columns ps) stops.place) (sym is) stops.at);
-  column_is = stops.column_is ∙ ap (λ q. reported (is_code_number_at q (without_columns ps) stops.place) (ahead_after stops.place ps t.after)) (sym is);
+  column_is = stops.column_is ∙ ap (λ q. report_column (is_code_number_at q (without_columns ps) stops.place) (ahead_after stops.place ps t.after)) (sym is);
 }
 
 stops : (r : Rest) (past : ℕ) (ps : List PlacedToken) (column : ℕ) → follow (Ok r) past ps ≡ Err column → Stops r past ps column
@@ -93,7 +93,7 @@ unfolding follow
 stops r past [] column is = at_end r past column (ends r) refl is
 stops r past (t ∷ ps) column is = at_token r past t ps column (step r t.token) refl is (λ s. stops s t.after ps column)
 
--- ---- a number after `code -` is reported at the `-`
+-- ---- a number after `code -` is report_column at the `-`
 
 negative_shows : (ts us : List Token) (l : Line) → is_negative_code ts ≡ true → reads (Some line) (take 4 ts ++ us) ≡ Some l
     → is_code_number_at (Some line) ts 4 ≡ true
@@ -133,17 +133,17 @@ module _ (bytes : List ℕ) (column : ℕ) (found : Stops line 1 (tokens bytes) 
   wrong_at : IsWrongAt ts found.place
   wrong_at = let at = found.at in record {
     within = at.within;
-    starts = starts (take found.place ts) at.before;
-    wrong = λ more begun. at.wrong more (goes_on (take (suc found.place) ts) begun);
+    before = is_line_prefix (take found.place ts) at.before;
+    wrong = λ more prefix. at.wrong more (prefix_goes_on (take (suc found.place) ts) prefix);
     unended = λ whole line. at.unended whole line.tree (line_is_read ts line.tree line.spelled);
   }
 
   abbrev chosen : Bool → ℕ
-  chosen shows = reported shows (ahead_after found.place ahead.tokens 1)
+  chosen shows = report_column shows (ahead_after found.place ahead.tokens 1)
 
   shows_before : is_shown ≡ true → column ≡ token_column ahead (report_place ts found.place)
   shows_before shows =
-      let coded = coded ts [] line found.place spells_line shows in
+      let coded = is_coded ts [] line found.place spells_line shows in
       let fourth : found.place ≡ 4 = omega (arith, coded.1) in
       let third : report_place ts found.place ≡ 3 = rw (coded.0, fourth) refl in
       found.column_is ∙ ap chosen shows ∙ ap (λ k. (ahead_after k ahead.tokens 1).past - 1) fourth
@@ -176,7 +176,7 @@ follows r past [] l is = end_is (ends r) is where
   end_is None other = absurd (let wrong = other in cc)
   end_is (Some m) same = cc
 follows r past (t ∷ ps) l is = on_to (step r t.token) is (λ s. follows s t.after ps l) where
-  on_to : (q : Option Rest) → follow (ok_or q (reported (is_code_number r t.token) (record { tokens = t ∷ ps; past = past }))) t.after ps ≡ Ok l
+  on_to : (q : Option Rest) → follow (ok_or q (report_column (is_code_number r t.token) (record { tokens = t ∷ ps; past = past }))) t.after ps ≡ Ok l
       → ((s : Rest) → follow (Ok s) t.after ps ≡ Ok l → reads (Some s) (without_columns ps) ≡ Some l) → reads q (without_columns ps) ≡ Some l
   on_to None other later = absurd (let wrong = other in cc)
   on_to (Some s) is later = later s is

@@ -15,8 +15,8 @@ pub record TakesSome (n : ℕ) (t : SizedToken) : Type 0 where
   pub some : 0 < t.bytes
   pub within : t.bytes ≤ n
 
-pub first_taken : (b : ℕ) (bs : List ℕ) → TakesSome (suc (length bs)) (first_token (b ∷ bs))
-first_taken b bs = by_front (front (b ∷ bs)) where
+pub first_takes_some : (b : ℕ) (bs : List ℕ) → TakesSome (suc (length bs)) (first_token (b ∷ bs))
+first_takes_some b bs = by_front (front (b ∷ bs)) where
   by_front : Front (b ∷ bs) → TakesSome (suc (length bs)) (first_token (b ∷ bs))
   by_front (Text t text rest parts is) =
       subst (TakesSome (suc (length bs))) (sym (ap first_token parts ∙ text_first t text rest is))
@@ -28,7 +28,7 @@ first_taken b bs = by_front (front (b ∷ bs)) where
 
 -- fewer bytes are left after the first token
 pub rest_shorter : (b : ℕ) (bs : List ℕ) → length (drop (first_token (b ∷ bs)).bytes (b ∷ bs)) ≤ length bs
-rest_shorter b bs = omega (arith, first_taken b bs, length-drop (first_token (b ∷ bs)).bytes (b ∷ bs))
+rest_shorter b bs = omega (arith, first_takes_some b bs, length-drop (first_token (b ∷ bs)).bytes (b ∷ bs))
 
 -- any number of steps that is at least the number of bytes finds the same tokens
 tokens_within-same : (m n column : ℕ) (bs : List ℕ) → length bs ≤ m → length bs ≤ n → tokens_within m column bs ≡ tokens_within n column bs

@@ -12,7 +12,7 @@ use Rattle.mf_text.specs.declared.fault.TextFault.TheVariants as faults
 use Rattle.mf_text.specs.Grammar.{Form, Line}
 use Rattle.mf_text.specs.Lines.{IsText, line_ahead, IsLineOf, IsLineWith, Gives, IsRefused, is_text_byte, longest_line}
 use Rattle.mf_text.specs.Meaning.{Value, Points, Angle, Meaning, Is, If, Turns, IsUnlawful, Means, Refuses, meaning, Command, TextFault}
-use Rattle.mf_text.specs.Syntax.{IsLine, IsSyntaxFault, IsWrongAt, StartsLine, report_place}
+use Rattle.mf_text.specs.Syntax.{IsLine, IsLinePrefix, IsSyntaxFault, IsWrongAt, report_place}
 use Rattle.mf_text.specs.Token.{Ahead, Token, token_column}
 use Rattle.mf_text.specs.Tokens.{without_columns}
 use Rattle.mf_text.proofs.LineReading.{same_line}
@@ -25,22 +25,22 @@ same_angle Twice Twice same = refl
 same_angle Thrice Thrice same = refl
 same_angle one other same = absurd (omega (arith, ints))
 
-one_meant : (m : Meaning) (one other : Command) → Means m one → Means m other → one ≡ other
-one_meant (Is made) one other p q = cc
-one_meant (If value rest) one other p q = one_meant rest one other p.1 q.1
-one_meant (Turns name angle) one other p q = p.is ∙ ap (command.Quarter name) (same_angle p.quarter q.quarter (p.angle_is ∙ sym q.angle_is)) ∙ sym q.is
+one_command : (m : Meaning) (one other : Command) → Means m one → Means m other → one ≡ other
+one_command (Is made) one other p q = cc
+one_command (If value rest) one other p q = one_command rest one other p.1 q.1
+one_command (Turns name angle) one other p q = p.is ∙ ap (command.Quarter name) (same_angle p.quarter q.quarter (p.angle_is ∙ sym q.angle_is)) ∙ sym q.is
 
-one_unlawful : (value : Value) (one other : TextFault) → IsUnlawful value one → IsUnlawful value other → one ≡ other
-one_unlawful (Points points) one other p q = grind (arith, ints)
-one_unlawful value one other p q = p.is ∙ sym q.is
+one_fault : (value : Value) (one other : TextFault) → IsUnlawful value one → IsUnlawful value other → one ≡ other
+one_fault (Points points) one other p q = grind (arith, ints)
+one_fault value one other p q = p.is ∙ sym q.is
 
-one_refused : (m : Meaning) (one other : TextFault) → Refuses m one → Refuses m other → one ≡ other
-one_refused (Is made) one other p q = absurd p
-one_refused (If value rest) one other (inl p) (inl q) = one_unlawful value one other p q
-one_refused (If value rest) one other (inl p) (inr q) = absurd (p.unlawful q.0)
-one_refused (If value rest) one other (inr p) (inl q) = absurd (q.unlawful p.0)
-one_refused (If value rest) one other (inr p) (inr q) = one_refused rest one other p.1 q.1
-one_refused (Turns name angle) one other p q = one_unlawful (Angle angle) one other p q
+one_refusal : (m : Meaning) (one other : TextFault) → Refuses m one → Refuses m other → one ≡ other
+one_refusal (Is made) one other p q = absurd p
+one_refusal (If value rest) one other (inl p) (inl q) = one_fault value one other p q
+one_refusal (If value rest) one other (inl p) (inr q) = absurd (p.unlawful q.0)
+one_refusal (If value rest) one other (inr p) (inl q) = absurd (q.unlawful p.0)
+one_refusal (If value rest) one other (inr p) (inr q) = one_refusal rest one other p.1 q.1
+one_refusal (Turns name angle) one other p q = one_fault (Angle angle) one other p q
 
 not_both : (m : Meaning) (given : Command) (fault : TextFault) → Means m given → Refuses m fault → ⊥
 not_both (Is made) given fault p q = q
@@ -50,18 +50,18 @@ not_both (Turns name angle) given fault p q = q.unlawful (p.quarter, p.angle_is)
 
 -- ---- where tokens go wrong
 
-starts_front : (ts us : List Token) → StartsLine (ts ++ us) → StartsLine ts
-starts_front ts us begun = grind (arith, ints, append_assoc)
+shorter_prefix : (ts us : List Token) → IsLinePrefix (ts ++ us) → IsLinePrefix ts
+shorter_prefix ts us prefix = grind (arith, ints, append_assoc)
 
--- where some line begins with tokens, one begins with each prefix of them
-starts-sooner : (ts : List Token) (j k : ℕ) → j ≤ k → StartsLine (take k ts) → StartsLine (take j ts)
-starts-sooner ts j k below begun =
+-- what is a prefix of a prefix of a line is one of the line
+prefix-take : (ts : List Token) (j k : ℕ) → j ≤ k → IsLinePrefix (take k ts) → IsLinePrefix (take j ts)
+prefix-take ts j k below prefix =
     let parts = take-append-drop j (take k ts) in
-    subst StartsLine (take-take j k ts below) (starts_front (take j (take k ts)) (drop j (take k ts)) (subst StartsLine (sym parts) begun))
+    subst IsLinePrefix (take-take j k ts below) (shorter_prefix (take j (take k ts)) (drop j (take k ts)) (subst IsLinePrefix (sym parts) prefix))
 
 -- tokens do not go wrong at two places
 not_before : (ts : List Token) (j k : ℕ) → IsWrongAt ts j → IsWrongAt ts k → j < k → ⊥
-not_before ts j k p q before = let within = q.within in p.wrong (omega arith) (starts-sooner ts (suc j) k (omega arith) q.starts)
+not_before ts j k p q before = let within = q.within in p.wrong (omega arith) (prefix-take ts (suc j) k (omega arith) q.before)
 
 one_column : (ahead : Ahead) (one other : ℕ) → IsSyntaxFault ahead one → IsSyntaxFault ahead other → one ≡ other
 one_column ahead one other p q =
@@ -85,7 +85,7 @@ pub same_form : (bytes : List ℕ) (P Q : Form → Type 0) → IsLineWith bytes 
 same_form bytes P Q p q = subst (λ (l : Line). P l.form) (same_line p.line q.line (sym p.line_is.spelled ∙ q.line_is.spelled)) p.so
 
 pub gives_one : (bytes : List ℕ) (one other : Command) → Gives bytes one → Gives bytes other → one ≡ other
-gives_one bytes one other p q = one_meant (meaning q.line.form) one other (same_form bytes (λ form. Means (meaning form) one) _ p q) q.so
+gives_one bytes one other p q = one_command (meaning q.line.form) one other (same_form bytes (λ form. Means (meaning form) one) _ p q) q.so
 
 -- why a line is refused, other than with `OutOfMemory`
 data IsCause (bytes : List ℕ) (fault : TextFault) : Type 0 where
@@ -125,11 +125,11 @@ one_cause bytes one other (BadValues values) (TooLong q long) = absurd (omega (a
 one_cause bytes one other (BadValues values) (NoText q short bad) = absurd (text_is_text bytes values.line_is.text bad)
 one_cause bytes one other (BadValues values) (NoLine column q text wrong) = absurd (no_line-line bytes column values.line wrong values.line_is)
 one_cause bytes one other (BadValues p) (BadValues q) =
-    one_refused (meaning q.line.form) one other (same_form bytes (λ form. Refuses (meaning form) one) _ p q) q.so
+    one_refusal (meaning q.line.form) one other (same_form bytes (λ form. Refuses (meaning form) one) _ p q) q.so
 
-pub refused_once : (bytes : List ℕ) (one other : TextFault) → one ≢ faults.OutOfMemory → other ≢ faults.OutOfMemory → IsRefused bytes one
+pub one_refusal_of_line : (bytes : List ℕ) (one other : TextFault) → one ≢ faults.OutOfMemory → other ≢ faults.OutOfMemory → IsRefused bytes one
     → IsRefused bytes other → one ≡ other
-refused_once bytes one other p q first second = one_cause bytes one other (cause bytes one p first) (cause bytes other q second)
+one_refusal_of_line bytes one other p q first second = one_cause bytes one other (cause bytes one p first) (cause bytes other q second)
 
 given-cause : (bytes : List ℕ) (given : Command) (fault : TextFault) → Gives bytes given → IsCause bytes fault → ⊥
 given-cause bytes given fault p (TooLong _ long) = omega (arith, long, p.line_is.text.short)

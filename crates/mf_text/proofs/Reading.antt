@@ -17,7 +17,7 @@ use Rattle.mf_text.specs.Rests.{Kind, Of, This, Numbers, Codes, Rest, Take, OrTa
 use Rattle.mf_text.specs.Rests.{Ends, rest_of_corner, path, follow, from, is_code_number, name_token, step, value}
 use Rattle.mf_text.specs.Token.{Ahead, PlacedToken, Token, column_of, letter_in, name_in, this_in, value_in}
 use Rattle.mf_text.specs.Token as token
-use Rattle.mf_text.proofs.Rests.{name_of, named, this_only}
+use Rattle.mf_text.proofs.Rests.{name_is_this, name_of, this_only}
 
 -- ---- the value of the next token
 
@@ -47,54 +47,55 @@ abbrev stuck : Ahead → Result Line ℕ
 stuck ahead = Err (column_of ahead.tokens ahead.past)
 
 module _ (k : Kind) (next : Of k → Rest) where
-  pub passed : (old new : Tokens) (a : Of k) → TakesValue (value k) old new (Some a) → from (Take k next) (ahead old) ≡ from (next a) (ahead new)
-  passed = passes (Take k next) k next (λ t a is. rw is refl)
+  pub from_take : (old new : Tokens) (a : Of k) → TakesValue (value k) old new (Some a) → from (Take k next) (ahead old) ≡ from (next a) (ahead new)
+  from_take = passes (Take k next) k next (λ t a is. rw is refl)
 
-  pub missed : (old new : Tokens) → TakesValue (value k) old new None
+  pub from_take_none : (old new : Tokens) → TakesValue (value k) old new None
       → from (Take k next) (ahead old) ≡ Err (column_of (remaining_tokens new) new.column)
   unfolding follow
-  missed = misses (Take k next) k stuck (λ _. refl) (λ p ps past none. rw (none, follow) refl)
+  from_take_none = misses (Take k next) k stuck (λ _. refl) (λ p ps past none. rw (none, follow) refl)
 
-  pub or_passed : (other : Rest) (old new : Tokens) (a : Of k) → TakesValue (value k) old new (Some a)
+  pub from_or_take : (other : Rest) (old new : Tokens) (a : Of k) → TakesValue (value k) old new (Some a)
       → from (OrTake k next other) (ahead old) ≡ from (next a) (ahead new)
-  or_passed other = passes (OrTake k next other) k next (λ t a is. rw is refl)
+  from_or_take other = passes (OrTake k next other) k next (λ t a is. rw is refl)
 
-  pub or_missed : (other : Rest) (old new : Tokens) → TakesValue (value k) old new None → from (OrTake k next other) (ahead old) ≡ from other (ahead new)
+  pub from_or_take_none : (other : Rest) (old new : Tokens) → TakesValue (value k) old new None
+      → from (OrTake k next other) (ahead old) ≡ from other (ahead new)
   unfolding follow
-  or_missed other = misses (OrTake k next other) k (from other) (λ _. refl) (λ p ps past none. rw (none, follow) refl)
+  from_or_take_none other = misses (OrTake k next other) k (from other) (λ _. refl) (λ p ps past none. rw (none, follow) refl)
 
 module _ (u : Token) (this : Rest) where
-  pub one_passed : (old new : Tokens) → TakesToken u old new true → from (One u this) (ahead old) ≡ from this (ahead new)
-  one_passed old new = passes (One u this) (This u) (λ _. this) (λ t a is. rw is refl) old new tt
+  pub from_one : (old new : Tokens) → TakesToken u old new true → from (One u this) (ahead old) ≡ from this (ahead new)
+  from_one old new = passes (One u this) (This u) (λ _. this) (λ t a is. rw is refl) old new tt
 
-  pub one_missed : (old new : Tokens) → TakesToken u old new false → from (One u this) (ahead old) ≡ Err (column_of (remaining_tokens new) new.column)
+  pub from_one_none : (old new : Tokens) → TakesToken u old new false → from (One u this) (ahead old) ≡ Err (column_of (remaining_tokens new) new.column)
   unfolding follow
-  one_missed = misses (One u this) (This u) stuck (λ _. refl) (λ p ps past none. rw (none, follow) refl)
+  from_one_none = misses (One u this) (This u) stuck (λ _. refl) (λ p ps past none. rw (none, follow) refl)
 
-  pub this_passed : (other : Rest) (old new : Tokens) → TakesToken u old new true → from (Or u this other) (ahead old) ≡ from this (ahead new)
-  this_passed other old new = passes (Or u this other) (This u) (λ _. this) (λ t a is. rw is refl) old new tt
+  pub from_or : (other : Rest) (old new : Tokens) → TakesToken u old new true → from (Or u this other) (ahead old) ≡ from this (ahead new)
+  from_or other old new = passes (Or u this other) (This u) (λ _. this) (λ t a is. rw is refl) old new tt
 
-  pub this_missed : (other : Rest) (old new : Tokens) → TakesToken u old new false → from (Or u this other) (ahead old) ≡ from other (ahead new)
+  pub from_or_none : (other : Rest) (old new : Tokens) → TakesToken u old new false → from (Or u this other) (ahead old) ≡ from other (ahead new)
   unfolding follow
-  this_missed other = misses (Or u this other) (This u) (from other) (λ _. refl) (λ p ps past none. rw (none, follow) refl)
+  from_or_none other = misses (Or u this other) (This u) (from other) (λ _. refl) (λ p ps past none. rw (none, follow) refl)
 
--- fewer tokens remain after one
-pub fewer : {A : Type 0} (f : Token → Option A) (a : A) (ps : List PlacedToken) (after : Ahead) → next_value f ps ≡ Some (a, after)
+-- next_value_fewer tokens remain after one
+pub next_value_fewer : {A : Type 0} (f : Token → Option A) (a : A) (ps : List PlacedToken) (after : Ahead) → next_value f ps ≡ Some (a, after)
     → length after.tokens < length ps
-fewer f a ps after is = at_first f a (λ qs on. length on.tokens < length qs) (λ p qs value. omega arith) ps after is
+next_value_fewer f a ps after is = at_first f a (λ qs on. length on.tokens < length qs) (λ p qs value. omega arith) ps after is
 
 -- where each token with the value a also has the value b, taking a takes b
-taken_as : {A B : Type 0} (f : Token → Option A) (g : Token → Option B) (a : A) (b : B) → ((t : Token) → f t ≡ Some a → g t ≡ Some b)
+next_value_as : {A B : Type 0} (f : Token → Option A) (g : Token → Option B) (a : A) (b : B) → ((t : Token) → f t ≡ Some a → g t ≡ Some b)
     → (ps : List PlacedToken) (after : Ahead) → next_value f ps ≡ Some (a, after) → next_value g ps ≡ Some (b, after)
-taken_as f g a b same ps after is = grind (arith, ints, at_first)
+next_value_as f g a b same ps after is = grind (arith, ints, at_first)
 
 -- ---- an int
 
 -- the number of an int, after `-` or not
-pub number_after : (negative : Bool) (next : Int → Rest) (after : Ahead)
+pub from_number : (negative : Bool) (next : Int → Rest) (after : Ahead)
     → (if negative then from (Take (Numbers true) next) after else from (Take (Numbers false) next) after) ≡ from (Take (Numbers negative) next) after
-number_after true next after = refl
-number_after false next after = refl
+from_number true next after = refl
+from_number false next after = refl
 
 -- ---- names
 
@@ -102,48 +103,50 @@ letter_name : (t : Token) (n : ℕ) → letter_in t ≡ Some n → name_in t ≡
 letter_name (token.Letter m) n is = ap (λ k. Some (Register k)) (same_Some m n is)
 letter_name t n is = absurd (none-some n is)
 
-pub letter_taken : (ps : List PlacedToken) (n : ℕ) (after : Ahead) → next_value letter_in ps ≡ Some (n, after)
+pub next_letter_is_name : (ps : List PlacedToken) (n : ℕ) (after : Ahead) → next_value letter_in ps ≡ Some (n, after)
     → next_value name_in ps ≡ Some (Register n, after)
-letter_taken ps n after is = taken_as letter_in name_in n (Register n) (λ t. letter_name t n) ps after is
+next_letter_is_name ps n after is = next_value_as letter_in name_in n (Register n) (λ t. letter_name t n) ps after is
 
-pub current_taken : (ps : List PlacedToken) (after : Ahead) → next_value (this_in (token.Word word.CurrentPicture)) ps ≡ Some (tt, after)
+pub next_current_is_name : (ps : List PlacedToken) (after : Ahead) → next_value (this_in (token.Word word.CurrentPicture)) ps ≡ Some (tt, after)
     → next_value name_in ps ≡ Some (Current, after)
-current_taken = taken_as (this_in (token.Word word.CurrentPicture)) name_in tt Current (λ t is. ap name_in (this_only (token.Word word.CurrentPicture) t is))
+next_current_is_name =
+    next_value_as (this_in (token.Word word.CurrentPicture)) name_in tt Current (λ t is. ap name_in (this_only (token.Word word.CurrentPicture) t is))
 
 no_name : (t : Token) → this_in (token.Word word.CurrentPicture) t ≡ None → letter_in t ≡ None → name_in t ≡ None
 no_name (token.Word word.CurrentPicture) other none = absurd (none-some tt (sym other))
 no_name (token.Letter n) other none = absurd (none-some n (sym none))
 no_name t other none = refl
 
-pub no_name_taken : (ps : List PlacedToken) → next_value (this_in (token.Word word.CurrentPicture)) ps ≡ None → next_value letter_in ps ≡ None
+pub no_next_name : (ps : List PlacedToken) → next_value (this_in (token.Word word.CurrentPicture)) ps ≡ None → next_value letter_in ps ≡ None
     → next_value name_in ps ≡ None
-no_name_taken [] other none = refl
-no_name_taken (p ∷ ps) other none = grind (arith, ints, no_name, none-some)
+no_next_name [] other none = refl
+no_next_name (p ∷ ps) other none = grind (arith, ints, no_name, none-some)
 
 -- a given name is the next token exactly where it is the name that the token is
-pub this_name : (name : Name) (ps : List PlacedToken) (after : Ahead) → next_value name_in ps ≡ Some (name, after)
+pub next_name_is_this : (name : Name) (ps : List PlacedToken) (after : Ahead) → next_value name_in ps ≡ Some (name, after)
     → next_value (this_in (name_token name)) ps ≡ Some (tt, after)
-this_name name ps after is = taken_as name_in (this_in (name_token name)) name tt (λ t. named t name) ps after is
+next_name_is_this name ps after is = next_value_as name_in (this_in (name_token name)) name tt (λ t. name_is_this t name) ps after is
 
-pub other_name : (name : Name) (old after : Tokens) (r : Option Name) → TakesValue name_in old after r
+pub next_name_is_other : (name : Name) (old after : Tokens) (r : Option Name) → TakesValue name_in old after r
     → (r ≡ Some name → ⊥) → TakesValue (this_in (name_token name)) old old None
-other_name name old after r took other = grind (arith, ints, none-some, same_Some, taken_as, this_only, name_of)
+next_name_is_other name old after r took other = grind (arith, ints, none-some, same_Some, next_value_as, this_only, name_of)
 
 -- what the search needs where a name is taken, or a given one
-pub ruleset name_taken = (letter_taken, current_taken, no_name_taken, or_passed, or_missed)
+pub ruleset takes_name = (next_letter_is_name, next_current_is_name, no_next_name, from_or_take, from_or_take_none)
 
-pub ruleset same_name_taken = (one_passed, one_missed, this_name, other_name)
+pub ruleset takes_same_name = (from_one, from_one_none, next_name_is_this, next_name_is_other)
 
 -- ---- the end of a line
 
-pub line_ends : (line : Line) (past : ℕ) (ps : List PlacedToken) → ps ≡ [] → from (Ends line) (record { tokens = ps; past = past }) ≡ Ok line
+pub from_ends : (line : Line) (past : ℕ) (ps : List PlacedToken) → ps ≡ [] → from (Ends line) (record { tokens = ps; past = past }) ≡ Ok line
 unfolding follow
-line_ends line past ps none = ap (λ qs. from (Ends line) (record { tokens = qs; past = past })) none
+from_ends line past ps none = ap (λ qs. from (Ends line) (record { tokens = qs; past = past })) none
 
-pub line_goes_on : (line : Line) (past : ℕ) (ps : List PlacedToken) → ps ≢ [] → from (Ends line) (record { tokens = ps; past = past }) ≡ Err (column_of ps past)
+pub from_ends_wrong : (line : Line) (past : ℕ) (ps : List PlacedToken) → ps ≢ []
+    → from (Ends line) (record { tokens = ps; past = past }) ≡ Err (column_of ps past)
 unfolding follow
-line_goes_on line past [] some = absurd (some refl)
-line_goes_on line past (p ∷ ps) some = refl
+from_ends_wrong line past [] some = absurd (some refl)
+from_ends_wrong line past (p ∷ ps) some = refl
 
 -- ---- the number of a code after its `-`
 
@@ -153,13 +156,14 @@ on_number ahead None = stuck ahead
 on_number ahead (Some n) = Err (ahead.past - 1)
 
 module _ (next : Code → Rest) (old same : Tokens) where
-  pub code_passed : (code : Code) → TakesValue (value (Codes true)) old same (Some code) → from (CodeNumber next) (ahead old) ≡ from (next code) (ahead same)
-  code_passed = passes (CodeNumber next) (Codes true) next (λ t a is. rw is refl) old same
+  pub from_code_number : (code : Code) → TakesValue (value (Codes true)) old same (Some code)
+      → from (CodeNumber next) (ahead old) ≡ from (next code) (ahead same)
+  from_code_number = passes (CodeNumber next) (Codes true) next (λ t a is. rw is refl) old same
 
-  code_missed : TakesValue (value (Codes true)) old same None
+  from_code_number_none : TakesValue (value (Codes true)) old same None
       → from (CodeNumber next) (ahead old) ≡ on_number (ahead same) (next_value value_in (remaining_tokens same))
   unfolding follow
-  code_missed =
+  from_code_number_none =
       misses (CodeNumber next) (Codes true) (λ on. on_number on (next_value value_in on.tokens)) (λ _. refl)
       (λ p ps past none. rw (none, follow) (by_token p ps past p.token)) old same where
         by_token : (p : PlacedToken) (ps : List PlacedToken) (past : ℕ) (t : Token) → Err (if is_code_number (CodeNumber next) t then past - 1 else p.column)
@@ -167,19 +171,19 @@ module _ (next : Code → Rest) (old same : Tokens) where
         by_token p ps past (token.Number n) = refl
         by_token p ps past t = refl
 
-  pub code_bad : (after : Tokens) (n : ℕ) → TakesValue (value (Codes true)) old same None → TakesValue value_in same after (Some n)
+  pub from_bad_code : (after : Tokens) (n : ℕ) → TakesValue (value (Codes true)) old same None → TakesValue value_in same after (Some n)
       → from (CodeNumber next) (ahead old) ≡ Err (same.column - 1)
-  code_bad after n none found = code_missed none ∙ ap (on_number (ahead same)) found
+  from_bad_code after n none found = from_code_number_none none ∙ ap (on_number (ahead same)) found
 
-  pub code_missing : (after : Tokens) → TakesValue (value (Codes true)) old same None → TakesValue value_in same after None
+  pub from_no_code : (after : Tokens) → TakesValue (value (Codes true)) old same None → TakesValue value_in same after None
       → from (CodeNumber next) (ahead old) ≡ Err (column_of (remaining_tokens same) same.column)
-  code_missing after none lacking = code_missed none ∙ ap (on_number (ahead same)) lacking.0
+  from_no_code after none lacking = from_code_number_none none ∙ ap (on_number (ahead same)) lacking.0
 
 -- ---- the corners of a path
 
 -- one more corner, or `cycle`, where the path has these corners after those that were passed
-abbrev pub one_more : (Pair → List Pair → Path) → (Path → Rest) → Pair → Rest
-one_more path_of next p = Corners (λ ps. next (path_of p ps))
+abbrev pub corners_after : (Pair → List Pair → Path) → (Path → Rest) → Pair → Rest
+corners_after path_of next p = Corners (λ ps. next (path_of p ps))
 
 -- some corners of a path were passed and kept, with these points, and the `(` of one more was passed
 pub record IsInPath (old now : Tokens) (kept : paths.Path) : Type 0 where
@@ -188,7 +192,7 @@ pub record IsInPath (old now : Tokens) (kept : paths.Path) : Type 0 where
   -- the path, by its corners from here on
   pub path_of : Pair → List Pair → Path
   pub value_is : (p : Pair) (ps : List Pair) → path_value (path_of p ps) ≡ points ++ pair_value p ∷ map pair_value ps
-  pub read : (next : Path → Rest) → from (path next) (ahead old) ≡ from (rest_of_corner (one_more path_of next)) (ahead now)
+  pub read : (next : Path → Rest) → from (path next) (ahead old) ≡ from (rest_of_corner (corners_after path_of next)) (ahead now)
 
 corners_or : (next : List Pair → Rest) (past : ℕ) (ps : List PlacedToken) → from (Corners next) (record { tokens = ps; past = past })
     ≡ from (Or (token.Mark mark.Open) (rest_of_corner (λ p. Corners (λ qs. next (p ∷ qs)))) (One (token.Word word.Cycle) (next [])))
@@ -204,10 +208,10 @@ pub corners_go_on : (next : List Pair → Rest) (now after : Tokens) (passes : B
     ≡ (if more then from (rest_of_corner (λ p. Corners (λ ps. next (p ∷ ps)))) (ahead after) else from (One (token.Word word.Cycle) (next [])) (ahead after))
 corners_go_on next now after passes read more is = corners_or next now.column (remaining_tokens now) ∙ rw (sym is) (read _ _)
 
-pub path_wrong : (before after : Tokens) (r : Result paths.Path SyntaxFault) (fault : SyntaxFault) → IsErrAnd r (λ y. y ≡ fault)
+pub passes_no_path : (before after : Tokens) (r : Result paths.Path SyntaxFault) (fault : SyntaxFault) → IsErrAnd r (λ y. y ≡ fault)
     → ((next : Path → Rest) → from (path next) (ahead before) ≡ Err fault.column) → PassesPath before after r
-path_wrong before after (Ok kept) fault none wrong = absurd none
-path_wrong before after (Err e) fault same wrong = λ next. wrong next ∙ ap (λ (f : SyntaxFault). Err f.column) (sym same)
+passes_no_path before after (Ok kept) fault none wrong = absurd none
+passes_no_path before after (Err e) fault same wrong = λ next. wrong next ∙ ap (λ (f : SyntaxFault). Err f.column) (sym same)
 
 pub one_longer : (points : List Point) (v w : Point) (ws : List Point) → v ≡ w → points ++ w ∷ ws ≡ (points ++ v ∷ []) ++ ws
 one_longer points v w ws is = rw is (sym (append_assoc points (w ∷ []) ws))

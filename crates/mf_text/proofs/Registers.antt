@@ -13,7 +13,7 @@ use Rattle.mf_text.specs.Registers.{IsName, IsSource, HasNames, register_count}
 use Rattle.mf_text.specs.Tokens.{without_columns, tokens, PlacedToken, Token}
 use Rattle.mf_text.specs.TokenTexts.{AreTokens}
 use Rattle.mf_text.proofs.Cuts.{are_tokens}
-use Rattle.mf_text.proofs.TokenTexts.{IsSaid, text_says}
+use Rattle.mf_text.proofs.TokenTexts.{HasTextOf, has_text_of}
 use Rattle.std.proofs.lemmas.Int.{ints}
 
 -- ---- every letter of a line is one of 26
@@ -26,14 +26,14 @@ IsLetter _ = Unit {0}
 abbrev AreLetters : List Token → Type 0
 AreLetters ts = AllByRecursion IsLetter ts
 
-token_letter : (t : Token) (bs : List ℕ) → IsSaid t bs → IsLetter t
+token_letter : (t : Token) (bs : List ℕ) → HasTextOf t bs → IsLetter t
 token_letter (token.Letter n) bs is = omega (arith, is.least, is.greatest, is.number)
 token_letter t bs is = tt
 
 all_letters : (column : ℕ) (bytes : List ℕ) (ps : List PlacedToken) → AreTokens column bytes ps → AreLetters (without_columns ps)
 all_letters column bytes [] cut = tt
 all_letters column bytes (p ∷ ps) (cut, later) =
-    (token_letter p.token (cut.text ++ cut.rest) (text_says p.token cut.text cut.rest cut.token), all_letters p.after cut.rest ps later)
+    (token_letter p.token (cut.text ++ cut.rest) (has_text_of p.token cut.text cut.rest cut.token), all_letters p.after cut.rest ps later)
 
 -- ---- the names of a form whose letters have numbers below 26
 
@@ -45,21 +45,21 @@ of_second : (ts us : List Token) → AreLetters (ts ++ us) → AreLetters us
 of_second [] us all = all
 of_second (t ∷ ts) us all = of_second ts us all.1
 
-name_is : (name : Name) → AreLetters (spell_name name) → IsName name
-name_is Current all = tt
-name_is (Register letter) all = all.0
+is_name : (name : Name) → AreLetters (spell_name name) → IsName name
+is_name Current all = tt
+is_name (Register letter) all = all.0
 
 -- a name, with two phrases after it
 first_name : (name : Name) (ts us : List Token) → AreLetters (spell_name name ++ ts ++ us) → IsName name
-first_name name ts us all = name_is name (of_first _ ts (of_first _ us all))
+first_name name ts us all = is_name name (of_first _ ts (of_first _ us all))
 
-source_is : (source : Source) → AreLetters (spell_source source) → IsSource source
-source_is Null all = tt
-source_is (Named name) all = name_is name all
+is_source : (source : Source) → AreLetters (spell_source source) → IsSource source
+is_source Null all = tt
+is_source (Named name) all = is_name name all
 
-signed_is : (sign : Sign) (source : Source) → AreLetters (spell_signed sign source) → IsSource source
-signed_is Plus source all = source_is source all
-signed_is Minus source all = source_is source all.1
+is_signed_source : (sign : Sign) (source : Source) → AreLetters (spell_signed sign source) → IsSource source
+is_signed_source Plus source all = is_source source all
+is_signed_source Minus source all = is_source source all.1
 
 -- the registers that the command of a meaning names are letters
 abbrev AreNamed : Meaning → Type 0
@@ -67,26 +67,27 @@ AreNamed (Is made) = HasNames made
 AreNamed (If value rest) = AreNamed rest
 AreNamed (Turns name angle) = IsName name
 
-names_meant : (m : Meaning) (given : Command) → AreNamed m → Means m given → HasNames given
-names_meant (Is made) given all p = rw p all
-names_meant (If value rest) given all p = names_meant rest given all p.1
-names_meant (Turns name angle) given all p = rw p.is all
+names_of_meaning : (m : Meaning) (given : Command) → AreNamed m → Means m given → HasNames given
+names_of_meaning (Is made) given all p = rw p all
+names_of_meaning (If value rest) given all p = names_of_meaning rest given all p.1
+names_of_meaning (Turns name angle) given all p = rw p.is all
 
 form_names : (form : Form) → AreLetters (spell_form form) → AreNamed (meaning form)
 form_names (AddContour name path weight) all = first_name name _ _ (of_first _ _ all.1)
-form_names (AddPicture name sign source) all = let called = all.1 in (first_name name _ _ called, signed_is sign source (of_second _ _ called))
+form_names (AddPicture name sign source) all = let called = all.1 in (first_name name _ _ called, is_signed_source sign source (of_second _ _ called))
 form_names (CullKeeping name range weight) all = first_name name _ _ (of_first _ _ all.1)
 form_names (CullDropping name range weight) all = first_name name _ _ (of_first _ _ all.1)
 form_names (Clear name) all = first_name name _ _ all
 form_names (Move name (Shifted by)) all = first_name name _ _ (of_first _ _ all)
 form_names (Move name other) all = first_name name _ _ (of_first _ _ all)
-form_names (ShowTotal source) all = source_is source all.1.1
-form_names (ShowPicture source) all = source_is source all.1
-form_names (ShowProof source) all = source_is source all.1
-form_names (ShipOut source code dx width) all = source_is source (of_first _ _ (of_first _ _ (of_first _ _ (of_first _ _ (of_first _ _ (of_first _ _ all.1))))))
+form_names (ShowTotal source) all = is_source source all.1.1
+form_names (ShowPicture source) all = is_source source all.1
+form_names (ShowProof source) all = is_source source all.1
+form_names (ShipOut source code dx width) all = is_source source (of_first _ _ (of_first _ _ (of_first _ _ (of_first _ _ (of_first _ _ (of_first _ _ all.1))))))
 form_names form all = tt
 
 -- ---- the command of a line of bytes
 
-pub names_given : (bytes : List ℕ) (given : Command) → Gives bytes given → HasNames given
-names_given bytes given gives = grind (arith, ints, all_letters 1 bytes (tokens bytes) (are_tokens bytes), are_tokens, names_meant, form_names, of_first)
+pub names_are_letters : (bytes : List ℕ) (given : Command) → Gives bytes given → HasNames given
+names_are_letters bytes given gives =
+    grind (arith, ints, all_letters 1 bytes (tokens bytes) (are_tokens bytes), are_tokens, names_of_meaning, form_names, of_first)

@@ -49,8 +49,8 @@ name_is (token.Word word.CurrentPicture) name is = ap name_token (same_Some Curr
 name_is (token.Letter n) name is = ap name_token (same_Some (Register n) name is)
 name_is t name is = absurd (none-some name is)
 
-pub named : (t : Token) (name : Name) → name_in t ≡ Some name → this_in (name_token name) t ≡ Some tt
-named t name is = ap (this_in (name_token name)) (name_is t name is) ∙ this_same (name_token name)
+pub name_is_this : (t : Token) (name : Name) → name_in t ≡ Some name → this_in (name_token name) t ≡ Some tt
+name_is_this t name is = ap (this_in (name_token name)) (name_is t name is) ∙ this_same (name_token name)
 
 value_back : (k : Kind) (a : Of k) → HasSign k a → value k (token_of k a) ≡ Some a
 value_back (This u) a sign = this_same u

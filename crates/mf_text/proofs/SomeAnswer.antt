@@ -92,41 +92,42 @@ lawful_or_not (Angle angle) = or_refused (Angle angle) faults.BadTurn refl (turn
 abbrev MeansSomething : Meaning → Type 0
 MeansSomething m = ((given : Command) × Means m given) ⊎ ((fault : TextFault) × Refuses m fault)
 
-checked : (value : Value) (rest : Meaning) → IsChecked value → MeansSomething rest → MeansSomething (If value rest)
-checked value rest (inl lawful) (inl (given, is)) = inl (given, (lawful, is))
-checked value rest (inl lawful) (inr (fault, is)) = inr (fault, inr (lawful, is))
-checked value rest (inr (fault, is)) later = inr (fault, inl is)
+if_means_something : (value : Value) (rest : Meaning) → IsChecked value → MeansSomething rest → MeansSomething (If value rest)
+if_means_something value rest (inl lawful) (inl (given, is)) = inl (given, (lawful, is))
+if_means_something value rest (inl lawful) (inr (fault, is)) = inr (fault, inr (lawful, is))
+if_means_something value rest (inr (fault, is)) later = inr (fault, inl is)
 
-turned : (name : Name) (angle : ℤ) → IsChecked (Angle angle) → MeansSomething (Turns name angle)
-turned name angle (inl (quarter, is)) = inl (command.Quarter name quarter, record { quarter = quarter; angle_is = is; is = refl })
-turned name angle (inr refused) = inr refused
+turn_means_something : (name : Name) (angle : ℤ) → IsChecked (Angle angle) → MeansSomething (Turns name angle)
+turn_means_something name angle (inl (quarter, is)) = inl (command.Quarter name quarter, record { quarter = quarter; angle_is = is; is = refl })
+turn_means_something name angle (inr refused) = inr refused
 
-answered : (m : Meaning) → MeansSomething m
-answered (Is made) = inl (made, refl)
-answered (If value rest) = checked value rest (lawful_or_not value) (answered rest)
-answered (Turns name angle) = turned name angle (lawful_or_not (Angle angle))
+means_something : (m : Meaning) → MeansSomething m
+means_something (Is made) = inl (made, refl)
+means_something (If value rest) = if_means_something value rest (lawful_or_not value) (means_something rest)
+means_something (Turns name angle) = turn_means_something name angle (lawful_or_not (Angle angle))
 
 -- ---- lines have an answer
 
 abbrev HasAnswer : List ℕ → Type 0
 HasAnswer bytes = ((given : Command) × Gives bytes given) ⊎ ((fault : TextFault) × (fault ≢ faults.OutOfMemory) × IsRefused bytes fault)
 
-line_answered : (bytes : List ℕ) → IsText bytes → (line : IsLine (without_columns (tokens bytes))) → MeansSomething (meaning line.tree.form) → HasAnswer bytes
-line_answered bytes text line (inl (given, is)) = inl (given, record { line = line.tree; line_is = record { text = text; spelled = line.spelled }; so = is })
-line_answered bytes text line (inr (fault, is)) =
+line_has_answer : (bytes : List ℕ) → IsText bytes → (line : IsLine (without_columns (tokens bytes))) → MeansSomething (meaning line.tree.form) → HasAnswer bytes
+line_has_answer bytes text line (inl (given, is)) = inl (given, record { line = line.tree; line_is = record { text = text; spelled = line.spelled }; so = is })
+line_has_answer bytes text line (inr (fault, is)) =
     let (other, refused) = of_values fault (refusals_of_values (meaning line.tree.form) fault is) in
     inr (fault, other, refused bytes (record { line = line.tree; line_is = record { text = text; spelled = line.spelled }; so = is }))
 
-text_answered : (bytes : List ℕ) → IsText bytes → (o : Result Line ℕ) → from line (line_ahead bytes) ≡ o → HasAnswer bytes
-text_answered bytes text (Ok l) is = line_answered bytes text (record { tree = l; spelled = is_line (line_ahead bytes) l is }) (answered (meaning l.form))
-text_answered bytes text (Err column) is = inr (faults.Syntax column, (λ e. cc), (text, goes_wrong bytes column is))
+text_has_answer : (bytes : List ℕ) → IsText bytes → (o : Result Line ℕ) → from line (line_ahead bytes) ≡ o → HasAnswer bytes
+text_has_answer bytes text (Ok l) is =
+    line_has_answer bytes text (record { tree = l; spelled = is_line (line_ahead bytes) l is }) (means_something (meaning l.form))
+text_has_answer bytes text (Err column) is = inr (faults.Syntax column, (λ e. cc), (text, goes_wrong bytes column is))
 
 pub some_answer : (bytes : List ℕ) → HasAnswer bytes
 some_answer bytes =
     elim (cases_lt longest_line (length bytes)) [
       | inl long ↦ inr (faults.LineTooLong, (λ e. cc), long)
       | inr short ↦ elim (cases_Bool (list_all is_text_byte bytes)) [
-        | inl text ↦ (let is : IsText bytes = record { short = short; text = text } in text_answered bytes is (from line (line_ahead bytes)) refl)
+        | inl text ↦ (let is : IsText bytes = record { short = short; text = text } in text_has_answer bytes is (from line (line_ahead bytes)) refl)
         | inr other ↦ inr (faults.NotAscii, (λ e. cc), (short, other))
       ]
     ]

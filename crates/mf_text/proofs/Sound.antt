@@ -106,9 +106,9 @@ sound_path : {past : List Token} {next : Path → Rest} → ((p : Path) → Soun
 sound_path {past} {next} each = grind (arith, ints, sound_one, sound_corner, sound_at, append_assoc)
 
 -- after some corners, one more
-one_more : (past : List Token) (next : List Pair → Rest) → Spells past (Corners next)
+sound_next_corner : (past : List Token) (next : List Pair → Rest) → Spells past (Corners next)
     → Sound (past ++ token.Mark mark.Open ∷ []) (rest_of_corner (λ p. Corners (λ ps. next (p ∷ ps))))
-one_more past next spells = grind (arith, ints, sound_corner, append_assoc)
+sound_next_corner past next spells = grind (arith, ints, sound_corner, append_assoc)
 
 -- ---- what is read is spelled
 
@@ -120,51 +120,51 @@ rest_step past (Take k next) t spells = kind_step past k next t None spells tt
 rest_step past (OrTake k next other) t spells = kind_step past k next t (step other t) spells.0 (rest_step past other t spells.1)
 rest_step past (CodeNumber next) t spells = kind_step past (Codes true) next t None spells.1 tt
 rest_step past (Corners next) t spells =
-    kind_step past (This (token.Mark mark.Open)) _ t _ (λ _ _. (one_more past next spells).by)
+    kind_step past (This (token.Mark mark.Open)) _ t _ (λ _ _. (sound_next_corner past next spells).by)
     (kind_step past (This (token.Word word.Cycle)) _ t None (λ _ _. spells []) tt)
 
-end_spelled : (past : List Token) (r : Rest) (l : Line) → Spells past r → ends r ≡ Some l → spell_line l ≡ past
-end_spelled past (Ends m) l spells is = ap spell_line (sym (same_Some m l is)) ∙ spells
-end_spelled past (Or u this other) l spells is = end_spelled past other l spells.1 is
-end_spelled past (OrTake k next other) l spells is = end_spelled past other l spells.1 is
-end_spelled past r l spells is = absurd (none-some l is)
+spell_line_at_end : (past : List Token) (r : Rest) (l : Line) → Spells past r → ends r ≡ Some l → spell_line l ≡ past
+spell_line_at_end past (Ends m) l spells is = ap spell_line (sym (same_Some m l is)) ∙ spells
+spell_line_at_end past (Or u this other) l spells is = spell_line_at_end past other l spells.1 is
+spell_line_at_end past (OrTake k next other) l spells is = spell_line_at_end past other l spells.1 is
+spell_line_at_end past r l spells is = absurd (none-some l is)
 
 -- after a token, with each rest to which it leads
 module _ (past ts : List Token) (t : Token) (l : Line) where
-  spelled_on : (q : Option Rest) → IfSome q (Spells (past ++ t ∷ [])) → reads q ts ≡ Some l
+  spell_line_later : (q : Option Rest) → IfSome q (Spells (past ++ t ∷ [])) → reads q ts ≡ Some l
       → ((r : Rest) → Spells (past ++ t ∷ []) r → reads (Some r) ts ≡ Some l → spell_line l ≡ (past ++ t ∷ []) ++ ts)
       → spell_line l ≡ past ++ t ∷ ts
   unfolding reads
-  spelled_on None spells is later = absurd (none-some l is)
-  spelled_on (Some r) spells is later = later r spells is ∙ append_assoc past (t ∷ []) ts
+  spell_line_later None spells is later = absurd (none-some l is)
+  spell_line_later (Some r) spells is later = later r spells is ∙ append_assoc past (t ∷ []) ts
 
-pub spelled : (ts past : List Token) (r : Rest) (l : Line) → Spells past r → reads (Some r) ts ≡ Some l → spell_line l ≡ past ++ ts
+pub spell_line_is : (ts past : List Token) (r : Rest) (l : Line) → Spells past r → reads (Some r) ts ≡ Some l → spell_line l ≡ past ++ ts
 unfolding reads
-spelled [] past r l spells is = end_spelled past r l spells is ∙ sym (append-nil past)
-spelled (t ∷ ts) past r l spells is = spelled_on past ts t l (step r t) (rest_step past r t spells) is (λ q. spelled ts (past ++ t ∷ []) q l)
+spell_line_is [] past r l spells is = spell_line_at_end past r l spells is ∙ sym (append-nil past)
+spell_line_is (t ∷ ts) past r l spells is = spell_line_later past ts t l (step r t) (rest_step past r t spells) is (λ q. spell_line_is ts (past ++ t ∷ []) q l)
 
 -- token k of these, after `past`, is the number after `shipout`, a source, `code` and `-`
 abbrev IsCoded : List Token → List Token → ℕ → Type 0
 IsCoded past ts k = (is_negative_code (past ++ ts) ≡ true) × (length past + k ≡ 4)
 
-code_first : (past ts : List Token) (r : Rest) (t : Token) → Spells past r → is_code_number r t ≡ true → IsCoded past (t ∷ ts) 0
-code_first past ts (CodeNumber next) (token.Number k) spells is = subst (λ us. IsCoded us (token.Number k ∷ ts) 0) (sym spells.0.1) (refl, refl)
-code_first past ts (Or u this other) t spells is = code_first past ts other t spells.1 is
-code_first past ts (OrTake k next other) t spells is = code_first past ts other t spells.1 is
-code_first past ts r t spells is = absurd (false≢true is)
+is_coded_first : (past ts : List Token) (r : Rest) (t : Token) → Spells past r → is_code_number r t ≡ true → IsCoded past (t ∷ ts) 0
+is_coded_first past ts (CodeNumber next) (token.Number k) spells is = subst (λ us. IsCoded us (token.Number k ∷ ts) 0) (sym spells.0.1) (refl, refl)
+is_coded_first past ts (Or u this other) t spells is = is_coded_first past ts other t spells.1 is
+is_coded_first past ts (OrTake k next other) t spells is = is_coded_first past ts other t spells.1 is
+is_coded_first past ts r t spells is = absurd (false≢true is)
 
-coded_on : (past ts : List Token) (t : Token) (k : ℕ) (q : Option Rest) → IfSome q (Spells (past ++ t ∷ [])) → is_code_number_at q ts k ≡ true
+is_coded_later : (past ts : List Token) (t : Token) (k : ℕ) (q : Option Rest) → IfSome q (Spells (past ++ t ∷ [])) → is_code_number_at q ts k ≡ true
     → ((r : Rest) → Spells (past ++ t ∷ []) r → is_code_number_at (Some r) ts k ≡ true → IsCoded (past ++ t ∷ []) ts k)
     → IsCoded past (t ∷ ts) (suc k)
 unfolding is_code_number_at
-coded_on past ts t k None spells is later = absurd (false≢true is)
-coded_on past ts t k (Some r) spells is later = grind (arith, ints, append_assoc, length-append)
+is_coded_later past ts t k None spells is later = absurd (false≢true is)
+is_coded_later past ts t k (Some r) spells is later = grind (arith, ints, append_assoc, length-append)
 
-pub coded : (ts past : List Token) (r : Rest) (k : ℕ) → Spells past r → is_code_number_at (Some r) ts k ≡ true → IsCoded past ts k
+pub is_coded : (ts past : List Token) (r : Rest) (k : ℕ) → Spells past r → is_code_number_at (Some r) ts k ≡ true → IsCoded past ts k
 unfolding is_code_number_at
-coded [] past r k spells is = absurd (false≢true is)
-coded (t ∷ ts) past r zero spells is = code_first past ts r t spells is
-coded (t ∷ ts) past r (suc k) spells is = coded_on past ts t k (step r t) (rest_step past r t spells) is (λ q. coded ts (past ++ t ∷ []) q k)
+is_coded [] past r k spells is = absurd (false≢true is)
+is_coded (t ∷ ts) past r zero spells is = is_coded_first past ts r t spells is
+is_coded (t ∷ ts) past r (suc k) spells is = is_coded_later past ts t k (step r t) (rest_step past r t spells) is (λ q. is_coded ts (past ++ t ∷ []) q k)
 
 -- ---- lines
 

@@ -69,11 +69,11 @@ digits_first [] some = absurd (omega arith)
 digits_first (b ∷ bs) some = grind (arith, ints, row is_ascii_digit (b ∷ bs) some, true_from_ne_false, nat_tests, lt-ltb)
 
 -- the text of a mark is found as that mark, unless a longer mark is there
-counts : (m : Mark) (rest : List ℕ) → is_longer m (mark_text m ++ rest) ≡ false
+mark_first : (m : Mark) (rest : List ℕ) → is_longer m (mark_text m ++ rest) ≡ false
     → first_token (mark_text m ++ rest) ≡ record { token = token.Mark m; bytes = length (mark_text m) }
 unfolding first_token mark_among
-counts mark.Minus rest short = grind (arith, ints)
-counts m rest short = refl
+mark_first mark.Minus rest short = grind (arith, ints)
+mark_first m rest short = refl
 
 -- where neither a letter, a digit nor a mark is at the front, the token there is unknown
 pub unknown_first : (bs : List ℕ) → first_is is_ascii_alphabetic bs ≡ false → first_is is_ascii_digit bs ≡ false
@@ -87,24 +87,24 @@ unknown_first (b ∷ bs) no_letter no_digit none =
 pub text_first : (t : Token) (text rest : List ℕ) → IsTokenText t text rest → first_token (text ++ rest) ≡ record { token = t; bytes = length text }
 text_first t text rest (Letters row is) = grind (arith, ints, row, row_count, row_text, letters_first, is)
 text_first t text rest (Digits row is) = grind (arith, ints, row, row_count, row_text, digits_first, is)
-text_first t text rest (AMark m written longest is) = rw (is, written) (counts m rest (subst (λ ts. is_longer m (ts ++ rest) ≡ false) written longest))
+text_first t text rest (AMark m written longest is) = rw (is, written) (mark_first m rest (subst (λ ts. is_longer m (ts ++ rest) ≡ false) written longest))
 text_first t text rest (OtherByte other is) = rw (is, other.one) (unknown_first (other.byte ∷ rest) other.no_letter other.no_digit other.no_mark)
 
 -- ---- the text of a token
 
-pub starts-drop : (bs text : List ℕ) → starts_with eqb bs text ≡ true → bs ≡ text ++ drop (length text) bs
-starts-drop bs text is = (starts_is Decides-eqb bs text (starts_with eqb bs text) refl).0 is
+pub starts_with-drop : (bs text : List ℕ) → starts_with eqb bs text ≡ true → bs ≡ text ++ drop (length text) bs
+starts_with-drop bs text is = (starts_is Decides-eqb bs text (starts_with eqb bs text) refl).0 is
 
-pub starts-append : (bs text rest : List ℕ) → bs ≡ text ++ rest → starts_with eqb bs text ≡ true
-starts-append bs text rest is = (starts_is Decides-eqb bs text (starts_with eqb bs text) refl).1 rest is
+pub starts_with-append : (bs text rest : List ℕ) → bs ≡ text ++ rest → starts_with eqb bs text ≡ true
+starts_with-append bs text rest is = (starts_is Decides-eqb bs text (starts_with eqb bs text) refl).1 rest is
 
-among : (bs : List ℕ) (entries : List (List ℕ × Mark))
+mark_or_none : (bs : List ℕ) (entries : List (List ℕ × Mark))
     → ((m : Mark) × (starts_with eqb bs (mark_text m) ≡ true)) ⊎ (list_all (λ e. not (starts_with eqb bs (mark_text e.1))) entries ≡ true)
-among bs [] = inr refl
-among bs (entry ∷ entries) =
+mark_or_none bs [] = inr refl
+mark_or_none bs (entry ∷ entries) =
     elim (cases_Bool (starts_with eqb bs (mark_text entry.1))) [
       | inl begun ↦ inl (entry.1, begun)
-      | inr other ↦ elim (among bs entries) [
+      | inr other ↦ elim (mark_or_none bs entries) [
         | inl some ↦ inl some
         | inr none ↦ inr (rw other none)
       ]
@@ -124,7 +124,7 @@ front_row_text p t bs is = Text t _ _ (sym (take-append-drop (prefix_len p bs) b
 
 front_mark : (bs : List ℕ) (m : Mark) → starts_with eqb bs (mark_text m) ≡ true → is_longer m bs ≡ false → Front bs
 front_mark bs m begun short =
-    let parts = starts-drop bs (mark_text m) begun in
+    let parts = starts_with-drop bs (mark_text m) begun in
     Text (token.Mark m) (mark_text m) _ parts (AMark m refl (ap (is_longer m) (sym parts) ∙ short) refl)
 
 -- the text of this mark is there, or that of a longer one
@@ -139,7 +139,7 @@ front bs =
       | inl letter ↦ front_row_text is_ascii_alphabetic _ bs (Letters (row is_ascii_alphabetic bs letter) refl)
       | inr no_letter ↦ elim (cases_lt 0 (prefix_len is_ascii_digit bs)) [
         | inl digit ↦ front_row_text is_ascii_digit _ bs (Digits (row is_ascii_digit bs digit) refl)
-        | inr no_digit ↦ elim (among bs marks) [
+        | inr no_digit ↦ elim (mark_or_none bs marks) [
           | inl some ↦ mark_there bs some.0 some.1 (is_longer some.0 bs) refl
           | inr none ↦ Other (no_row is_ascii_alphabetic bs no_letter) (no_row is_ascii_digit bs no_digit) (λ m. none_among bs m none)
         ]
@@ -180,32 +180,32 @@ record IsWrittenWord (w : Word) : Type 0 where
   some : 0 < length (word_text w)
   word : word_token (word_text w) ≡ token.Word w
 
-written : (w : Word) → IsWrittenWord w
+is_written_word : (w : Word) → IsWrittenWord w
 unfolding word_token word_among
-written word.Addto = record { letters = refl; some = omega arith; word = refl }
-written w = record { letters = refl; some = omega arith; word = refl }
+is_written_word word.Addto = record { letters = refl; some = omega arith; word = refl }
+is_written_word w = record { letters = refl; some = omega arith; word = refl }
 
 -- the text of a word, which no other letter follows
 pub word_letters : (w : Word) (rest : List ℕ) → first_is is_ascii_alphabetic rest ≡ false → IsTokenText (token.Word w) (word_text w) rest
-word_letters w rest ends = grind (arith, ints, written w)
+word_letters w rest ends = grind (arith, ints, is_written_word w)
 
 same_bytes : (xs ys : List ℕ) → bytes_eq xs ys ≡ true → xs ≡ ys
 same_bytes xs ys same = search (rules, bytes_eq-Decides)
 
 -- where each entry of a table has the text of its word, a word that is found has its text
-are_written : (entries : List (List ℕ × Word)) (w : Word) (ls : List ℕ)
+word_among-text : (entries : List (List ℕ × Word)) (w : Word) (ls : List ℕ)
     → list_all (λ e. bytes_eq e.0 (word_text e.1)) entries ≡ true → word_among entries ls ≡ Some w
     → ls ≡ word_text w
 unfolding word_among
-are_written [] w ls all is = absurd (none-some w is)
-are_written (entry ∷ entries) w ls all is =
+word_among-text [] w ls all is = absurd (none-some w is)
+word_among-text (entry ∷ entries) w ls all is =
     let parts = and_parts (bytes_eq entry.0 (word_text entry.1)) (list_all (λ e. bytes_eq e.0 (word_text e.1)) entries) all in
     cond_both (bytes_eq ls entry.0) (Some entry.1) (word_among entries ls) (λ o. o ≡ Some w → ls ≡ word_text w)
     (λ same found. same_bytes ls entry.0 same ∙ same_bytes entry.0 (word_text entry.1) parts.0 ∙ ap word_text (same_Some entry.1 w found))
-    (λ _. are_written entries w ls parts.1) is
+    (λ _. word_among-text entries w ls parts.1) is
 
 -- a single letter `a`..`z` is at the front, with this number
-pub record IsSmall (n : ℕ) (bs : List ℕ) : Type 0 where
+pub record HasSingleLetter (n : ℕ) (bs : List ℕ) : Type 0 where
   pub some : 1 ≤ length bs
   pub least : letter_a ≤ get_or bs 0 0
   pub greatest : get_or bs 0 0 ≤ letter_z
@@ -213,46 +213,46 @@ pub record IsSmall (n : ℕ) (bs : List ℕ) : Type 0 where
   pub longest : first_is is_ascii_alphabetic (drop 1 bs) ≡ false
 
 -- what is at the front where this token is
-abbrev pub IsSaid : Token → List ℕ → Type 0
-IsSaid (token.Word w) bs = (rest : List ℕ) × ((bs ≡ word_text w ++ rest) × (first_is is_ascii_alphabetic rest ≡ false))
-IsSaid (token.Letter n) bs = IsSmall n bs
-IsSaid (token.Number n) bs = (0 < prefix_len is_ascii_digit bs) × (prefix_len is_ascii_digit bs ≤ most_digits)
-IsSaid (token.Mark m) bs = (starts_with eqb bs (mark_text m) ≡ true) × (is_longer m bs ≡ false)
-IsSaid token.Unknown bs = Unit {0}
+abbrev pub HasTextOf : Token → List ℕ → Type 0
+HasTextOf (token.Word w) bs = (rest : List ℕ) × ((bs ≡ word_text w ++ rest) × (first_is is_ascii_alphabetic rest ≡ false))
+HasTextOf (token.Letter n) bs = HasSingleLetter n bs
+HasTextOf (token.Number n) bs = (0 < prefix_len is_ascii_digit bs) × (prefix_len is_ascii_digit bs ≤ most_digits)
+HasTextOf (token.Mark m) bs = (starts_with eqb bs (mark_text m) ≡ true) × (is_longer m bs ≡ false)
+HasTextOf token.Unknown bs = Unit {0}
 
-letters_say : (text rest : List ℕ) → first_is is_ascii_alphabetic rest ≡ false → IsSaid (word_token text) (text ++ rest)
+letters_have_text : (text rest : List ℕ) → first_is is_ascii_alphabetic rest ≡ false → HasTextOf (word_token text) (text ++ rest)
 unfolding word_token
-letters_say text rest ends =
-    cond_both (is_letter text) _ _ (λ t. IsSaid t (text ++ rest)) (single text) (λ _. known (word_among words text) refl) where
-      single : (ls : List ℕ) → is_letter ls ≡ true → IsSmall (get_or ls 0 0 - letter_a) (ls ++ rest)
+letters_have_text text rest ends =
+    cond_both (is_letter text) _ _ (λ t. HasTextOf t (text ++ rest)) (single text) (λ _. known (word_among words text) refl) where
+      single : (ls : List ℕ) → is_letter ls ≡ true → HasSingleLetter (get_or ls 0 0 - letter_a) (ls ++ rest)
       single (b ∷ []) is =
           let bounds = and_parts (leb letter_a b) (leb b letter_z) is in
           record { some = omega arith; least = leb-true letter_a b bounds.0; greatest = leb-true b letter_z bounds.1; number = refl; longest = ends }
       single ls is = absurd (false≢true is)
 
-      known : (o : Option Word) → word_among words text ≡ o → IsSaid (option_map_or token.Word o token.Unknown) (text ++ rest)
+      known : (o : Option Word) → word_among words text ≡ o → HasTextOf (option_map_or token.Word o token.Unknown) (text ++ rest)
       known None is = tt
-      known (Some w) is = (rest, (ap (λ ls. ls ++ rest) (are_written words w text refl is), ends))
+      known (Some w) is = (rest, (ap (λ ls. ls ++ rest) (word_among-text words w text refl is), ends))
 
-digits_say : (text rest : List ℕ) → IsRow is_ascii_digit text rest → IsSaid (number_token text) (text ++ rest)
+digits_have_text : (text rest : List ℕ) → IsRow is_ascii_digit text rest → HasTextOf (number_token text) (text ++ rest)
 unfolding number_token
-digits_say text rest row = grind (arith, ints, row_count, row, cond_both, leb-true)
+digits_have_text text rest row = grind (arith, ints, row_count, row, cond_both, leb-true)
 
-pub text_says : (t : Token) (text rest : List ℕ) → IsTokenText t text rest → IsSaid t (text ++ rest)
-text_says t text rest (Letters row is) = subst (λ u. IsSaid u (text ++ rest)) (sym is) (letters_say text rest row.longest)
-text_says t text rest (Digits row is) = subst (λ u. IsSaid u (text ++ rest)) (sym is) (digits_say text rest row)
-text_says t text rest (AMark m written longest is) = grind (arith, ints, starts-append, written)
-text_says t text rest (OtherByte other is) = subst (λ u. IsSaid u (text ++ rest)) (sym is) tt
+pub has_text_of : (t : Token) (text rest : List ℕ) → IsTokenText t text rest → HasTextOf t (text ++ rest)
+has_text_of t text rest (Letters row is) = subst (λ u. HasTextOf u (text ++ rest)) (sym is) (letters_have_text text rest row.longest)
+has_text_of t text rest (Digits row is) = subst (λ u. HasTextOf u (text ++ rest)) (sym is) (digits_have_text text rest row)
+has_text_of t text rest (AMark m written longest is) = grind (arith, ints, starts_with-append, written)
+has_text_of t text rest (OtherByte other is) = subst (λ u. HasTextOf u (text ++ rest)) (sym is) tt
 
 pub mark_length : (m : Mark) (text rest : List ℕ) → IsTokenText (token.Mark m) text rest → length text ≡ length (mark_text m)
 mark_length m text rest is =
-    let said = text_says (token.Mark m) text rest is in
-    grind (arith, ints, starts-drop (text ++ rest) (mark_text m) said.0, text_first (token.Mark m) text rest is, counts)
+    let found = has_text_of (token.Mark m) text rest is in
+    grind (arith, ints, starts_with-drop (text ++ rest) (mark_text m) found.0, text_first (token.Mark m) text rest is, mark_first)
 
-pub said : (bs : List ℕ) → IsSaid (first_token bs).token bs
-said bs = by_front (front bs) where
-  by_front : Front bs → IsSaid (first_token bs).token bs
+pub first_has_text : (bs : List ℕ) → HasTextOf (first_token bs).token bs
+first_has_text bs = by_front (front bs) where
+  by_front : Front bs → HasTextOf (first_token bs).token bs
   by_front (Text t text rest parts is) =
-      subst (λ xs. IsSaid (first_token xs).token xs) (sym parts)
-      (subst (λ (f : SizedToken). IsSaid f.token (text ++ rest)) (sym (text_first t text rest is)) (text_says t text rest is))
-  by_front (Other no_letter no_digit none) = subst (λ (f : SizedToken). IsSaid f.token bs) (sym (unknown_first bs no_letter no_digit none)) tt
+      subst (λ xs. HasTextOf (first_token xs).token xs) (sym parts)
+      (subst (λ (f : SizedToken). HasTextOf f.token (text ++ rest)) (sym (text_first t text rest is)) (has_text_of t text rest is))
+  by_front (Other no_letter no_digit none) = subst (λ (f : SizedToken). HasTextOf f.token bs) (sym (unknown_first bs no_letter no_digit none)) tt

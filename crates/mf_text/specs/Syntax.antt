@@ -12,17 +12,17 @@ pub record IsLine (ts : List Token) : Type 0 where
   pub tree : Line
   pub spelled : ts ≡ spell_line tree
 
--- some line of the grammar begins with these tokens
-pub record StartsLine (ts : List Token) : Type 0 where
+-- the tokens are a prefix of some line of the grammar
+pub record IsLinePrefix (ts : List Token) : Type 0 where
   pub rest : List Token
   pub line : IsLine (ts ++ rest)
 
--- the place, counted from 0, of the first token such that no line begins with the tokens up to and including it; or the end, where
--- some line begins with the tokens but they are not one
+-- the tokens go wrong at place k, counted from 0: those before it are a prefix of some line, and those up to and including it of none;
+-- or at their end, where they are a prefix of some line but not one themselves
 pub record IsWrongAt (ts : List Token) (k : ℕ) : Type 0 where
   pub within : k ≤ length ts
-  pub starts : StartsLine (take k ts)
-  pub wrong : k < length ts → StartsLine (take (suc k) ts) → ⊥
+  pub before : IsLinePrefix (take k ts)
+  pub wrong : k < length ts → IsLinePrefix (take (suc k) ts) → ⊥
   pub unended : k ≡ length ts → IsLine ts → ⊥
 
 -- the tokens begin with `shipout`, a source, `code`, `-` and a number

@@ -7,7 +7,7 @@ ghost use Rattle.mf_text.specs.Token.{Ahead, PlacedToken, Token};
 ghost use Rattle.mf_text.specs.Grammar.{Line, spell_line};
 ghost use Rattle.mf_text.specs.Lines.{Gives, IsRefused};
 ghost use Rattle.mf_text.specs.Registers.{HasNames};
-ghost use Rattle.mf_text.specs.Syntax.{IsLine, StartsLine, IsSyntaxFault};
+ghost use Rattle.mf_text.specs.Syntax.{IsLine, IsLinePrefix, IsSyntaxFault};
 ghost use Rattle.mf_text.specs.Tokens.{entries_of, without_columns, tokens};
 ghost use Rattle.mf_text.specs.TokenTexts.{AreTokens};
 ghost use Rattle.mf_text.specs.Written.{written_marks, written_words};
@@ -51,10 +51,10 @@ pub fn wrong_is_no_line()
     ensures { (ahead : Ahead) (column : ℕ) → IsSyntaxFault ahead column → IsLine (without_columns ahead.tokens) → ⊥ }
 {}
 
-/// Some line of the grammar begins with given tokens, or none does.
-#[tactic(auto, using(crate::proofs::LineReading::starts_or_not))]
-pub fn starts_or_not()
-    ensures { (ts : List Token) → StartsLine ts ⊎ (StartsLine ts → ⊥) }
+/// Tokens are a prefix of some line of the grammar, or of none.
+#[tactic(auto, using(crate::proofs::LineReading::line_prefix_or_not))]
+pub fn line_prefix_or_not()
+    ensures { (ts : List Token) → IsLinePrefix ts ⊎ (IsLinePrefix ts → ⊥) }
 {}
 
 /// The registers that the command of a line names are `a` to `z`.

@@ -20,7 +20,7 @@ use std::alloc::Global;
 
 impl Tokens<'_> {
     /// Passes this word, which must come next.
-    #[tactic(auto, using(crate::proofs::Reading::one_passed, crate::proofs::Reading::one_missed))]
+    #[tactic(auto, using(crate::proofs::Reading::from_one, crate::proofs::Reading::from_one_none))]
     pub fn pass_word(&mut self, word: Word) -> Result<(), SyntaxFault>
         ensures { (this : Rest) → from (rests.One (token.Word word) this) (ahead self.old) ≡ then_from (λ _. this) (ahead self.new) result }
     {
@@ -32,7 +32,7 @@ impl Tokens<'_> {
 
     /// Passes this mark, which must come next.
     #[inline(always)]
-    #[tactic(auto, using(crate::proofs::Reading::one_passed, crate::proofs::Reading::one_missed))]
+    #[tactic(auto, using(crate::proofs::Reading::from_one, crate::proofs::Reading::from_one_none))]
     pub fn pass_mark(&mut self, mark: Mark) -> Result<(), SyntaxFault>
         ensures read { (this : Rest) → from (rests.One (token.Mark mark) this) (ahead self.old) ≡ then_from (λ _. this) (ahead self.new) result }
         ensures within { IfOk result (λ _. LeavesNoMore self.new self.old) }
@@ -44,7 +44,7 @@ impl Tokens<'_> {
     }
 
     /// Passes a name, if it is the next token.
-    #[tactic(auto, using(crate::proofs::Reading::name_taken))]
+    #[tactic(auto, using(crate::proofs::Reading::takes_name))]
     #[inline(always)]
     pub fn takes_name(&mut self) -> Option<Name>
         ensures took { TakesValue name_in self.old self.new result }
@@ -60,7 +60,7 @@ impl Tokens<'_> {
     }
 
     /// Passes a name, which must come next.
-    #[tactic(auto, using(crate::proofs::Reading::passed, crate::proofs::Reading::missed))]
+    #[tactic(auto, using(crate::proofs::Reading::from_take, crate::proofs::Reading::from_take_none))]
     #[inline(always)]
     pub fn name(&mut self) -> Result<Name, SyntaxFault>
         ensures { PassesPhrase (Take Names) self.old self.new result }
@@ -72,7 +72,7 @@ impl Tokens<'_> {
     }
 
     /// Passes this name, which must come next.
-    #[tactic(auto, using(crate::proofs::Reading::same_name_taken))]
+    #[tactic(auto, using(crate::proofs::Reading::takes_same_name))]
     pub fn pass_name(&mut self, name: Name) -> Result<(), SyntaxFault>
         ensures { (this : Rest) → from (rests.One (rests.name_token name) this) (ahead self.old) ≡ then_from (λ _. this) (ahead self.new) result }
     {
@@ -108,7 +108,7 @@ impl Tokens<'_> {
 
     /// Passes the number of an int, which must come next. `negative` says whether `-` comes before it.
     #[inline(always)]
-    #[tactic(auto, using(crate::proofs::Reading::passed, crate::proofs::Reading::missed))]
+    #[tactic(auto, using(crate::proofs::Reading::from_take, crate::proofs::Reading::from_take_none))]
     fn number(&mut self, negative: bool) -> Result<Int, SyntaxFault>
         ensures read { PassesPhrase (Take (Numbers negative)) self.old self.new result }
         ensures within { IfOk result (λ _. LeavesNoMore self.new self.old) }
@@ -121,7 +121,7 @@ impl Tokens<'_> {
 
     /// Passes an int: a number, or `-` and a number.
     #[inline(always)]
-    #[tactic(auto, using(crate::proofs::Reading::number_after))]
+    #[tactic(auto, using(crate::proofs::Reading::from_number))]
     pub fn int(&mut self) -> Result<Int, SyntaxFault>
         ensures read { PassesPhrase rests.int self.old self.new result }
         ensures within { IfOk result (λ _. LeavesNoMore self.new self.old) }
@@ -142,7 +142,7 @@ impl Tokens<'_> {
     }
 
     /// Passes the int of a code. An int out of range is reported at its first token.
-    #[tactic(auto, using(crate::proofs::Reading::passed, crate::proofs::Reading::missed))]
+    #[tactic(auto, using(crate::proofs::Reading::from_take, crate::proofs::Reading::from_take_none))]
     pub fn code(&mut self) -> Result<Code, SyntaxFault>
         ensures { PassesPhrase rests.character_code self.old self.new result }
     {
@@ -157,7 +157,7 @@ impl Tokens<'_> {
 
     /// Passes the number of a code after its `-`. A number out of range is reported at the `-`, which is the last byte that was
     /// passed. This is a rule of its own: a line may go on with `-` after `code`, since `-0` is a code.
-    #[tactic(auto, using(crate::proofs::Reading::code_passed, crate::proofs::Reading::code_bad, crate::proofs::Reading::code_missing))]
+    #[tactic(auto, using(crate::proofs::Reading::from_code_number, crate::proofs::Reading::from_bad_code, crate::proofs::Reading::from_no_code))]
     fn negative_code(&mut self) -> Result<Code, SyntaxFault>
         ensures { PassesPhrase CodeNumber self.old self.new result }
     {
@@ -245,7 +245,7 @@ impl Tokens<'_> {
     }
 
     /// Checks that no token is left.
-    #[tactic(auto, using(crate::proofs::Reading::line_ends, crate::proofs::Reading::line_goes_on))]
+    #[tactic(auto, using(crate::proofs::Reading::from_ends, crate::proofs::Reading::from_ends_wrong))]
     pub fn finish(&mut self) -> Result<(), SyntaxFault>
         ensures { (line : Line) → from (Ends line) (ahead self.old) ≡ then_end line result }
     {

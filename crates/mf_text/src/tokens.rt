@@ -85,7 +85,7 @@ impl<'a> Tokens<'a> {
 
     /// Passes this word, if it is the next token, and returns whether it was. The word is compared with the bytes, and no table
     /// is searched for the word that is there: only a few words may come at any place.
-    #[tactic(auto, using(crate::proofs::FirstTokens::this_taken))]
+    #[tactic(auto, using(crate::proofs::FirstTokens::takes_this))]
     pub fn takes_word(&mut self, word: Word) -> bool
         ensures read { (this other : Rest)
             → from (Or (token.Word word) this other) (ahead self.old) ≡ (if result then from this (ahead self.new) else from other (ahead self.new)) }
@@ -105,7 +105,7 @@ impl<'a> Tokens<'a> {
     /// Passes this mark, if it is the next token, and returns whether it was. The mark is compared with the bytes, too: most
     /// tokens of a contour are marks, and a search of their table would look at several entries for each.
     #[inline(always)]
-    #[tactic(auto, using(crate::proofs::FirstTokens::this_taken, crate::proofs::FirstTokens::token_fewer))]
+    #[tactic(auto, using(crate::proofs::FirstTokens::takes_this, crate::proofs::FirstTokens::leaves_fewer))]
     pub fn takes_mark(&mut self, mark: Mark) -> bool
         ensures read { (this other : Rest)
             → from (Or (token.Mark mark) this other) (ahead self.old) ≡ (if result then from this (ahead self.new) else from other (ahead self.new)) }
@@ -126,7 +126,7 @@ impl<'a> Tokens<'a> {
 
     /// Passes a single letter `a`..`z`, if it is the next token, and returns its number, 0 for `a`.
     #[inline(always)]
-    #[tactic(auto, using(crate::proofs::FirstTokens::value_missed, crate::proofs::FirstTokens::value_taken))]
+    #[tactic(auto, using(crate::proofs::FirstTokens::takes_no_value, crate::proofs::FirstTokens::takes_value))]
     pub fn takes_letter(&mut self) -> Option<u8>
         ensures { TakesValue letter_in self.old self.new result }
     {
@@ -139,7 +139,7 @@ impl<'a> Tokens<'a> {
 
     /// Passes a number of at most nine digits, if it is the next token, and returns its value.
     #[inline(always)]
-    #[tactic(auto, using(crate::proofs::FirstTokens::value_missed, crate::proofs::FirstTokens::value_taken))]
+    #[tactic(auto, using(crate::proofs::FirstTokens::takes_no_value, crate::proofs::FirstTokens::takes_value))]
     pub fn takes_number(&mut self) -> Option<u32>
         ensures { TakesValue value_in self.old self.new result }
     {

@@ -30,7 +30,7 @@ pub(super) fn blanks_at(text: &[u8]) -> usize
 /// How many bytes this word takes, if it is the token at the front. It is not if another letter follows it, since a token is as
 /// long as possible.
 #[inline(always)]
-#[tactic(auto, using(crate::proofs::Found::word_lacking, crate::proofs::Found::word_longer))]
+#[tactic(auto, using(crate::proofs::Finds::no_word, crate::proofs::Finds::longer_word))]
 pub(super) fn word_at(word: Word, text: &[u8]) -> Option<usize>
     ensures { FindsToken (token.Word word) text.now result }
 {
@@ -46,7 +46,7 @@ pub(super) fn word_at(word: Word, text: &[u8]) -> Option<usize>
 
 /// How many bytes this mark takes, if it is the token at the front.
 #[inline(always)]
-#[tactic(auto, using(crate::proofs::Found::mark_lacking, crate::proofs::Found::mark_longer))]
+#[tactic(auto, using(crate::proofs::Finds::no_mark, crate::proofs::Finds::longer_mark))]
 pub(super) fn mark_at(mark: Mark, text: &[u8]) -> Option<usize>
     ensures { FindsToken (token.Mark mark) text.now result }
 {
@@ -92,7 +92,7 @@ fn begins_with(text: &[u8], written: &[u8]) -> bool
 
 /// The number of the letter `a`..`z` at the front, 0 for `a`, and how many bytes it takes, if no other letter follows it.
 #[inline(always)]
-#[tactic(auto, using(crate::proofs::Found::small_lacking, crate::proofs::Found::letters_longer))]
+#[tactic(auto, using(crate::proofs::Finds::no_small_letter, crate::proofs::Finds::longer_letters))]
 pub(super) fn letter_at(text: &[u8]) -> Option<(u8, usize)>
     ensures { Finds letter_in text.now result }
 {

@@ -1,5 +1,5 @@
 use Rattle.std.proofs.Common.{◌≡◌, ◌∙◌, length, sym, arith}
-use Rattle.mf_text.proofs.Digits.{number-found, number-long, number-more, number-whole}
+use Rattle.mf_text.proofs.Digits.{finds_number, no_long_number, number-more, number_at_end}
 use Rattle.mf_text.proofs.tokens.front.number_at.Goals as goal
 use Rattle.std.proofs.lemmas.Int.{ints}
 use Rattle.std.proofs.Math.Nat.{eq-or-lt_of_le}
@@ -8,12 +8,12 @@ use Rattle.std.proofs.lemmas.List.Sums.{prefix_len_passes}
 pub returns-then-not-is_ascii_digit : goal.returns-then-not-is_ascii_digit
 returns-then-not-is_ascii_digit c =
     rw c.number_of.ensures
-    (number-found _ _ _ c.loop-digits.invariant
+    (finds_number _ _ _ c.loop-digits.invariant
     (grind (arith, ints, eq-or-lt_of_le, prefix_len_passes, sym c.is_ascii_digit.ensures.value ∙ c.if-not-is_ascii_digit.true)))
 
 pub returns-then-digits-eq-MAX_DIGITS : goal.returns-then-digits-eq-MAX_DIGITS
 returns-then-digits-eq-MAX_DIGITS c =
-    number-long _ _ _ c.loop-digits.invariant c.if-digits-eq-MAX_DIGITS.true c.loop-digits-test.true
+    no_long_number _ _ _ c.loop-digits.invariant c.if-digits-eq-MAX_DIGITS.true c.loop-digits-test.true
     (sym c.is_ascii_digit.ensures.value ∙ c.if-not-is_ascii_digit.false)
 
 pub overflow_mul-value : goal.overflow_mul-value
@@ -31,4 +31,4 @@ loop-digits-preserved c =
 pub returns : goal.returns
 returns c =
     let ended : c.loop-digits.digits ≡ length c.args.text.now = omega (arith, c.loop-digits-test.false, c.loop-digits.auto.digits-end) in
-    rw (c.number_of-2.ensures, sym ended) (number-found _ _ _ c.loop-digits.invariant (number-whole _ _ _ c.loop-digits.invariant c.loop-digits-test.false))
+    rw (c.number_of-2.ensures, sym ended) (finds_number _ _ _ c.loop-digits.invariant (number_at_end _ _ _ c.loop-digits.invariant c.loop-digits-test.false))
