@@ -93,7 +93,7 @@ next_value_as f g a b same ps after is = grind (arith, ints, at_first)
 
 -- the number of an int, after `-` or not
 pub from_number : (negative : Bool) (next : Int → Rest) (after : Ahead)
-    → (if negative then from (Take (Numbers true) next) after else from (Take (Numbers false) next) after) ≡ from (Take (Numbers negative) next) after
+    → from (if negative then Take (Numbers true) next else Take (Numbers false) next) after ≡ from (Take (Numbers negative) next) after
 from_number true next after = refl
 from_number false next after = refl
 
@@ -203,9 +203,9 @@ corners_or next past (p ∷ ps) = refl
 
 -- what a line gives at the `(` of one more corner, or at the `cycle` after the last one
 pub corners_go_on : (next : List Pair → Rest) (now after : Tokens) (passes : Bool)
-    → ((this other : Rest) → from (Or (token.Mark mark.Open) this other) (ahead now) ≡ (if passes then from this (ahead after) else from other (ahead after)))
+    → ((this other : Rest) → from (Or (token.Mark mark.Open) this other) (ahead now) ≡ from (if passes then this else other) (ahead after))
     → (more : Bool) → passes ≡ more → from (Corners next) (ahead now)
-    ≡ (if more then from (rest_of_corner (λ p. Corners (λ ps. next (p ∷ ps)))) (ahead after) else from (One (token.Word word.Cycle) (next [])) (ahead after))
+    ≡ from (if more then rest_of_corner (λ p. Corners (λ ps. next (p ∷ ps))) else One (token.Word word.Cycle) (next [])) (ahead after)
 corners_go_on next now after passes read more is = corners_or next now.column (remaining_tokens now) ∙ rw (sym is) (read _ _)
 
 pub passes_no_path : (before after : Tokens) (r : Result paths.Path SyntaxFault) (fault : SyntaxFault) → IsErrAnd r (λ y. y ≡ fault)

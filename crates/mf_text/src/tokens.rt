@@ -87,8 +87,7 @@ impl<'a> Tokens<'a> {
     /// is searched for the word that is there: only a few words may come at any place.
     #[tactic(auto, using(crate::proofs::FirstTokens::takes_this))]
     pub fn takes_word(&mut self, word: Word) -> bool
-        ensures read { (this other : Rest)
-            → from (Or (token.Word word) this other) (ahead self.old) ≡ (if result then from this (ahead self.new) else from other (ahead self.new)) }
+        ensures read { (this other : Rest) → from (Or (token.Word word) this other) (ahead self.old) ≡ from (if result then this else other) (ahead self.new) }
         ensures took { TakesToken (token.Word word) self.old self.new result }
     {
         let mut start = *self;
@@ -107,8 +106,7 @@ impl<'a> Tokens<'a> {
     #[inline(always)]
     #[tactic(auto, using(crate::proofs::FirstTokens::takes_this, crate::proofs::FirstTokens::leaves_fewer))]
     pub fn takes_mark(&mut self, mark: Mark) -> bool
-        ensures read { (this other : Rest)
-            → from (Or (token.Mark mark) this other) (ahead self.old) ≡ (if result then from this (ahead self.new) else from other (ahead self.new)) }
+        ensures read { (this other : Rest) → from (Or (token.Mark mark) this other) (ahead self.old) ≡ from (if result then this else other) (ahead self.new) }
         ensures took { TakesToken (token.Mark mark) self.old self.new result }
         ensures within { LeavesNoMore self.new self.old }
         ensures fewer { result ≡ true → length (remaining_tokens self.new) < length (remaining_tokens self.old) }
