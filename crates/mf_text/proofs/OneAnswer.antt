@@ -127,9 +127,9 @@ one_cause bytes one other (BadValues values) (NoLine column q text wrong) = absu
 one_cause bytes one other (BadValues p) (BadValues q) =
     one_refusal (meaning q.line.form) one other (same_form bytes (λ form. Refuses (meaning form) one) _ p q) q.so
 
-pub one_refusal_of_line : (bytes : List ℕ) (one other : TextFault) → one ≢ faults.OutOfMemory → other ≢ faults.OutOfMemory → IsRefused bytes one
+pub refused_once : (bytes : List ℕ) (one other : TextFault) → one ≢ faults.OutOfMemory → other ≢ faults.OutOfMemory → IsRefused bytes one
     → IsRefused bytes other → one ≡ other
-one_refusal_of_line bytes one other p q first second = one_cause bytes one other (cause bytes one p first) (cause bytes other q second)
+refused_once bytes one other p q first second = one_cause bytes one other (cause bytes one p first) (cause bytes other q second)
 
 given-cause : (bytes : List ℕ) (given : Command) (fault : TextFault) → Gives bytes given → IsCause bytes fault → ⊥
 given-cause bytes given fault p (TooLong _ long) = omega (arith, long, p.line_is.text.short)

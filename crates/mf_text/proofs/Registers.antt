@@ -88,6 +88,6 @@ form_names form all = tt
 
 -- ---- the command of a line of bytes
 
-pub names_are_letters : (bytes : List ℕ) (given : Command) → Gives bytes given → HasNames given
-names_are_letters bytes given gives =
+pub names_given : (bytes : List ℕ) (given : Command) → Gives bytes given → HasNames given
+names_given bytes given gives =
     grind (arith, ints, all_letters 1 bytes (tokens bytes) (are_tokens bytes), are_tokens, names_of_meaning, form_names, of_first)
