@@ -64,9 +64,6 @@ number_token_is : (text : List ℕ) (i value : ℕ) → IsNumberTo text i value 
 unfolding number_token
 number_token_is text i value to ends = grind (arith, ints, le-leb, length-take-le, prefix_len-le-length)
 
-pub number_at_end : (text : List ℕ) (i value : ℕ) → IsNumberTo text i value → length text ≤ i → i ≡ prefix_len is_ascii_digit text
-number_at_end text i value to ended = omega (arith, to.in_prefix, ended, prefix_len-le-length is_ascii_digit text)
-
 -- the number that is found once all of its digits are passed
 pub finds_number : (text : List ℕ) (i value : ℕ) → IsNumberTo text i value → i ≡ prefix_len is_ascii_digit text
     → Finds value_in text (if nat_lt 0 i then Some (value, i) else None)

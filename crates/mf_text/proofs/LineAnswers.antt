@@ -19,33 +19,19 @@ nothing old none r answer = subst (λ ps. AnswersLine (from line (record { token
 
 -- ---- refusals of values
 
--- the fault is a refusal of values
+-- a line whose values are refused in this way is refused so, and not with `OutOfMemory`
 abbrev pub IsOfValues : TextFault → Type 0
-IsOfValues (faults.Cycle cause) = Unit {0}
-IsOfValues faults.BadWeight = Unit {0}
-IsOfValues faults.BadCull = Unit {0}
-IsOfValues faults.BadScale = Unit {0}
-IsOfValues faults.BadTurn = Unit {0}
-IsOfValues fault = ⊥
+IsOfValues fault = (fault ≢ faults.OutOfMemory) × ((bytes : List ℕ) → IsLineWith bytes (λ form. Refuses (meaning form) fault) → IsRefused bytes fault)
 
 of_value : (value : Value) (fault : TextFault) → IsUnlawful value fault → IsOfValues fault
-of_value (Points points) fault is = rw is.is.is tt
-of_value value fault is = rw is.is tt
+of_value (Points points) fault is = rw is.is.is ((λ e. cc), λ bytes bad. bad)
+of_value value fault is = rw is.is ((λ e. cc), λ bytes bad. bad)
 
-pub refusals_of_values : (m : Meaning) (fault : TextFault) → Refuses m fault → IsOfValues fault
-refusals_of_values (Is made) fault is = absurd is
-refusals_of_values (If value rest) fault (inl is) = of_value value fault is
-refusals_of_values (If value rest) fault (inr is) = refusals_of_values rest fault is.1
-refusals_of_values (Turns name angle) fault is = of_value (Angle angle) fault is
-
--- a line whose values are refused is refused, and not with `OutOfMemory`
-pub of_values : (fault : TextFault) → IsOfValues fault
-    → (fault ≢ faults.OutOfMemory) × ((bytes : List ℕ) → IsLineWith bytes (λ form. Refuses (meaning form) fault) → IsRefused bytes fault)
-of_values faults.OutOfMemory of = absurd of
-of_values faults.LineTooLong of = absurd of
-of_values faults.NotAscii of = absurd of
-of_values (faults.Syntax column) of = absurd of
-of_values fault of = ((λ e. cc), λ bytes bad. bad)
+pub of_values : (m : Meaning) (fault : TextFault) → Refuses m fault → IsOfValues fault
+of_values (Is made) fault is = absurd is
+of_values (If value rest) fault (inl is) = of_value value fault is
+of_values (If value rest) fault (inr is) = of_values rest fault is.1
+of_values (Turns name angle) fault is = of_value (Angle angle) fault is
 
 -- ---- the answer
 
@@ -57,7 +43,7 @@ answer_of_form : (line : List ℕ) (l : Line) (r : Result Command TextFault) →
 answer_of_form bytes l (Ok given) is answer = (record { line = l; line_is = is; so = answer }, tt)
 answer_of_form bytes l (Err faults.OutOfMemory) is answer = (tt, record { line = l; line_is = is; so = answer })
 answer_of_form bytes l (Err fault) is answer =
-    (tt, (of_values fault (refusals_of_values (meaning l.form) fault answer)).1 bytes (record { line = l; line_is = is; so = answer }))
+    (tt, (of_values (meaning l.form) fault answer).1 bytes (record { line = l; line_is = is; so = answer }))
 
 answer_of_reading : (line_bytes : List ℕ) (o : Result Line ℕ) (r : Result Command TextFault) → IsText line_bytes
     → from line (line_ahead line_bytes) ≡ o → AnswersLine o r → IsAnswerTo line_bytes r

@@ -171,15 +171,10 @@ goes_wrong bytes column is = syntax_fault bytes column (stops line 1 (tokens byt
 
 follows : (r : Rest) (past : ℕ) (ps : List PlacedToken) (l : Line) → follow (Ok r) past ps ≡ Ok l → reads (Some r) (without_columns ps) ≡ Some l
 unfolding follow reads
-follows r past [] l is = end_is (ends r) is where
-  end_is : (end : Option Line) → ok_or end past ≡ Ok l → end ≡ Some l
-  end_is None other = absurd (let wrong = other in cc)
-  end_is (Some m) same = cc
-follows r past (t ∷ ps) l is = on_to (step r t.token) is (λ s. follows s t.after ps l) where
-  on_to : (q : Option Rest) → follow (ok_or q (report_column (is_code_number r t.token) (record { tokens = t ∷ ps; past = past }))) t.after ps ≡ Ok l
-      → ((s : Rest) → follow (Ok s) t.after ps ≡ Ok l → reads (Some s) (without_columns ps) ≡ Some l) → reads q (without_columns ps) ≡ Some l
-  on_to None other later = absurd (let wrong = other in cc)
-  on_to (Some s) is later = later s is
+follows r past [] l is = grind (arith, ints)
+follows r past (t ∷ ts) l is =
+    let later : (s : Rest) → follow (Ok s) t.after ts ≡ Ok l → reads (Some s) (without_columns ts) ≡ Some l = λ s. follows s t.after ts l in
+    grind (arith, ints)
 
 pub is_line : (ahead : Ahead) (l : Line) → from line ahead ≡ Ok l → without_columns ahead.tokens ≡ spell_line l
 is_line ahead l is = read_is_line (without_columns ahead.tokens) l (follows line ahead.past ahead.tokens l is)

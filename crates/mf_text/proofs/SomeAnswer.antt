@@ -25,7 +25,7 @@ use Rattle.mf_text.specs.Meaning.{Refuses, meaning, Command, TextFault}
 use Rattle.mf_text.specs.Rests.{from, line}
 use Rattle.mf_text.specs.Syntax.{IsLine}
 use Rattle.mf_text.specs.Tokens.{without_columns, tokens}
-use Rattle.mf_text.proofs.LineAnswers.{of_values, refusals_of_values}
+use Rattle.mf_text.proofs.LineAnswers.{of_values}
 use Rattle.mf_text.proofs.LineReading.{goes_wrong, is_line}
 
 -- ---- values are lawful or not
@@ -114,7 +114,7 @@ HasAnswer bytes = ((given : Command) × Gives bytes given) ⊎ ((fault : TextFau
 line_has_answer : (bytes : List ℕ) → IsText bytes → (line : IsLine (without_columns (tokens bytes))) → MeansSomething (meaning line.tree.form) → HasAnswer bytes
 line_has_answer bytes text line (inl (given, is)) = inl (given, record { line = line.tree; line_is = record { text = text; spelled = line.spelled }; so = is })
 line_has_answer bytes text line (inr (fault, is)) =
-    let (other, refused) = of_values fault (refusals_of_values (meaning line.tree.form) fault is) in
+    let (other, refused) = of_values (meaning line.tree.form) fault is in
     inr (fault, other, refused bytes (record { line = line.tree; line_is = record { text = text; spelled = line.spelled }; so = is }))
 
 text_has_answer : (bytes : List ℕ) → IsText bytes → (o : Result Line ℕ) → from line (line_ahead bytes) ≡ o → HasAnswer bytes

@@ -1,9 +1,9 @@
 use Rattle.std.proofs.Common.{◌≡◌, ◌∙◌, length, sym, arith}
-use Rattle.mf_text.proofs.Digits.{finds_number, no_long_number, number-more, number_at_end}
+use Rattle.mf_text.proofs.Digits.{finds_number, no_long_number, number-more}
 use Rattle.mf_text.proofs.tokens.front.number_at.Goals as goal
 use Rattle.std.proofs.lemmas.Int.{ints}
 use Rattle.std.proofs.Math.Nat.{eq-or-lt_of_le}
-use Rattle.std.proofs.lemmas.List.Sums.{prefix_len_passes}
+use Rattle.std.proofs.lemmas.List.Sums.{prefix_len-le-length, prefix_len_passes}
 
 pub returns-then-not-is_ascii_digit : goal.returns-then-not-is_ascii_digit
 returns-then-not-is_ascii_digit c =
@@ -31,4 +31,4 @@ loop-digits-preserved c =
 pub returns : goal.returns
 returns c =
     let ended : c.loop-digits.digits ≡ length c.args.text.now = omega (arith, c.loop-digits-test.false, c.loop-digits.auto.digits-end) in
-    rw (c.number_of-2.ensures, sym ended) (finds_number _ _ _ c.loop-digits.invariant (number_at_end _ _ _ c.loop-digits.invariant c.loop-digits-test.false))
+    rw (c.number_of-2.ensures, sym ended) (finds_number _ _ _ c.loop-digits.invariant (grind (arith, ints, prefix_len-le-length)))
