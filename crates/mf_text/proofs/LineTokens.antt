@@ -47,9 +47,9 @@ tokens_within-same (suc m) (suc n) column (b ∷ bs) p q =
       tokens_within-same m n (column + first.bytes) (drop first.bytes (b ∷ bs)) (omega arith) (omega arith),
     ) refl
 
-pub tokens-blank : (column b : ℕ) (bs : List ℕ) → is_blank b ≡ true → tokens_from column (b ∷ bs) ≡ tokens_from (column + 1) bs
+pub tokens_of_blank : (column b : ℕ) (bs : List ℕ) → is_blank b ≡ true → tokens_from column (b ∷ bs) ≡ tokens_from (column + 1) bs
 unfolding tokens_from tokens_within
-tokens-blank column b bs blank = rw blank refl
+tokens_of_blank column b bs blank = rw blank refl
 
 pub tokens-step : (column b : ℕ) (bs : List ℕ) → is_blank b ≡ false → eqb b percent_sign ≡ false
     → tokens_from column (b ∷ bs) ≡ token_at column (first_token (b ∷ bs))
@@ -72,7 +72,7 @@ tokens_at_comment column (b ∷ bs) long comment = rw comment refl
 pub tokens_at_blank : (column : ℕ) (text : List ℕ) → 1 ≤ length text → is_blank (get_or text 0 0) ≡ true
     → tokens_from (column + 1) (take (length text - 1) (drop 1 text)) ≡ tokens_from column text
 tokens_at_blank column [] long blank = absurd (omega arith)
-tokens_at_blank column (b ∷ bs) long blank = rw (take_rest (b ∷ bs) 1) (sym (tokens-blank column b bs blank))
+tokens_at_blank column (b ∷ bs) long blank = rw (take_rest (b ∷ bs) 1) (sym (tokens_of_blank column b bs blank))
 
 pub tokens_at_token : (column : ℕ) (text : List ℕ) → IsClear text → 1 ≤ length text → get_or text 0 0 ≢ percent_sign
     → tokens_from column text ≡ token_at column (first_token text) ∷ tokens_from (column + (first_token text).bytes) (drop (first_token text).bytes text)

@@ -5,6 +5,7 @@ use Rattle.std.proofs.lemmas.Int.{ints}
 use Rattle.std.specs.Option.{option_map}
 use Rattle.std.specs.Result.{IsErrAnd}
 use Rattle.std.proofs.lemmas.Option.{none-some, same_Some}
+use Rattle.mf_geom.proofs.FirstFaults.{form_fault-many}
 use Rattle.mf_geom.specs.declared.point.Point.{Point}
 use Rattle.mf_text.specs.declared.fault.SyntaxFault.{SyntaxFault}
 use Rattle.mf_text.specs.declared.path.Path as paths
@@ -12,7 +13,7 @@ use Rattle.mf_text.specs.declared.token.Mark.TheVariants as mark
 use Rattle.mf_text.specs.declared.token.Word.TheVariants as word
 use Rattle.mf_text.specs.declared.tokens.Tokens.{Tokens}
 use Rattle.mf_text.specs.Grammar.{Line, Path, path_value, Code, Name, Current, Register, Int, Pair, pair_value}
-use Rattle.mf_text.specs.Reads.{HasPoints, PassesPath, TakesToken, TakesValue, ahead, remaining_tokens, next_value}
+use Rattle.mf_text.specs.Reads.{HasPoints, PassesPath, PassesPhrase, TakesToken, TakesValue, ahead, remaining_tokens, next_value}
 use Rattle.mf_text.specs.Rests.{Kind, Of, This, Numbers, Codes, Rest, Take, OrTake, Corners, One, Or, CodeNumber}
 use Rattle.mf_text.specs.Rests.{Ends, rest_of_corner, path, follow, from, is_code_number, name_token, step, value}
 use Rattle.mf_text.specs.Token.{Ahead, PlacedToken, Token, column_of, letter_in, name_in, this_in, value_in}
@@ -201,12 +202,16 @@ unfolding follow
 corners_or next past [] = refl
 corners_or next past (p ∷ ps) = refl
 
--- what a line gives at the `(` of one more corner, or at the `cycle` after the last one
-pub corners_go_on : (next : List Pair → Rest) (now after : Tokens) (passes : Bool)
-    → ((this other : Rest) → from (Or (token.Mark mark.Open) this other) (ahead now) ≡ from (if passes then this else other) (ahead after))
-    → (more : Bool) → passes ≡ more → from (Corners next) (ahead now)
-    ≡ from (if more then rest_of_corner (λ p. Corners (λ ps. next (p ∷ ps))) else One (token.Word word.Cycle) (next [])) (ahead after)
-corners_go_on next now after passes read more is = corners_or next now.column (remaining_tokens now) ∙ rw (sym is) (read _ _)
+-- what a line gives after one more corner of a path: at the `(` of the next one, or at the `cycle` after the last one
+pub path_goes_on : (old now : Tokens) (kept : paths.Path) (so_far : IsInPath old now kept) (p : Pair) (between after : Tokens) (passes : Bool)
+    → PassesPhrase rest_of_corner now between (Ok p)
+    → ((this other : Rest) → from (Or (token.Mark mark.Open) this other) (ahead between) ≡ from (if passes then this else other) (ahead after))
+    → (more : Bool) → passes ≡ more → (next : Path → Rest) → from (path next) (ahead old)
+    ≡ from (if more then rest_of_corner (corners_after (λ q qs. so_far.path_of p (q ∷ qs)) next)
+    else One (token.Word word.Cycle) (next (so_far.path_of p []))) (ahead after)
+path_goes_on old now kept so_far p between after passes corner read more is next =
+    so_far.read next ∙ corner (corners_after so_far.path_of next)
+    ∙ corners_or (λ ps. next (so_far.path_of p ps)) between.column (remaining_tokens between) ∙ rw (sym is) (read _ _)
 
 pub passes_no_path : (before after : Tokens) (r : Result paths.Path SyntaxFault) (fault : SyntaxFault) → IsErrAnd r (λ y. y ≡ fault)
     → ((next : Path → Rest) → from (path next) (ahead before) ≡ Err fault.column) → PassesPath before after r
@@ -215,3 +220,6 @@ passes_no_path before after (Err e) fault same wrong = λ next. wrong next ∙ a
 
 pub one_longer : (points : List Point) (v w : Point) (ws : List Point) → v ≡ w → points ++ w ∷ ws ≡ (points ++ v ∷ []) ++ ws
 one_longer points v w ws is = rw is (sym (append_assoc points (w ∷ []) ws))
+
+-- what the search needs where a path has more points than a cycle may have
+pub ruleset many_points = (form_fault-many)

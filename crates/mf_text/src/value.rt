@@ -16,6 +16,7 @@ use mf_ops::{Cull, Quarter, Scale, Weight};
 
 /// The command of a contour. Refused, in this order, with `TooManyPoints`, with `OutOfMemory` where an allocation failed for a
 /// point, with another fault of the points, or with `BadWeight`.
+#[tactic(auto, using(std::proofs::lemmas::Int::ints, crate::proofs::Reading::many_points))]
 pub fn contour_command(name: Name, path: Path, weight: Option<Int>) -> Result<Command, TextFault>
     ensures { (tree : grammar.Path) → HasPoints path (path_value tree) → IsAnswerOf (grammar.AddContour name tree weight) result }
 {

@@ -14,6 +14,7 @@ const MAX_DIGITS: usize = 9;
 
 /// How many blanks are at the front. It takes no `Tokens`, so that the reader keeps its place in registers.
 #[inline(never)]
+#[tactic(auto, using(std::proofs::lemmas::List::drop_more, crate::proofs::LineTokens::tokens_of_blank))]
 pub(super) fn blanks_at(text: &[u8]) -> usize
     ensures within { result ≤ length text.now }
     ensures same { (column : ℕ) → tokens_from (column + result) (drop result text.now) ≡ tokens_from column text.now }

@@ -1,7 +1,7 @@
 use Rattle.std.proofs.Common.{◌++◌, ◌∷◌, [], ◌∙◌, true, false, ap, map, refl, subst, sym, rules, arith}
 use Rattle.mf_text.specs.Grammar.{pair_value}
 use Rattle.mf_text.specs.Reads.{HasPoints}
-use Rattle.mf_text.proofs.Reading.{corners_go_on, one_longer, corners_after, passes_no_path}
+use Rattle.mf_text.proofs.Reading.{one_longer, passes_no_path, path_goes_on}
 use Rattle.mf_text.proofs.tokens.Tokens.path.Goals as goal
 use Rattle.std.proofs.lemmas.Int.{ints}
 
@@ -26,20 +26,16 @@ corners-preserved c =
       has = c.push.ensures _ so_far.has;
       path_of = λ q qs. so_far.path_of p (q ∷ qs);
       value_is = λ q qs. so_far.value_is p (q ∷ qs) ∙ one_longer so_far.points c.value.result (pair_value p) (map pair_value (q ∷ qs)) c.value.ensures;
-      read = λ next. so_far.read next ∙ c.in_ok-rest_of_corner.ensures.read (corners_after so_far.path_of next)
-          ∙ corners_go_on (λ ps. next (so_far.path_of p ps)) c.rest_of_corner.new.self c.takes_mark.new.self c.takes_mark.result c.takes_mark.ensures.read
-          true (search rules);
+      read = path_goes_on _ _ _ so_far p c.rest_of_corner.new.self c.takes_mark.new.self _ c.in_ok-rest_of_corner.ensures.read
+          c.takes_mark.ensures.read true (search rules);
     }
 
 pub returns-in_err-pass_word : goal.returns-in_err-pass_word
 returns-in_err-pass_word c =
-    let so_far = c.corners.invariant in
     passes_no_path c.args.self.now c.pass_word.new.self c.from_residual-in_err-pass_word.result c.in_err-pass_word.field-0.0
     c.from_residual-in_err-pass_word.ensures.1
-    (λ next. so_far.read next ∙ c.in_ok-rest_of_corner.ensures.read (corners_after so_far.path_of next)
-    ∙ corners_go_on (λ ps. next (so_far.path_of c.in_ok-rest_of_corner.field-0 ps)) c.rest_of_corner.new.self c.takes_mark.new.self c.takes_mark.result
-    c.takes_mark.ensures.read false (search rules)
-    ∙ c.in_err-pass_word.ensures _)
+    (λ next. path_goes_on _ _ _ c.corners.invariant _ c.rest_of_corner.new.self c.takes_mark.new.self _ c.in_ok-rest_of_corner.ensures.read
+    c.takes_mark.ensures.read false (search rules) next ∙ c.in_err-pass_word.ensures _)
 
 pub returns : goal.returns
 returns c =
@@ -48,7 +44,6 @@ returns c =
     record {
       tree = so_far.path_of p [];
       points = subst (HasPoints c.push.new.self) (ap (λ v. so_far.points ++ v ∷ []) c.value.ensures ∙ sym (so_far.value_is p [])) (c.push.ensures _ so_far.has);
-      passed = λ next. so_far.read next ∙ c.in_ok-rest_of_corner.ensures.read (corners_after so_far.path_of next)
-          ∙ corners_go_on (λ ps. next (so_far.path_of p ps)) c.rest_of_corner.new.self c.takes_mark.new.self c.takes_mark.result c.takes_mark.ensures.read
-          false (search rules) ∙ c.in_ok-pass_word.ensures _;
+      passed = λ next. path_goes_on _ _ _ so_far p c.rest_of_corner.new.self c.takes_mark.new.self _ c.in_ok-rest_of_corner.ensures.read
+          c.takes_mark.ensures.read false (search rules) next ∙ c.in_ok-pass_word.ensures _;
     }
