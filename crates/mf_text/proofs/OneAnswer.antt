@@ -28,7 +28,7 @@ same_angle one other same = absurd (omega (arith, ints))
 one_command : (m : Meaning) (one other : Command) → Means m one → Means m other → one ≡ other
 one_command (Is made) one other p q = cc
 one_command (If value rest) one other p q = one_command rest one other p.1 q.1
-one_command (Turns name angle) one other p q = p.is ∙ ap (command.Quarter name) (same_angle p.quarter q.quarter (p.angle_is ∙ sym q.angle_is)) ∙ sym q.is
+one_command (Turns name angle) one other p q = p.2 ∙ ap (command.Quarter name) (same_angle p.0 q.0 (p.1 ∙ sym q.1)) ∙ sym q.2
 
 one_fault : (value : Value) (one other : TextFault) → IsUnlawful value one → IsUnlawful value other → one ≡ other
 one_fault (Points points) one other p q = grind (arith, ints)
@@ -46,7 +46,7 @@ not_both : (m : Meaning) (given : Command) (fault : TextFault) → Means m given
 not_both (Is made) given fault p q = q
 not_both (If value rest) given fault p (inl q) = q.unlawful p.0
 not_both (If value rest) given fault p (inr q) = not_both rest given fault p.1 q.1
-not_both (Turns name angle) given fault p q = q.unlawful (p.quarter, p.angle_is)
+not_both (Turns name angle) given fault p q = q.unlawful (p.0, p.1)
 
 -- ---- where tokens go wrong
 

@@ -70,7 +70,7 @@ AreNamed (Turns name angle) = IsName name
 names_of_meaning : (m : Meaning) (given : Command) → AreNamed m → Means m given → HasNames given
 names_of_meaning (Is made) given all p = rw p all
 names_of_meaning (If value rest) given all p = names_of_meaning rest given all p.1
-names_of_meaning (Turns name angle) given all p = rw p.is all
+names_of_meaning (Turns name angle) given all p = rw p.2 all
 
 form_names : (form : Form) → AreLetters (spell_form form) → AreNamed (meaning form)
 form_names (AddContour name path weight) all = first_name name _ _ (of_first _ _ all.1)

@@ -70,10 +70,7 @@ IsChecked value = IsLawfulValue value ⊎ ((fault : TextFault) × IsUnlawful val
 
 cycle_or_not : (points : List Point) (found : Option CycleFault) → form_fault points ≡ found → IsChecked (Points points)
 cycle_or_not points None is = inl (is_cycle points is)
-cycle_or_not points (Some cause) is = inr (
-  faults.Cycle cause,
-  grind (arith, ints, none-some, no_form_fault),
-)
+cycle_or_not points (Some cause) is = inr (faults.Cycle cause, grind (arith, ints, none-some, no_form_fault))
 
 or_refused : (value : Value) (fault : TextFault) → HasRefusal value fault → IsLawfulValue value ⊎ (IsLawfulValue value → ⊥) → IsChecked value
 or_refused value fault is (inl lawful) = inl lawful
@@ -98,7 +95,7 @@ if_means_something value rest (inl lawful) (inr (fault, is)) = inr (fault, inr (
 if_means_something value rest (inr (fault, is)) later = inr (fault, inl is)
 
 turn_means_something : (name : Name) (angle : ℤ) → IsChecked (Angle angle) → MeansSomething (Turns name angle)
-turn_means_something name angle (inl (quarter, is)) = inl (command.Quarter name quarter, record { quarter = quarter; angle_is = is; is = refl })
+turn_means_something name angle (inl (quarter, is)) = inl (command.Quarter name quarter, (quarter, is, refl))
 turn_means_something name angle (inr refused) = inr refused
 
 means_something : (m : Meaning) → MeansSomething m

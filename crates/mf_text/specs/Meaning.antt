@@ -72,12 +72,6 @@ meaning (ShipOut source code dx width) = Is (command.Ship source code.int.magnit
 meaning (SetCheck n) = Is (command.Turning (check_of (int_value n)))
 meaning PublishAll = Is command.Publish
 
--- the command is the turn by this angle, which is 90, 180 or 270 degrees
-pub record IsTurn (name : Name) (angle : ℤ) (given : Command) : Type 0 where
-  pub quarter : Quarter
-  pub angle_is : degrees quarter ≡ angle
-  pub is : given ≡ command.Quarter name quarter
-
 -- the value is lawful; an angle is that of a quarter turn or of several
 abbrev pub IsLawfulValue : Value → Type 0
 IsLawfulValue (Points points) = IsRectilinearCycle points
@@ -109,7 +103,7 @@ pub record IsUnlawful (value : Value) (refused : TextFault) : Type 0 where
 abbrev pub Means : Meaning → Command → Type 0
 Means (Is made) given = given ≡ made
 Means (If value rest) given = IsLawfulValue value × Means rest given
-Means (Turns name angle) given = IsTurn name angle given
+Means (Turns name angle) given = (quarter : Quarter) × (degrees quarter ≡ angle) × (given ≡ command.Quarter name quarter)
 
 -- this is the refusal of the first value of the meaning that is not lawful
 abbrev pub Refuses : Meaning → TextFault → Type 0
