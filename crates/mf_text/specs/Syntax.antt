@@ -25,7 +25,7 @@ pub record IsWrongAt (ts : List Token) (k : ℕ) : Type 0 where
   pub wrong : k < length ts → IsLinePrefix (take (suc k) ts) → ⊥
   pub unended : k ≡ length ts → IsLine ts → ⊥
 
--- the tokens begin with `shipout`, a source, `code`, `-` and a number
+-- the tokens begin with `shipout`, any token, which in a line is a source, `code`, `-` and a number
 abbrev pub is_negative_code : List Token → Bool
 is_negative_code (token.Word word.Shipout ∷ source ∷ token.Word word.Code ∷ token.Mark mark.Minus ∷ token.Number n ∷ ts) = true
 is_negative_code ts = false
