@@ -59,16 +59,12 @@ number-more text i value to inside digit not_last =
       more = grind (arith, ints, digit_goes_on);
     }
 
-number_token_is : (text : List ℕ) (i value : ℕ) → IsNumberTo text i value → i ≡ prefix_len is_ascii_digit text
-    → token.Number value ≡ number_token (take_while is_ascii_digit text)
-unfolding number_token
-number_token_is text i value to ends = grind (arith, ints, le-leb, length-take-le, prefix_len-le-length)
-
 -- the number that is found once all of its digits are passed
 pub finds_number : (text : List ℕ) (i value : ℕ) → IsNumberTo text i value → i ≡ prefix_len is_ascii_digit text
     → Finds value_in text (if nat_lt 0 i then Some (value, i) else None)
+unfolding number_token
 finds_number text i value to ends =
-    grind (arith, ints, cond_both, digits_first, ltb-true, no_number, ltb-false, length-prefix_len, number_token_is, prefix_len-le-length)
+    grind (arith, ints, cond_both, digits_first, ltb-true, no_number, ltb-false, length-prefix_len, le-leb, length-take-le, prefix_len-le-length)
 
 -- with a tenth digit there is no number
 pub no_long_number : (text : List ℕ) (i value : ℕ) → IsNumberTo text i value → i ≡ most_digits → i < length text

@@ -6,7 +6,7 @@ use Rattle.std.proofs.lemmas.Bool.{cases_Bool, eqb-true}
 use Rattle.mf_text.specs.declared.tokens.Tokens.{Tokens}
 use Rattle.mf_text.specs.Reads.{TakesToken, TakesValue, ahead, next_value, remaining_tokens}
 use Rattle.mf_text.specs.Token.{Ahead, Token, Unknown, this_in}
-use Rattle.mf_text.specs.Tokens.{IsClear, first_token, mark_among, token_at, tokens_from}
+use Rattle.mf_text.specs.Tokens.{Finds, FindsToken, IsClear, first_token, mark_among, token_at, tokens_from}
 use Rattle.mf_text.proofs.LineTokens.{tokens_at_comment, tokens_at_end, tokens-step}
 use Rattle.mf_text.proofs.Reading.{next_value_fewer, from_or_none, from_or}
 
@@ -41,19 +41,18 @@ module _ (old : Tokens) (column : ℕ) (text : List ℕ) (same : remaining_token
     pub takes_no_value : f (first_token text).token ≡ None → TakesValue f old old None
     takes_no_value is = (value_at None is (first column text clear), refl)
 
-    pub takes_value : (a : A) (new : Tokens) (n : ℕ) → (f (first_token text).token ≡ Some a) × (n ≡ bytes) × (n ≤ length text)
-        → new.rest.now ≡ drop n text → new.column ≡ column + n → TakesValue f old new (Some a)
+    pub takes_value : (a : A) (new : Tokens) (n : ℕ) → Finds f text (Some (a, n)) → new.rest.now ≡ drop n text → new.column ≡ column + n
+        → TakesValue f old new (Some a)
     takes_value a new n (found, size, _) rest column_is =
         value_at (Some a) found (first column text clear) ∙ ap (λ after. Some (a, after)) (onward_is new n size rest column_is)
 
   -- a token that is at the front
   module _ (u : Token) (none : this_in u Unknown ≡ None) where
-    pub takes_token : (new : Tokens) (n : ℕ) → (this_in u (first_token text).token ≡ Some tt) × (n ≡ bytes) × (n ≤ length text)
-        → new.rest.now ≡ drop n text → new.column ≡ column + n → TakesToken u old new true
+    pub takes_token : (new : Tokens) (n : ℕ) → FindsToken u text (Some n) → new.rest.now ≡ drop n text → new.column ≡ column + n → TakesToken u old new true
     takes_token = takes_value (this_in u) none tt
 
-    pub leaves_fewer : (new : Tokens) (n : ℕ) → (this_in u (first_token text).token ≡ Some tt) × (n ≡ bytes) × (n ≤ length text)
-        → new.rest.now ≡ drop n text → new.column ≡ column + n → length (remaining_tokens new) < length (remaining_tokens old)
+    pub leaves_fewer : (new : Tokens) (n : ℕ) → FindsToken u text (Some n) → new.rest.now ≡ drop n text → new.column ≡ column + n
+        → length (remaining_tokens new) < length (remaining_tokens old)
     leaves_fewer new n found rest column_is = next_value_fewer (this_in u) tt (remaining_tokens old) (ahead new) (takes_token new n found rest column_is)
 
 -- what the search needs where a given token is taken, or is not there

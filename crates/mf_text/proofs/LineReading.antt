@@ -68,11 +68,6 @@ record Stops (r : Rest) (past : ℕ) (ps : List PlacedToken) (column : ℕ) : Ty
   at : Wrong (Some r) (without_columns ps) place
   column_is : column ≡ report_column (is_code_number_at (Some r) (without_columns ps) place) (ahead_after place ps past)
 
-at_end : (r : Rest) (past column : ℕ) (end : Option Line) → ends r ≡ end → ok_or end past ≡ Err column → Stops r past [] column
-unfolding reads is_code_number_at
-at_end r past column None is wrong = grind (arith, ints, rest_ends, none-some)
-at_end r past column (Some l) is wrong = absurd (let no = wrong in cc)
-
 later : (r : Rest) (t : Token) (ts : List Token) (k : ℕ) → Wrong (step r t) ts k → Wrong (Some r) (t ∷ ts) (suc k)
 unfolding reads
 later r t ts k wrong = grind (arith, ints)
@@ -89,8 +84,8 @@ at_token r past t ps column (Some s) is wrong after_it = let stops = after_it s 
 }
 
 stops : (r : Rest) (past : ℕ) (ps : List PlacedToken) (column : ℕ) → follow (Ok r) past ps ≡ Err column → Stops r past ps column
-unfolding follow
-stops r past [] column is = at_end r past column (ends r) refl is
+unfolding follow reads is_code_number_at
+stops r past [] column is = grind (arith, ints, rest_ends, none-some)
 stops r past (t ∷ ps) column is = at_token r past t ps column (step r t.token) refl is (λ s. stops s t.after ps column)
 
 -- ---- a number after `code -` is report_column at the `-`

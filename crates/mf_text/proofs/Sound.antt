@@ -74,20 +74,12 @@ sound_or_name each other = record { by = ((sound_name each).by, other.by) }
 sound_source : {past : List Token} {next : Source → Rest} → ((s : Source) → Sound (past ++ spell_source s) (next s)) → Sound past (source next)
 sound_source each = sound_or (each Null) (sound_name (λ name. each (Named name)))
 
--- an int with `-`, and one without
-minus_tokens : (past : List Token) (n : Int) → n.negative ≡ true
-    → past ++ spell_int n ≡ (past ++ token.Mark mark.Minus ∷ []) ++ token.Number n.magnitude ∷ []
-minus_tokens past n is = rw is (sym (append_assoc past (token.Mark mark.Minus ∷ []) (token.Number n.magnitude ∷ [])))
-
-plain_tokens : (past : List Token) (n : Int) → n.negative ≡ false → past ++ spell_int n ≡ past ++ token.Number n.magnitude ∷ []
-plain_tokens past n is = rw is refl
-
 sound_int : {past : List Token} {next : Int → Rest} → ((n : Int) → Sound (past ++ spell_int n) (next n)) → Sound past (int next)
-sound_int {past} each = grind (arith, ints, sound_at, minus_tokens, plain_tokens)
+sound_int {past} each = grind (arith, ints, sound_at, append_assoc)
 
 sound_code : {past : List Token} {next : Code → Rest} → ((s : Token) × (past ++ token.Mark mark.Minus ∷ [] ≡ to_number s))
     → ((c : Code) → Sound (past ++ spell_int c.int) (next c)) → Sound past (character_code next)
-sound_code {past} place each = grind (arith, ints, sound_at, minus_tokens, plain_tokens)
+sound_code {past} place each = grind (arith, ints, sound_at, append_assoc)
 
 -- a pair after its `(`
 sound_rest_of_pair : (past : List Token) {next : Pair → Rest} → ((p : Pair) → Sound (past ++ spell_pair p) (next p))
