@@ -10,7 +10,7 @@ use Rattle.mf_ops.specs.declared.quarter.Quarter.TheVariants.{Once, Twice, Thric
 use Rattle.mf_text.specs.declared.command.Command.TheVariants as command
 use Rattle.mf_text.specs.declared.fault.TextFault.TheVariants as faults
 use Rattle.mf_text.specs.Grammar.{Form, Line}
-use Rattle.mf_text.specs.Lines.{IsText, line_ahead, IsLineOf, IsLineWith, Gives, IsRefused, is_text_byte, longest_line}
+use Rattle.mf_text.specs.Lines.{IsText, line_ahead, IsLineOf, IsLineWith, Gives, IsRefused, is_text_byte}
 use Rattle.mf_text.specs.Meaning.{Value, Points, Angle, Meaning, Is, If, Turns, IsUnlawful, Means, Refuses, meaning, Command, TextFault}
 use Rattle.mf_text.specs.Syntax.{IsLine, IsLinePrefix, IsSyntaxFault, IsWrongAt, report_place}
 use Rattle.mf_text.specs.Token.{Ahead, Token, token_column}
@@ -87,56 +87,37 @@ same_form bytes P Q p q = subst (λ (l : Line). P l.form) (same_line p.line q.li
 pub gives_one : (bytes : List ℕ) (one other : Command) → Gives bytes one → Gives bytes other → one ≡ other
 gives_one bytes one other p q = one_command (meaning q.line.form) one other (same_form bytes (λ form. Means (meaning form) one) _ p q) q.so
 
--- why a line is refused, other than with `OutOfMemory`
-data IsCause (bytes : List ℕ) (fault : TextFault) : Type 0 where
-  TooLong : fault ≡ faults.LineTooLong → longest_line < length bytes → IsCause bytes fault
-  NoText : fault ≡ faults.NotAscii → length bytes ≤ longest_line → list_all is_text_byte bytes ≡ false → IsCause bytes fault
-  NoLine : (column : ℕ) → fault ≡ faults.Syntax column → IsText bytes → IsSyntaxFault (line_ahead bytes) column → IsCause bytes fault
-  BadValues : IsLineWith bytes (λ form. Refuses (meaning form) fault) → IsCause bytes fault
-
-cause : (bytes : List ℕ) (fault : TextFault) → fault ≢ faults.OutOfMemory → IsRefused bytes fault → IsCause bytes fault
-cause bytes faults.OutOfMemory memory p = absurd (memory refl)
-cause bytes faults.LineTooLong memory p = TooLong refl p
-cause bytes faults.NotAscii memory p = NoText refl p.0 p.1
-cause bytes (faults.Syntax column) memory p = NoLine column refl p.0 p.1
-cause bytes fault memory p = BadValues p
-
 text_is_text : (bytes : List ℕ) → IsText bytes → list_all is_text_byte bytes ≡ false → ⊥
 text_is_text bytes p q = cc
 
 no_line-line : (bytes : List ℕ) (column : ℕ) (line : Line) → IsSyntaxFault (line_ahead bytes) column → IsLineOf bytes line → ⊥
 no_line-line bytes column line p q = wrong_is_no_line (line_ahead bytes) column p (record { tree = line; spelled = q.spelled })
 
-one_cause : (bytes : List ℕ) (one other : TextFault) → IsCause bytes one → IsCause bytes other → one ≡ other
-one_cause bytes one other (TooLong p long) (TooLong q _) = cc
-one_cause bytes one other (TooLong p long) (NoText q short bad) = absurd (omega (arith, long, short))
-one_cause bytes one other (TooLong p long) (NoLine column q text wrong) = absurd (omega (arith, long, text.short))
-one_cause bytes one other (TooLong p long) (BadValues bad) = absurd (omega (arith, long, bad.line_is.text.short))
-one_cause bytes one other (NoText p short bad) (TooLong q long) = absurd (omega (arith, long, short))
-one_cause bytes one other (NoText p short bad) (NoText q _ _) = cc
-one_cause bytes one other (NoText p short bad) (NoLine column q text wrong) = absurd (text_is_text bytes text bad)
-one_cause bytes one other (NoText p short bad) (BadValues values) = absurd (text_is_text bytes values.line_is.text bad)
-one_cause bytes one other (NoLine column p text wrong) (TooLong q long) = absurd (omega (arith, long, text.short))
-one_cause bytes one other (NoLine column p text wrong) (NoText q short bad) = absurd (text_is_text bytes text bad)
-one_cause bytes one other (NoLine column p text wrong) (NoLine place q _ other_wrong) =
-    p ∙ ap faults.Syntax (one_column (line_ahead bytes) column place wrong other_wrong) ∙ sym q
-one_cause bytes one other (NoLine column p text wrong) (BadValues values) = absurd (no_line-line bytes column values.line wrong values.line_is)
-one_cause bytes one other (BadValues values) (TooLong q long) = absurd (omega (arith, long, values.line_is.text.short))
-one_cause bytes one other (BadValues values) (NoText q short bad) = absurd (text_is_text bytes values.line_is.text bad)
-one_cause bytes one other (BadValues values) (NoLine column q text wrong) = absurd (no_line-line bytes column values.line wrong values.line_is)
-one_cause bytes one other (BadValues p) (BadValues q) =
-    one_refusal (meaning q.line.form) one other (same_form bytes (λ form. Refuses (meaning form) one) _ p q) q.so
-
 pub refused_once : (bytes : List ℕ) (one other : TextFault) → one ≢ faults.OutOfMemory → other ≢ faults.OutOfMemory → IsRefused bytes one
     → IsRefused bytes other → one ≡ other
-refused_once bytes one other p q first second = one_cause bytes one other (cause bytes one p first) (cause bytes other q second)
-
-given-cause : (bytes : List ℕ) (given : Command) (fault : TextFault) → Gives bytes given → IsCause bytes fault → ⊥
-given-cause bytes given fault p (TooLong _ long) = omega (arith, long, p.line_is.text.short)
-given-cause bytes given fault p (NoText _ _ bad) = text_is_text bytes p.line_is.text bad
-given-cause bytes given fault p (NoLine column _ _ wrong) = no_line-line bytes column p.line wrong p.line_is
-given-cause bytes given fault p (BadValues q) = not_both (meaning q.line.form) given fault (same_form bytes (λ form. Means (meaning form) given) _ p q) q.so
+refused_once bytes faults.OutOfMemory other memory _ p q = absurd (memory refl)
+refused_once bytes one faults.OutOfMemory _ memory p q = absurd (memory refl)
+refused_once bytes faults.LineTooLong faults.LineTooLong _ _ p q = refl
+refused_once bytes faults.LineTooLong faults.NotAscii _ _ p q = absurd (omega (arith, p, q.0))
+refused_once bytes faults.LineTooLong (faults.Syntax column) _ _ p q = absurd (omega (arith, p, q.0.short))
+refused_once bytes faults.LineTooLong other _ _ p q = absurd (omega (arith, p, q.line_is.text.short))
+refused_once bytes faults.NotAscii faults.LineTooLong _ _ p q = absurd (omega (arith, p.0, q))
+refused_once bytes faults.NotAscii faults.NotAscii _ _ p q = refl
+refused_once bytes faults.NotAscii (faults.Syntax column) _ _ p q = absurd (text_is_text bytes q.0 p.1)
+refused_once bytes faults.NotAscii other _ _ p q = absurd (text_is_text bytes q.line_is.text p.1)
+refused_once bytes (faults.Syntax column) faults.LineTooLong _ _ p q = absurd (omega (arith, p.0.short, q))
+refused_once bytes (faults.Syntax column) faults.NotAscii _ _ p q = absurd (text_is_text bytes p.0 q.1)
+refused_once bytes (faults.Syntax column) (faults.Syntax place) _ _ p q = ap faults.Syntax (one_column (line_ahead bytes) column place p.1 q.1)
+refused_once bytes (faults.Syntax column) other _ _ p q = absurd (no_line-line bytes column q.line p.1 q.line_is)
+refused_once bytes one faults.LineTooLong _ _ p q = absurd (omega (arith, p.line_is.text.short, q))
+refused_once bytes one faults.NotAscii _ _ p q = absurd (text_is_text bytes p.line_is.text q.1)
+refused_once bytes one (faults.Syntax column) _ _ p q = absurd (no_line-line bytes column p.line q.1 p.line_is)
+refused_once bytes one other _ _ p q = one_refusal (meaning q.line.form) one other (same_form bytes (λ form. Refuses (meaning form) one) _ p q) q.so
 
 pub given_or_refused : (bytes : List ℕ) (given : Command) (fault : TextFault) → fault ≢ faults.OutOfMemory → Gives bytes given → IsRefused bytes fault
     → ⊥
-given_or_refused bytes given fault memory p q = given-cause bytes given fault p (cause bytes fault memory q)
+given_or_refused bytes given faults.OutOfMemory memory p q = memory refl
+given_or_refused bytes given faults.LineTooLong _ p q = omega (arith, q, p.line_is.text.short)
+given_or_refused bytes given faults.NotAscii _ p q = text_is_text bytes p.line_is.text q.1
+given_or_refused bytes given (faults.Syntax column) _ p q = no_line-line bytes column p.line q.1 p.line_is
+given_or_refused bytes given fault _ p q = not_both (meaning q.line.form) given fault (same_form bytes (λ form. Means (meaning form) given) _ p q) q.so
