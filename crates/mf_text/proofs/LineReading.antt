@@ -10,7 +10,7 @@ use Rattle.mf_text.specs.declared.token.Word.TheVariants as word
 use Rattle.mf_text.specs.Token.{Ahead, PlacedToken, Token, ahead_after, token_column, column_of}
 use Rattle.mf_text.specs.Grammar.{Line, spell_line}
 use Rattle.mf_text.specs.Lines.{line_ahead}
-use Rattle.mf_text.specs.Rests.{Rest, ends, follow, from, is_code_number, step, line}
+use Rattle.mf_text.specs.Rests.{Rest, follow, from, is_code_number, step, line}
 use Rattle.mf_text.specs.Syntax.{IsLinePrefix, IsSyntaxFault, IsWrongAt, is_negative_code, report_place}
 use Rattle.mf_text.specs.Tokens.{without_columns, tokens}
 use Rattle.mf_text.specs.TokenTexts.{AreTokens, IsTokenText}
