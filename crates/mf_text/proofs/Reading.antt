@@ -12,9 +12,9 @@ use Rattle.mf_text.specs.declared.path.Path as paths
 use Rattle.mf_text.specs.declared.token.Mark.TheVariants as mark
 use Rattle.mf_text.specs.declared.token.Word.TheVariants as word
 use Rattle.mf_text.specs.declared.tokens.Tokens.{Tokens}
-use Rattle.mf_text.specs.Grammar.{Line, Path, path_value, Code, Name, Current, Register, Int, Pair, pair_value}
+use Rattle.mf_text.specs.Grammar.{Line, Path, path_value, Code, Name, Current, Register, Pair, pair_value}
 use Rattle.mf_text.specs.Reads.{HasPoints, PassesPath, PassesPhrase, TakesToken, TakesValue, ahead, remaining_tokens, next_value}
-use Rattle.mf_text.specs.Rests.{Kind, Of, This, Numbers, Codes, Rest, Take, OrTake, Corners, One, Or, CodeNumber}
+use Rattle.mf_text.specs.Rests.{Kind, Of, This, Codes, Rest, Take, OrTake, Corners, One, Or, CodeNumber}
 use Rattle.mf_text.specs.Rests.{Ends, rest_of_corner, path, follow, from, is_code_number, name_token, step, value}
 use Rattle.mf_text.specs.Token.{Ahead, PlacedToken, Token, column_of, letter_in, name_in, this_in, value_in}
 use Rattle.mf_text.specs.Token as token
@@ -89,14 +89,6 @@ next_value_fewer f a ps after is = at_first f a (λ qs on. length on.tokens < le
 next_value_as : {A B : Type 0} (f : Token → Option A) (g : Token → Option B) (a : A) (b : B) → ((t : Token) → f t ≡ Some a → g t ≡ Some b)
     → (ps : List PlacedToken) (after : Ahead) → next_value f ps ≡ Some (a, after) → next_value g ps ≡ Some (b, after)
 next_value_as f g a b same ps after is = grind (arith, ints, at_first)
-
--- ---- an int
-
--- the number of an int, after `-` or not
-pub from_number : (negative : Bool) (next : Int → Rest) (after : Ahead)
-    → from (if negative then Take (Numbers true) next else Take (Numbers false) next) after ≡ from (Take (Numbers negative) next) after
-from_number true next after = refl
-from_number false next after = refl
 
 -- ---- names
 

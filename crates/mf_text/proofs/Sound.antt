@@ -2,7 +2,7 @@
 use Rattle.std.proofs.Common.{◌≡◌, ℕ, zero, suc, ◌+◌, true, false, List, [], ◌∷◌, ◌++◌, length, Option, Some, None}
 use Rattle.std.proofs.Common.{refl, sym, ap, subst, ◌∙◌, append_assoc, append-nil, flat_map, length-append, arith}
 use Rattle.std.proofs.lemmas.Int.{ints}
-use Rattle.std.specs.Option.{IfSome, option_map, option_or}
+use Rattle.std.specs.Option.{IfSome}
 use Rattle.std.proofs.lemmas.Bool.{false≢true}
 use Rattle.std.proofs.lemmas.Option.{none-some, same_Some}
 use Rattle.mf_rows.specs.declared.sign.Sign.TheVariants.{Plus, Minus}
@@ -15,7 +15,7 @@ use Rattle.mf_text.specs.Grammar.{Line, Path, spell_form, spell_weight, spell_in
 use Rattle.mf_text.specs.Grammar.{spell_path, spell_line, Code, Name, Current, Register, Source, Null, Named, Int, Pair}
 use Rattle.mf_text.specs.Rests.{Kind, Of, This, Names, Codes, Rest, Ends, Take, OrTake, Corners, One, Or, CodeNumber, ends, if_kind}
 use Rattle.mf_text.specs.Rests.{character_code, int, is_code_number, pair, path, rest_of_corner, rest_of_pair, source, step, assignment, line, line_end}
-use Rattle.mf_text.specs.Rests.{name_token, transform, value, weight_then_end, Token}
+use Rattle.mf_text.specs.Rests.{name_token, transform, weight_then_end, Token}
 use Rattle.mf_text.specs.Syntax.{is_negative_code}
 use Rattle.mf_text.proofs.Rests.{HasSign, token_of, value_is, is_code_number_at, reads}
 
@@ -40,10 +40,7 @@ Spells past (Corners next) = (more : List Pair) → Spells (past ++ (flat_map sp
 kind_step : (past : List Token) (k : Kind) (next : Of k → Rest) (t : Token) (other : Option Rest)
     → ((a : Of k) → HasSign k a → Spells (past ++ token_of k a ∷ []) (next a)) → IfSome other (Spells (past ++ t ∷ []))
     → IfSome (if_kind k next t other) (Spells (past ++ t ∷ []))
-kind_step past k next t other spells second = by_value (value k t) refl where
-  by_value : (v : Option (Of k)) → value k t ≡ v → IfSome (option_or (option_map next v) other) (Spells (past ++ t ∷ []))
-  by_value None is = second
-  by_value (Some a) is = let says = value_is k t a is in subst (λ u. Spells (past ++ u ∷ []) (next a)) (sym says.1) (spells a says.0)
+kind_step past k next t other spells second = grind (arith, ints, value_is k t)
 
 -- ---- phrases
 

@@ -225,9 +225,7 @@ unfolding word_token
 letters_have_text text rest ends =
     cond_both (is_letter text) _ _ (λ t. HasTextOf t (text ++ rest)) (single text) (λ _. known (word_among words text) refl) where
       single : (ls : List ℕ) → is_letter ls ≡ true → HasSingleLetter (get_or ls 0 0 - letter_a) (ls ++ rest)
-      single (b ∷ []) is =
-          let bounds = and_parts (leb letter_a b) (leb b letter_z) is in
-          record { some = omega arith; least = leb-true letter_a b bounds.0; greatest = leb-true b letter_z bounds.1; number = refl; longest = ends }
+      single (b ∷ []) is = grind (arith, ints, and_parts (leb letter_a b) (leb b letter_z) is, leb-true)
       single ls is = absurd (false≢true is)
 
       known : (o : Option Word) → word_among words text ≡ o → HasTextOf (option_map_or token.Word o token.Unknown) (text ++ rest)

@@ -121,7 +121,6 @@ impl Tokens<'_> {
 
     /// Passes an int: a number, or `-` and a number.
     #[inline(always)]
-    #[tactic(auto, using(crate::proofs::Reading::from_number))]
     pub fn int(&mut self) -> Result<Int, SyntaxFault>
         ensures read { PassesPhrase rests.int self.old self.new result }
         ensures within { IfOk result (λ _. LeavesNoMore self.new self.old) }
