@@ -25,5 +25,5 @@ module _ (old new : Holder) (n : ℕ) where
 
   -- the end mark closes the list
   module _ (more : accepted_list new ≡ accepted_list old ++ entry n End ∷ []) where
-    pub closed-end : is_closed (accepted_list new) ≡ true
-    closed-end = ap is_closed more ∙ is_closed-append (accepted_list old) (entry n End ∷ []) ∙ or_right (is_closed (accepted_list old)) true refl
+    pub end_closes : is_closed (accepted_list new) ≡ true
+    end_closes = ap is_closed more ∙ is_closed-append (accepted_list old) (entry n End ∷ []) ∙ or_right (is_closed (accepted_list old)) true refl

@@ -41,10 +41,10 @@ pub record HasOneMore (h : Holder) (x : Version) (w : View) (e : Entry) : Type 0
 abbrev with_entry : World → Entry → World
 with_entry w e = record w { accepted = w.accepted ++ e ∷ [] }
 
-pub one_more : (h : Holder) (shown : Part Version) (w : View) (happens : Event) (e : Entry) → shown ≡ h.swap.desk.shown
+pub HasOneMore-event : (h : Holder) (shown : Part Version) (w : View) (happens : Event) (e : Entry) → shown ≡ h.swap.desk.shown
     → w ≡ with_event (view h.swap.desk.place) happens → May greatest_limit (world_after new_world (events h)) happens
     → after_event (world_after new_world (events h)) happens ≡ with_entry (world_after new_world (events h)) e → HasOneMore h shown.value w e
-one_more h shown w happens e stays more may accepts =
+HasOneMore-event h shown w happens e stays more may accepts =
     let x = shown.value in
     let same : x ≡ version h = ap (λ (part : Part Version). part.value) stays in
     let unwritten = (view h.swap.desk.place).unwritten in

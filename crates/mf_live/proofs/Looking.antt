@@ -19,12 +19,12 @@ use Rattle.mf_live.specs.Viewers.{Extends, IsPublished, SeesTheSame, learnt_list
 use Rattle.mf_live.specs.World.{published_list_of}
 use Rattle.mf_live.proofs.EntryLists.{nothing_follows}
 use Rattle.mf_live.proofs.WholePrefixes.{whole-longer}
-use Rattle.mf_live.proofs.Worlds.{lawful-after, published-grows}
+use Rattle.mf_live.proofs.Worlds.{lawful-after, published_list_grows}
 use Rattle.std.proofs.lemmas.Int.{ints}
 
 -- what a prefix of a notice's events has published is a whole prefix of what the notice says
 pub told_list-prefix : (n : Notice) (events : List Event) → IsPrefix events (notice_events n) → IsWholePrefix (published_list_of events) (told_list n)
-told_list-prefix n events prefix = grind (arith, published-grows, sym)
+told_list-prefix n events prefix = grind (arith, published_list_grows, sym)
 
 -- what a notice says was published by the events that it knows
 pub is_published : (n : Notice) → IsPublished (notice_events n) (told_list n)
@@ -34,15 +34,15 @@ is_published n = record { happen = n.prefix.lawful; is = refl; all = n.whole; al
 pub told_list-ends : (n : Notice) → is_nothing_after_end (told_list n) ≡ true
 told_list-ends n = subst (λ (L : List Entry). is_nothing_after_end L ≡ true) n.whole (lawful-after greatest_limit (notice_events n) n.prefix.lawful).ended
 
-kept_by-prefix : (b : Book) (events : List Event) (missed : Bool) (v : View) → IsKnowledgeOf b events v.earlier
+IsKnowledgeOf-seen : (b : Book) (events : List Event) (missed : Bool) (v : View) → IsKnowledgeOf b events v.earlier
     → IsKnowledgeOf b events v.latest → IsKnowledgeOf b events (seen_knowledge missed v)
-kept_by-prefix b events true v earlier latest = earlier
-kept_by-prefix b events false v earlier latest = latest
+IsKnowledgeOf-seen b events true v earlier latest = earlier
+IsKnowledgeOf-seen b events false v earlier latest = latest
 
 -- a look extends what its viewer has seen, where the version knows the events of what the viewer has learnt
-pub extends-look : (v : Viewer) (x : Version) (w : View) → IsLook (seen_knowledge v.missed) (view v.reader.place) x w
+pub Extends-look : (v : Viewer) (x : Version) (w : View) → IsLook (seen_knowledge v.missed) (view v.reader.place) x w
     → IsPrefix (notice_events v.known) (events_of x) → Extends v (published_list_of w.latest.seen.log)
-extends-look v x w is_looked known = grind (arith, kept_by-prefix, told_list-prefix, whole-longer, sym)
+Extends-look v x w is_looked known = grind (arith, IsKnowledgeOf-seen, told_list-prefix, whole-longer, sym)
 
 -- two facts of what a call answers, as one
 pub both_hold : {X Y : Type 0} (P P' : X → Type 0) (Q Q' : Y → Type 0) (r : Result X Y) → MatchResult r P Q → MatchResult r P' Q'
@@ -53,13 +53,9 @@ both_hold P P' Q Q' (Err y) one other = (one, other)
 seen_list-same : (before after : Viewer) → SeesTheSame before after → seen_list after ≡ seen_list before
 seen_list-same before after same = ap (λ M. longer M (learnt_list after)) same.looked ∙ ap (longer (looked_at_list before)) same.learnt
 
--- what extends a viewer that sees what it saw before extends the viewer as it was
-extends-same : (before after : Viewer) (L : List Entry) → SeesTheSame before after → Extends after L → Extends before L
-extends-same before after L same extends = grind (arith, seen_list-same)
-
 -- a viewer that has learnt of a list, and sees what it saw then, has only learnt of the list
-pub learnt-same : (first second after : Viewer) (told : List Entry) → HasLearnt first told second → SeesTheSame second after → HasLearnt first told after
-learnt-same first second after told learns same = grind (arith, ints, seen_list-same second after same)
+pub HasLearnt-same : (first second after : Viewer) (told : List Entry) → HasLearnt first told second → SeesTheSame second after → HasLearnt first told after
+HasLearnt-same first second after told learns same = grind (arith, ints, seen_list-same second after same)
 
 -- what a prefix of a look's events has published is a whole prefix of what the look shows
 shown_list-prefix : (look : Look) (events : List Event) → IsPrefix events (look_events look) → IsWholePrefix (published_list_of events) (shown_list look)
@@ -72,5 +68,5 @@ one_lists look n (inl prefix) = inl (shown_list-prefix look (notice_events n) pr
 one_lists look n (inr prefix) = inr (told_list-prefix n (look_events look) prefix)
 
 -- a list that has a closed list as a whole prefix is that closed list
-pub shown-last : (S L : List Entry) → IsWholePrefix S L → is_nothing_after_end L ≡ true → is_closed S ≡ true → L ≡ S
-shown-last S L whole ends closed = grind (arith, nothing_follows, append-nil)
+pub whole-closed : (S L : List Entry) → IsWholePrefix S L → is_nothing_after_end L ≡ true → is_closed S ≡ true → L ≡ S
+whole-closed S L whole ends closed = grind (arith, nothing_follows, append-nil)

@@ -13,37 +13,37 @@ use Rattle.mf_live.proofs.Worlds.{world_after-push, Happen-push, Happen-rest}
 
 module _ (h : Holder) where
   -- what the writer writes into the book
-  abbrev pub written : List Event
-  written = publish_events (view h.swap.desk.place)
+  abbrev pub new_events : List Event
+  new_events = publish_events (view h.swap.desk.place)
 
   -- the history after that
-  abbrev pub all_written : List Event
-  all_written = events_of (version h) ++ written
+  abbrev pub history_after : List Event
+  history_after = events_of (version h) ++ new_events
 
-  is_pushed : all_written ≡ events h ++ Publish ∷ []
+  is_pushed : history_after ≡ events h ++ Publish ∷ []
   is_pushed = sym (append_assoc (events_of (version h)) (view h.swap.desk.place).unwritten (Publish ∷ []))
 
-  world_is : world_after new_world all_written ≡ record (world_after new_world (events h)) { published = accepted_list h }
+  world_is : world_after new_world history_after ≡ record (world_after new_world (events h)) { published = accepted_list h }
   world_is = ap (world_after new_world) is_pushed ∙ world_after-push new_world (events h) Publish
 
-  pub accepted-publish : accepted_list_of all_written ≡ accepted_list h
+  pub accepted-publish : accepted_list_of history_after ≡ accepted_list h
   accepted-publish = ap (λ (w : World). w.accepted) world_is
 
-  pub published-publish : published_list_of all_written ≡ accepted_list h
+  pub published-publish : published_list_of history_after ≡ accepted_list h
   published-publish = ap (λ (w : World). w.published) world_is
 
-  pub alive-publish : (world_after new_world all_written).gone ≡ false
+  pub alive-publish : (world_after new_world history_after).gone ≡ false
   alive-publish = ap (λ (w : World). w.gone) world_is ∙ h.alive
 
-  pub Happen-publish : Happen greatest_limit new_world all_written
+  pub Happen-publish : Happen greatest_limit new_world history_after
   Happen-publish = rw is_pushed (Happen-push greatest_limit new_world (events h) Publish h.lawful h.alive)
 
-  pub Happen-written : Happen greatest_limit (world_after new_world (events_of (version h))) written
-  Happen-written = Happen-rest greatest_limit new_world (events_of (version h)) written Happen-publish
+  pub Happen-new : Happen greatest_limit (world_after new_world (events_of (version h))) new_events
+  Happen-new = Happen-rest greatest_limit new_world (events_of (version h)) new_events Happen-publish
 
-  pub length-written : h.unwritten + 1 ≡ length written
-  length-written = omega (arith, h.counted, length-append (view h.swap.desk.place).unwritten (Publish ∷ []))
+  pub length-new : h.unwritten + 1 ≡ length new_events
+  length-new = omega (arith, h.counted, length-append (view h.swap.desk.place).unwritten (Publish ∷ []))
 
   -- where something waited, there are at most two events for each entry
-  pub length-publish : 0 < h.unwritten → length all_written ≤ 2 * length (accepted_list h)
-  length-publish waits = omega (arith, h.since, h.short, length-written, length-append (events_of (version h)) written, waits)
+  pub length-publish : 0 < h.unwritten → length history_after ≤ 2 * length (accepted_list h)
+  length-publish waits = omega (arith, h.since, h.short, length-new, length-append (events_of (version h)) new_events, waits)

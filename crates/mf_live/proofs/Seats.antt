@@ -25,33 +25,33 @@ knows_nothing : (x : Version) (v : View) → v.identified ≡ false → Knows x 
 knows_nothing x v unidentified identified = absurd (false≢true (sym unidentified ∙ identified))
 
 -- one seat gets another view, and the others know of y what they knew of x
-kept_set : (x y : Version) (views : List View) (seat : ℕ) (w : View) → ((v : View) → Knows x v → Knows y v) → EachSeatKnows x views → Knows y w
+EachSeatKnows-step : (x y : Version) (views : List View) (seat : ℕ) (w : View) → ((v : View) → Knows x v → Knows y v) → EachSeatKnows x views → Knows y w
     → EachSeatKnows y (set views seat w)
-kept_set x y views seat w still kept here = record {
+EachSeatKnows-step x y views seat w still kept here = record {
   each_seat = λ other v at. ⊎_elim (λ (this : (other ≡ seat) × (w ≡ v)). subst (Knows y) this.1 here)
       (λ (that : (other ≢ seat) × (get_elem? views other ≡ some v)). still v (kept.each_seat other v that.1)) (at_set views seat other w v at);
 }
 
 -- one seat gets another view, and the version stays
-kept_view : (x : Version) (views : List View) (seat : ℕ) (w : View) → EachSeatKnows x views → Knows x w → EachSeatKnows x (set views seat w)
-kept_view x views seat w = kept_set x x views seat w (λ v knows. knows)
+EachSeatKnows-set : (x : Version) (views : List View) (seat : ℕ) (w : View) → EachSeatKnows x views → Knows x w → EachSeatKnows x (set views seat w)
+EachSeatKnows-set x views seat w = EachSeatKnows-step x x views seat w (λ v knows. knows)
 
 -- a seat is added
-kept_more : (x : Version) (views : List View) (w : View) → EachSeatKnows x views → Knows x w → EachSeatKnows x (views ++ w ∷ [])
-kept_more x views w kept here = grind (arith, at_snoc)
+EachSeatKnows-push : (x : Version) (views : List View) (w : View) → EachSeatKnows x views → Knows x w → EachSeatKnows x (views ++ w ∷ [])
+EachSeatKnows-push x views w kept here = grind (arith, at_snoc)
 
 -- a newcomer knows nothing
 pub admits : Admits EachSeatKnows newcomer
-admits x views kept = kept_more x views newcomer kept (knows_nothing x newcomer refl)
+admits x views kept = EachSeatKnows-push x views newcomer kept (knows_nothing x newcomer refl)
 
 -- a seat's view is split in two: the first has seen what it had seen, and the second the same or nothing
 pub forks : (seat : ℕ) (v left right : View) → left.identified ≡ v.identified → left.earlier ≡ v.earlier → left.latest ≡ v.latest
     → (right ≡ v) ⊎ (right.identified ≡ false) → Forks EachSeatKnows seat v left right
-forks seat v left right identified earlier latest given x views kept at = grind (arith, sym, knows_nothing, kept_more, kept_view, ints)
+forks seat v left right identified earlier latest given x views kept at = grind (arith, sym, knows_nothing, EachSeatKnows-push, EachSeatKnows-set, ints)
 
 -- a seat takes over what another knows
 pub merges : (seat : ℕ) (v : View) (other : ℕ) (w : View) → Merges EachSeatKnows seat v other w w newcomer
-merges seat v other w x views kept at apart there = grind (arith, at_set, kept_view, knows_nothing)
+merges seat v other w x views kept at apart there = grind (arith, at_set, EachSeatKnows-set, knows_nothing)
 
 -- a look keeps the rule
 pub looks : (keep : View → Knowledge) (seat : ℕ) (v : View) → (keep v ≡ v.earlier) ⊎ (keep v ≡ v.latest)
@@ -60,7 +60,7 @@ looks keep seat v is_kept x views kept at = let knows : Knows x v = kept.each_se
     let keeps : v.identified ≡ true → Shows x (keep v) = λ identified. ⊎_elim (λ (is : keep v ≡ v.earlier). subst (Shows x) (sym is) (knows identified).0)
     (λ (is : keep v ≡ v.latest). subst (Shows x) (sym is) (knows identified).1) is_kept in
     let w : View = record { identified = v.identified; earlier = keep v; latest = knowledge_of x; unwritten = v.unwritten } in
-    (w, kept_view x views seat w kept (λ identified. (keeps identified, shows_itself x)), record { knows = knows; is = refl })
+    (w, EachSeatKnows-set x views seat w kept (λ identified. (keeps identified, shows_itself x)), record { knows = knows; is = refl })
 
 -- what is known of x is known of y, where y knows more of the same history
 shows_more : (x y : Version) → book_of y ≡ book_of x → IsPrefix (events_of x) (events_of y) → (t : Knowledge) → Shows x t → Shows y t
@@ -75,6 +75,6 @@ knows_more x y book more v knows identified =
 pub publishes : (seat : ℕ) (v : View) (x y : Version) → book_of y ≡ book_of x → IsPrefix (events_of x) (events_of y) → TurnsAt EachSeatKnows seat v x y IsShow
 publishes seat v x y book more views kept at = (
   view_knowing (knowledge_of y),
-  kept_set x y views seat (view_knowing (knowledge_of y)) (knows_more x y book more) kept (λ identified. (shows_itself y, shows_itself y)),
+  EachSeatKnows-step x y views seat (view_knowing (knowledge_of y)) (knows_more x y book more) kept (λ identified. (shows_itself y, shows_itself y)),
   refl,
 )

@@ -55,6 +55,6 @@ published-on max_ops w (x ∷ xs) lawful happen =
     whole-trans w.published w_next.published (world_after w_next xs).published (published-event max_ops w x lawful) later
 
 -- what is published is a whole prefix of what is published later
-pub published-grows : (max_ops : ℕ) (xs ys : List Event) → Happen max_ops new_world (xs ++ ys)
+pub published_list_grows : (max_ops : ℕ) (xs ys : List Event) → Happen max_ops new_world (xs ++ ys)
     → IsWholePrefix (published_list_of xs) (published_list_of (xs ++ ys))
-published-grows max_ops xs ys happen = grind (arith, lawful-after, Happen-prefix, Happen-rest, world_after-append, published-on)
+published_list_grows max_ops xs ys happen = grind (arith, lawful-after, Happen-prefix, Happen-rest, world_after-append, published-on)

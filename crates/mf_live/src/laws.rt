@@ -24,6 +24,7 @@ use std::alloc::Global;
 /// accepted, and the rest has the label of the next publish; what each viewer has seen and what each notice says are whole prefixes of
 /// what is published; and nothing follows the end mark. Each look shows what is published, of which everything that its viewer had
 /// looked at or learnt of is a whole prefix.
+#[tactic(auto, using(crate::proofs::Worlds::every_schedule))]
 pub fn every_schedule(max_ops: u32)
     ensures { EverySchedule max_ops }
 {}
@@ -39,6 +40,7 @@ pub fn looks_never_go_back(max_ops: u32)
 
 /// A whole prefix of what is published has, of each publish, nothing or all of it. So has what was published earlier, and in a list
 /// of events a look shows what is published at its moment (`every_schedule`).
+#[tactic(auto, using(crate::proofs::WholePublishes::whole_publishes, crate::proofs::Worlds::published_list_grows))]
 pub fn looks_show_whole_publishes(max_ops: u32)
     ensures whole { (shown : List Entry) (events : List Event) → IsWholePrefix shown (published_list_of events)
         → HasWholePublishes shown (published_list_of events) }
@@ -70,6 +72,7 @@ pub fn published_is_visible_halfway(closing: &Closing)
 
 /// A look has, of each publish, nothing or all of it, whatever has happened to its picture since. It shows what the events that
 /// it knows have published.
+#[tactic(auto, using(crate::proofs::WholePublishes::whole_publishes, crate::proofs::Worlds::published_list_grows))]
 pub fn look_has_whole_publishes(look: &Look)
     ensures { (since : List Event) → Happen greatest_limit new_world (viewers.look_events look.now ++ since)
         → HasWholePublishes (viewers.shown_list look.now) (published_list_of (viewers.look_events look.now ++ since)) }
@@ -77,6 +80,7 @@ pub fn look_has_whole_publishes(look: &Look)
 
 /// A notice tells a list that the events which it knows have published: all of these can happen in their order, they have accepted
 /// nothing more, and the writer is still there after them. So a viewer that learns of a notice learns of a published list.
+#[tactic(auto, using(crate::proofs::Looking::is_published))]
 pub fn notice_is_published(notice: &Notice)
     ensures { viewers.IsPublished (viewers.notice_events notice.now) (viewers.told_list notice.now) }
 {}

@@ -16,6 +16,7 @@ impl Writer {
     /// count in the revision, and can be set even where no more operations are accepted. It may wait for looks that are held.
     /// Where an allocation fails, the writer comes back as it was (`Kept`), because everything is allocated before the end mark
     /// is set.
+    #[tactic(auto, using(crate::proofs::Ending::end_closes))]
     pub fn close<R: Wait>(self, rt: &R) -> Result<Ended, CloseFault>
         ensures identity { IfOk result (λ ended. ended_identity ended ≡ identity self) }
         ensures published { IfOk result (λ ended. ended_published_list ended ≡ complete_list (accepted_list self) (published_list self)) }

@@ -6,23 +6,23 @@ use Rattle.mf_live.specs.declared.viewer.Viewer.{Viewer}
 use Rattle.mf_live.specs.Entries.{Entry, is_closed, picture_at, revision_at}
 use Rattle.mf_live.specs.Sheets.{HasLearnt, HasLooked, HasLookedAt, IsLastNotTaken, IsNotTaken}
 use Rattle.mf_live.specs.Viewers.{Extends, IsPublished, looked_at_events, looked_at_list, told_list}
-use Rattle.mf_live.proofs.Looking.{learnt-same, shown-last}
+use Rattle.mf_live.proofs.Looking.{HasLearnt-same, whole-closed}
 use Rattle.mf_live.proofs.laws.last_sheet.Goals.{After-learn}
 use Rattle.mf_live.proofs.laws.last_sheet.Goals as goal
 
 module _ (first second after : Viewer) (told : List Entry) (learns : HasLearnt first told second) (closed : is_closed told ≡ true) where
   -- a viewer that has learnt of the end, and then looked, has looked at the complete list
-  looked_last : HasLooked second after → Extends first told × HasLookedAt told after
-  looked_last look =
+  looks_at_last : HasLooked second after → Extends first told × HasLookedAt told after
+  looks_at_last look =
       let both = learns.keeps (looked_at_list after) look.extends in
-      let is = shown-last told (looked_at_list after) both.1 look.ends closed in (
+      let is = whole-closed told (looked_at_list after) both.1 look.ends closed in (
         subst (Extends first) is both.0,
         record { looked = is; seen = look.seen ∙ is; published = subst (IsPublished (looked_at_events after)) is look.published },
       )
 
   not_taken : (fault : SheetFault) → IsNotTaken second after fault → IsLastNotTaken first told after fault
-  not_taken NoLook same = learnt-same first second after told learns same
-  not_taken NoMemory look = looked_last look
+  not_taken NoLook same = HasLearnt-same first second after told learns same
+  not_taken NoMemory look = looks_at_last look
 
 -- the viewer has learnt of the end
 learns : (c : After-learn) → HasLearnt c.args.viewer.now (told_list c.args.notice) c.learn.new.self
@@ -32,18 +32,18 @@ pub returns-clause-picture : goal.returns-clause-picture
 returns-clause-picture c =
     let learns = learns (goal.at.returns-clause-picture c).After-learn in
     MatchResult-weaker c.sheet.result c.sheet.ensures.taken
-    (λ sheet taken. taken.picture ∙ ap picture_at (looked_last _ _ _ _ learns c.requires.closed taken.look).1.looked) (λ _ _. tt)
+    (λ sheet taken. taken.picture ∙ ap picture_at (looks_at_last _ _ _ _ learns c.requires.closed taken.look).1.looked) (λ _ _. tt)
 
 pub returns-clause-revision : goal.returns-clause-revision
 returns-clause-revision c =
     let learns = learns (goal.at.returns-clause-revision c).After-learn in
     MatchResult-weaker c.sheet.result c.sheet.ensures.taken
-    (λ sheet taken. taken.revision ∙ ap revision_at (looked_last _ _ _ _ learns c.requires.closed taken.look).1.looked) (λ _ _. tt)
+    (λ sheet taken. taken.revision ∙ ap revision_at (looks_at_last _ _ _ _ learns c.requires.closed taken.look).1.looked) (λ _ _. tt)
 
 pub returns-clause-extends : goal.returns-clause-extends
 returns-clause-extends c =
     let learns = learns (goal.at.returns-clause-extends c).After-learn in
-    MatchResult-weaker c.sheet.result c.sheet.ensures.taken (λ sheet taken. (looked_last _ _ _ _ learns c.requires.closed taken.look).0) (λ _ _. tt)
+    MatchResult-weaker c.sheet.result c.sheet.ensures.taken (λ sheet taken. (looks_at_last _ _ _ _ learns c.requires.closed taken.look).0) (λ _ _. tt)
 
 pub returns-clause-not_taken : goal.returns-clause-not_taken
 returns-clause-not_taken c =
@@ -53,4 +53,4 @@ returns-clause-not_taken c =
 pub returns-clause-looked : goal.returns-clause-looked
 returns-clause-looked c =
     let learns = learns (goal.at.returns-clause-looked c).After-learn in
-    MatchResult-weaker c.sheet.result c.sheet.ensures.taken (λ sheet taken. (looked_last _ _ _ _ learns c.requires.closed taken.look).1) (λ _ _. tt)
+    MatchResult-weaker c.sheet.result c.sheet.ensures.taken (λ sheet taken. (looks_at_last _ _ _ _ learns c.requires.closed taken.look).1) (λ _ _. tt)

@@ -3,7 +3,7 @@ use Rattle.mf_live.specs.declared.event.Event.TheVariants.{Accept}
 use Rattle.mf_live.specs.Entries.{picture_at, revision_at, next_label}
 use Rattle.mf_live.specs.Holders.{accepted_list, published_list}
 use Rattle.mf_live.proofs.EntryLists.{picture_at-push, revision_at-push}
-use Rattle.mf_live.proofs.Histories.{few_unwritten, one_more}
+use Rattle.mf_live.proofs.Histories.{few_unwritten, HasOneMore-event}
 use Rattle.mf_live.proofs.holder.Holder.accept.Goals as goal
 
 pub overflow_add-self : goal.overflow_add-self
@@ -16,7 +16,7 @@ invariant_of-self-2 c =
     let allowed = rw h.pictured at c.in_ok-apply.ensures.accepted in
     let step = rw h.pictured at c.in_ok-apply.ensures.step in
     let noted = c.note_operation.ensures in
-    let more = one_more h _ _ (Accept op) _ noted.shown noted.view (h.alive, c.requires.open, c.requires.few, allowed) refl in
+    let more = HasOneMore-event h _ _ (Accept op) _ noted.shown noted.view (h.alive, c.requires.open, c.requires.few, allowed) refl in
     record {
       head_is = search rules;
       shown_is = more.shown_is;
@@ -30,4 +30,4 @@ invariant_of-self-2 c =
     }
 
 pub returns-clause-accepted : goal.returns-clause-accepted
-returns-clause-accepted c = grind (arith, one_more)
+returns-clause-accepted c = grind (arith, HasOneMore-event)

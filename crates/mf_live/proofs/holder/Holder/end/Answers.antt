@@ -3,7 +3,7 @@ use Rattle.mf_live.specs.declared.event.Event.TheVariants.{Close}
 use Rattle.mf_live.specs.Entries.{picture_at, revision_at, next_label}
 use Rattle.mf_live.specs.Holders.{accepted_list, published_list}
 use Rattle.mf_live.proofs.EntryLists.{picture_at-end, revision_at-end}
-use Rattle.mf_live.proofs.Histories.{few_unwritten, one_more}
+use Rattle.mf_live.proofs.Histories.{few_unwritten, HasOneMore-event}
 use Rattle.mf_live.proofs.Seats.{forks}
 use Rattle.mf_live.proofs.holder.Holder.end.Goals as goal
 
@@ -17,7 +17,7 @@ pub invariant_of-self : goal.invariant_of-self
 invariant_of-self c =
     let h = c.args.self.now in
     let kept = c.tell-none.ensures.kept in
-    let more = one_more h _ _ Close _ kept.0 kept.3 (h.alive, c.requires.open) refl in
+    let more = HasOneMore-event h _ _ Close _ kept.0 kept.3 (h.alive, c.requires.open) refl in
     record {
       head_is = search rules;
       shown_is = more.shown_is;
@@ -31,4 +31,4 @@ invariant_of-self c =
     }
 
 pub returns-clause-accepted : goal.returns-clause-accepted
-returns-clause-accepted c = grind (arith, one_more)
+returns-clause-accepted c = grind (arith, HasOneMore-event)

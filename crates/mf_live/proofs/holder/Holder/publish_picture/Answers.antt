@@ -10,7 +10,7 @@ use Rattle.mf_live.specs.Holders.{accepted_list, version}
 use Rattle.mf_live.specs.Rule.{book_of, events_of, history, version_list, knowledge_of}
 use Rattle.mf_live.specs.World.{Happen, new_world, world_after, accepted_list_of, published_list_of}
 use Rattle.mf_live.proofs.Histories.{few_events, few_unwritten}
-use Rattle.mf_live.proofs.Publishing.{written, all_written, accepted-publish, published-publish, alive-publish, Happen-publish, Happen-written, length-publish}
+use Rattle.mf_live.proofs.Publishing.{new_events, history_after, accepted-publish, published-publish, alive-publish, Happen-publish, Happen-new, length-publish}
 use Rattle.mf_live.proofs.holder.Holder.publish_picture.Goals.{After-show, After-write_publish}
 use Rattle.mf_live.proofs.holder.Holder.publish_picture.Goals as goal
 use Rattle.std.proofs.lemmas.Int.{ints}
@@ -22,13 +22,13 @@ pub write_publish-requires-clause-room : goal.write_publish-requires-clause-room
 write_publish-requires-clause-room g c = grind (arith, ints, few_events c.args.self.now, few_unwritten c.args.self.now)
 
 pub write_publish-requires-clause-lawful : goal.write_publish-requires-clause-lawful
-write_publish-requires-clause-lawful g c = grind (arith, written, sym, Happen-written)
+write_publish-requires-clause-lawful g c = grind (arith, new_events, sym, Happen-new)
 
 pub write_publish-requires-clause-alive : goal.write_publish-requires-clause-alive
-write_publish-requires-clause-alive g c = grind (arith, written, alive-publish)
+write_publish-requires-clause-alive g c = grind (arith, new_events, alive-publish)
 
-log : (g : _) (c : After-write_publish g) → c.write_publish.new.prefix.knowledge.seen.log ≡ all_written c.args.self.now
-log g c = grind (arith, written)
+log : (g : _) (c : After-write_publish g) → c.write_publish.new.prefix.knowledge.seen.log ≡ history_after c.args.self.now
+log g c = grind (arith, new_events)
 
 pub invariant_of-notice : goal.invariant_of-notice
 invariant_of-notice g c = grind (arith, published-publish, accepted-publish, sym)
@@ -36,10 +36,10 @@ invariant_of-notice g c = grind (arith, published-publish, accepted-publish, sym
 pub invariant_of-show : goal.invariant_of-show
 invariant_of-show g c = grind (arith, sym, published-publish)
 
-happened : (g : _) (c : After-show g) → c.write_publish.new.prefix.knowledge.seen.log ≡ all_written c.args.self.now
-    → (events_of c.show.new.swap.desk.shown.value ≡ all_written c.args.self.now)
-    × (history c.show.new.swap.desk.shown.value (view c.show.new.swap.desk.place) ≡ all_written c.args.self.now)
-happened g c log = grind (arith, append-nil, all_written)
+happened : (g : _) (c : After-show g) → c.write_publish.new.prefix.knowledge.seen.log ≡ history_after c.args.self.now
+    → (events_of c.show.new.swap.desk.shown.value ≡ history_after c.args.self.now)
+    × (history c.show.new.swap.desk.shown.value (view c.show.new.swap.desk.place) ≡ history_after c.args.self.now)
+happened g c log = grind (arith, append-nil, history_after)
 
 pub invariant_of-self : goal.invariant_of-self
 invariant_of-self g c =

@@ -4,14 +4,14 @@ use Rattle.mf_live.specs.declared.view.View.{View}
 use Rattle.mf_live.specs.declared.version.Version.{Version}
 use Rattle.mf_live.specs.Rule.{events_of}
 use Rattle.mf_live.specs.Viewers.{notice_events}
-use Rattle.mf_live.proofs.Looking.{extends-look, is_published, shown-last, told_list-ends}
+use Rattle.mf_live.proofs.Looking.{Extends-look, is_published, whole-closed, told_list-ends}
 use Rattle.mf_live.proofs.WholePrefixes.{whole-length}
 use Rattle.mf_live.proofs.viewer.Viewer.look.Goals as goal
 
 pub returns-clause-extends : goal.returns-clause-extends
 returns-clause-extends c =
     let known = subst (λ (x : Version). IsPrefix (notice_events c.args.self.known) (events_of x)) c.get.ensures (c.meets.ensures.that (omega arith)) in
-    extends-look c.args.self _ _ c.in-Ok.ensures known
+    Extends-look c.args.self _ _ c.in-Ok.ensures known
 
 pub invariant_of-result : goal.invariant_of-result
 invariant_of-result c =
@@ -21,7 +21,7 @@ invariant_of-result c =
       identified = ap (λ (v : View). v.identified) looks.is ∙ c.args.self.identified;
       book = ap (λ (v : View). v.latest.seen.book) looks.is ∙ (sym (looks.knows c.args.self.identified).1.book ∙ c.args.self.book);
       knowledge = ap (λ (v : View). v.latest) looks.is;
-      enough = whole-length _ _ (extends-look c.args.self _ _ looks known).learnt;
+      enough = whole-length _ _ (Extends-look c.args.self _ _ looks known).learnt;
     }
 
 pub returns-clause-ends : goal.returns-clause-ends
@@ -31,4 +31,4 @@ pub returns-clause-published : goal.returns-clause-published
 returns-clause-published c = grind (arith, sym, is_published)
 
 pub returns-clause-last : goal.returns-clause-last
-returns-clause-last c = λ closed. let extends = returns-clause-extends c in shown-last _ _ extends.seen (returns-clause-ends c) closed
+returns-clause-last c = λ closed. let extends = returns-clause-extends c in whole-closed _ _ extends.seen (returns-clause-ends c) closed
