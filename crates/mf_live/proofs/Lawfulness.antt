@@ -8,7 +8,7 @@ use Rattle.std.proofs.lemmas.List.{append_assoc, append-nil, length-append}
 use Rattle.std.proofs.lemmas.List.Elements.{All-nil, All-head, All-tail, All-push, All-weaker}
 use Rattle.mf_live.specs.declared.event.Event.{Event}
 use Rattle.mf_live.specs.declared.event.Event.TheVariants.{Accept, Refuse, Close, Publish, Discard, Look, Tell, Learn}
-use Rattle.mf_live.specs.Entries.{Change, Operation, Entry, entry, revision_at, next_label, next_label_after, is_closed, IsUnrefused}
+use Rattle.mf_live.specs.Entries.{Change, Operation, Entry, entry, revision_at, accepted_list_with, next_label, next_label_after, is_closed, IsUnrefused}
 use Rattle.mf_live.specs.Prefixes.{IsWholePrefix, labels}
 use Rattle.mf_live.specs.World.{World, May, after_event, notice_at, with_seen, IsPending, IsLawful, ShowsMore}
 use Rattle.mf_live.proofs.EntryLists.{revision_at-push, revision_at-end, unrefused-push, unrefused-end, is_nothing_after_end-push}
@@ -59,12 +59,10 @@ with_seen-whole : (seen : ℕ → List Entry) (i : ℕ) (L P : List Entry) → (
     → IsWholePrefix L P → (j : ℕ) → IsWholePrefix (with_seen seen i L j) P
 with_seen-whole seen i L P each more j = cond_both (j == i) L (seen j) (λ S. IsWholePrefix S P) (λ _. more) (λ _. each j)
 
-abbrev with_change : World → Change → List Entry
-with_change w c = w.accepted ++ entry (next_label w.published) c ∷ []
-
 -- the writer accepts one more change
-accepts : (max_ops : ℕ) (w : World) (c : Change) → IsLawful max_ops w → IsUnrefused (with_change w c)
-    → revision_at (with_change w c) ≤ max_ops → is_closed w.accepted ≡ false → IsLawful max_ops (record w { accepted = with_change w c })
+accepts : (max_ops : ℕ) (w : World) (c : Change) → IsLawful max_ops w → IsUnrefused (accepted_list_with w.accepted w.published c)
+    → revision_at (accepted_list_with w.accepted w.published c) ≤ max_ops → is_closed w.accepted ≡ false
+    → IsLawful max_ops (record w { accepted = accepted_list_with w.accepted w.published c })
 accepts max_ops w c lawful unrefused few not_closed = grind (arith, whole_from, pending-push, is_nothing_after_end-push)
 
 -- the writer leaves the list as it is, whatever others have seen of it

@@ -3,7 +3,7 @@ use Rattle.std.specs.Prelude.{◌≡◌, ◌<◌, ◌≤◌, ◌++◌, ◌==◌,
 use Rattle.mf_ops.specs.Step.{op_fault}
 use Rattle.mf_live.specs.declared.event.Event.{Event}
 use Rattle.mf_live.specs.declared.event.Event.TheVariants.{Accept, Refuse, Close, Publish, Discard, Look, Tell, Learn}
-use Rattle.mf_live.specs.Entries.{Operation, End, Entry, entry, picture_at, revision_at, next_label, is_closed, is_nothing_after_end, IsUnrefused}
+use Rattle.mf_live.specs.Entries.{Operation, End, Entry, picture_at, revision_at, accepted_list_with, next_label, is_closed, is_nothing_after_end, IsUnrefused}
 use Rattle.mf_live.specs.Prefixes.{IsWholePrefix, longer}
 
 -- what the writer has accepted, what of that is published, what viewers have seen, and what notices say
@@ -44,9 +44,9 @@ May max_ops w (Learn i k) = k < length w.notices
 
 -- the world after an event
 abbrev pub after_event : World → Event → World
-after_event w (Accept op) = record w { accepted = w.accepted ++ entry (next_label w.published) (Operation op) ∷ [] }
+after_event w (Accept op) = record w { accepted = accepted_list_with w.accepted w.published (Operation op) }
 after_event w Refuse = w
-after_event w Close = record w { accepted = w.accepted ++ entry (next_label w.published) End ∷ [] }
+after_event w Close = record w { accepted = accepted_list_with w.accepted w.published End }
 after_event w Publish = record w { published = w.accepted }
 after_event w (Discard publishes) = record w { published = (if publishes then w.accepted else w.published); gone = true }
 after_event w (Look i) = record w { seen = with_seen w.seen i w.published }

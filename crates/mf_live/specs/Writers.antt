@@ -1,12 +1,13 @@
 -- What contracts say about writers and what they become at the end.
-use Rattle.std.specs.Prelude.{◌≡◌, ℕ, List}
+use Rattle.std.specs.Prelude.{◌≡◌, ◌<◌, ℕ, List}
 use Rattle.logbook.specs.Pages.{Book}
+use Rattle.mf_rows.specs.Dots.{Dot}
 use Rattle.mf_live.specs.declared.closing.Closing.{Closing}
 use Rattle.mf_live.specs.declared.closing.CloseFault.{CloseFault}
 use Rattle.mf_live.specs.declared.closing.CloseFault.TheVariants.{Kept, Halfway}
 use Rattle.mf_live.specs.declared.closing.Ended.{Ended}
 use Rattle.mf_live.specs.declared.writer.Writer.{Writer}
-use Rattle.mf_live.specs.Entries.{Entry, complete_list}
+use Rattle.mf_live.specs.Entries.{End, Entry, accepted_list_with, picture_at, revision_at}
 use Rattle.mf_live.specs.Holders as holders
 use Rattle.mf_live.specs.Rule.{book_of, version_list}
 
@@ -29,6 +30,18 @@ visible_list w = holders.visible_list w.holder
 -- the greatest number of operations that it accepts
 abbrev pub max_ops : Writer → ℕ
 max_ops w = w.max_ops
+
+-- everything that was accepted, followed by the end mark
+abbrev pub complete_list : Writer → List Entry
+complete_list w = accepted_list_with (accepted_list w) (published_list w) End
+
+-- the working picture: that of everything that was accepted
+abbrev pub working_picture : Writer → List Dot
+working_picture w = picture_at (accepted_list w)
+
+-- one more operation may be accepted, as far as their number goes
+abbrev pub HasRoom : Writer → Type 0
+HasRoom w = revision_at (accepted_list w) < max_ops w
 
 -- the same of a picture whose end mark is set but not published
 abbrev pub closing_identity : Closing → Book
@@ -61,7 +74,7 @@ pub record IsSameWriter (before after : Writer) : Type 0 where
 -- the end mark is set, and nothing was published
 pub record IsHalfway (before : Writer) (after : Closing) : Type 0 where
   pub identity : closing_identity after ≡ identity before
-  pub accepted : closing_accepted_list after ≡ complete_list (accepted_list before) (published_list before)
+  pub accepted : closing_accepted_list after ≡ complete_list before
   pub published : closing_published_list after ≡ published_list before
 
 -- what is handed back where a picture could not be closed

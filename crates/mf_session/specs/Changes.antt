@@ -1,13 +1,13 @@
 -- What commands do with pictures: what they print, and the pictures after them.
 use Rattle.std.specs.Prelude.{◌<◌, ◌==◌, ℕ, List, [], ◌++◌, Option, None, Some, option_map, codes, decimal, slice_index_or, slice_set, if◌then◌else◌}
-use Rattle.mf_live.specs.Entries.{picture_at, revision_at, Operation}
+use Rattle.mf_live.specs.Entries.{accepted_list_with, picture_at, revision_at, Operation}
 use Rattle.mf_live.specs.declared.fault.Fault.{Fault}
 use Rattle.mf_live.specs.declared.fault.Fault.TheVariants.{TooManyOperations, Refused}
 use Rattle.mf_ops.specs.Step.{next_picture, op_fault}
 use Rattle.mf_ops.specs.declared.op.Op.{Op}
 use Rattle.mf_text.specs.declared.command.Name.{Name}
 use Rattle.mf_text.specs.declared.command.Name.TheVariants.{Current, Register}
-use Rattle.mf_session.specs.Pictures.{Pictures, accepted_list_with}
+use Rattle.mf_session.specs.Pictures.{Pictures}
 use Rattle.mf_session.specs.Refusals.{refusal_line}
 use Rattle.mf_session.specs.declared.refusal.Refusal.TheVariants.{Operation as RefusedOperation}
 
@@ -24,7 +24,7 @@ IsClearable max_ops s (Register number) = Unit {0}
 
 -- the pictures after an operation on one of them
 abbrev pub pictures_after : Pictures → Name → Op → Pictures
-pictures_after s Current op = record s { accepted = accepted_list_with s (Operation op) }
+pictures_after s Current op = record s { accepted = accepted_list_with s.accepted s.published (Operation op) }
 pictures_after s (Register number) op = record s { registers = slice_set s.registers number (next_picture (slice_index_or s.registers number []) op) }
 
 -- an operation that is refused prints why, and any other prints nothing

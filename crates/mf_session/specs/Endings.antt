@@ -4,8 +4,7 @@ use Rattle.mf_gf.specs.declared.file.GfFile.{GfFile}
 use Rattle.mf_gf.specs.Keeping.{Keeps, max_bytes_of}
 use Rattle.mf_live.specs.declared.closing.Closing.{Closing}
 use Rattle.mf_live.specs.declared.closing.Ended.{Ended}
-use Rattle.mf_live.specs.Entries.{Entry}
-use Rattle.mf_live.specs.Entries as entries
+use Rattle.mf_live.specs.Entries.{End, Entry, accepted_list_with}
 use Rattle.mf_live.specs.Writers.{closing_accepted_list, closing_identity, closing_published_list, ended_identity, ended_published_list}
 use Rattle.mf_session.specs.declared.session.EndFault.{EndFault}
 use Rattle.mf_session.specs.declared.session.EndFault.TheVariants.{Kept, Halfway}
@@ -16,7 +15,7 @@ use Rattle.mf_session.specs.States.{State}
 
 -- what `currentpicture` has accepted, followed by the end mark
 abbrev pub complete_list : Pictures → List Entry
-complete_list p = entries.complete_list p.accepted p.published
+complete_list p = accepted_list_with p.accepted p.published End
 
 -- the font file keeps the characters, and its greatest number of bytes is that of the session
 pub record IsFileOf (session : Session) (s : State) (file : GfFile) : Type 0 where

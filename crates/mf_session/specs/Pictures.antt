@@ -1,6 +1,6 @@
 -- The pictures of a script: the live picture `currentpicture`, and those in the registers.
-use Rattle.std.specs.Prelude.{List, [], ◌∷◌, ◌++◌, replicate, slice_index_or}
-use Rattle.mf_live.specs.Entries.{Change, Entry, entry, next_label, picture_at}
+use Rattle.std.specs.Prelude.{List, [], replicate, slice_index_or}
+use Rattle.mf_live.specs.Entries.{Entry, picture_at}
 use Rattle.mf_rows.specs.Dots.{Dot}
 use Rattle.mf_text.specs.declared.command.Name.{Name}
 use Rattle.mf_text.specs.declared.command.Name.TheVariants.{Current, Register}
@@ -17,10 +17,6 @@ pub record Pictures : Type 0 where
 -- no operation is accepted, and all pictures are blank
 abbrev pub blank_pictures : Pictures
 blank_pictures = record { accepted = []; published = []; registers = replicate register_count [] }
-
--- what `currentpicture` has accepted once it accepts this, too
-abbrev pub accepted_list_with : Pictures → Change → List Entry
-accepted_list_with s change = s.accepted ++ entry (next_label s.published) change ∷ []
 
 -- the picture with this name
 abbrev pub picture : Pictures → Name → List Dot

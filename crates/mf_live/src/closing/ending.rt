@@ -1,8 +1,8 @@
 //! Closing.
 ghost use Rattle.std.specs.Prelude.{◌≡◌, true, IfOk, IfErr, MatchResult};
-ghost use Rattle.mf_live.specs.Entries.{complete_list, is_closed};
+ghost use Rattle.mf_live.specs.Entries.{is_closed};
 ghost use Rattle.mf_live.specs.Viewers.{notice_identity, told_list};
-ghost use Rattle.mf_live.specs.Writers.{identity, accepted_list, published_list, closing_identity, closing_accepted_list};
+ghost use Rattle.mf_live.specs.Writers.{identity, complete_list, closing_identity, closing_accepted_list};
 ghost use Rattle.mf_live.specs.Writers.{closing_published_list, ended_identity, ended_published_list, IsHandedBack, IsKept};
 
 use super::{CloseFault, Closing, Ended};
@@ -19,7 +19,7 @@ impl Writer {
     #[tactic(auto, using(crate::proofs::Ending::end_closes))]
     pub fn close<R: Wait>(self, rt: &R) -> Result<Ended, CloseFault>
         ensures identity { IfOk result (λ ended. ended_identity ended ≡ identity self) }
-        ensures published { IfOk result (λ ended. ended_published_list ended ≡ complete_list (accepted_list self) (published_list self)) }
+        ensures published { IfOk result (λ ended. ended_published_list ended ≡ complete_list self) }
         ensures handed_back { IfErr result (IsHandedBack self) }
         ensures kept { IfErr result IsKept }
     {

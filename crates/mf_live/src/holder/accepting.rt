@@ -1,11 +1,11 @@
 //! Opening a picture, and accepting operations and the end mark.
-ghost use Rattle.std.specs.Prelude.{◌≡◌, ◌<◌, ◌^◌, [], ◌∷◌, ◌++◌, false, None, Some, Err, IfOk, IfErr, IsOk, OnOk, MatchResult};
+ghost use Rattle.std.specs.Prelude.{◌≡◌, ◌<◌, ◌^◌, [], false, None, Some, Err, IfOk, IfErr, IsOk, OnOk, MatchResult};
 ghost use Rattle.left_right.specs.Sides.{view};
 ghost use Rattle.mf_geom.specs.declared.cycle.CycleFault.{CycleFault};
 ghost use Rattle.mf_ops.specs.Step.{IsRefusal, op_fault};
 ghost use Rattle.mf_ops.specs.declared.op.Op.TheVariants.{Clear};
 ghost use Rattle.mf_live.specs.Books.{greatest_limit};
-ghost use Rattle.mf_live.specs.Entries.{entry, picture_at, revision_at, next_label, is_closed, Operation, End};
+ghost use Rattle.mf_live.specs.Entries.{picture_at, revision_at, accepted_list_with, is_closed, Operation, End};
 ghost use Rattle.mf_live.specs.Holders.{identity, accepted_list, knowledge, published_list};
 ghost use Rattle.mf_live.specs.Rule.{view_knowing, knowledge_of, with_event};
 ghost use Rattle.mf_live.specs.declared.event.Event.TheVariants.{Accept};
@@ -81,7 +81,7 @@ impl Holder {
         requires few { revision_at (accepted_list self.old) < greatest_limit }
         ensures identity { identity self.new ≡ identity self.old }
         ensures accepted { MatchResult result
-            (λ _. accepted_list self.new ≡ accepted_list self.old ++ entry (next_label (published_list self.old)) (Operation op.now) ∷ [])
+            (λ _. accepted_list self.new ≡ accepted_list_with (accepted_list self.old) (published_list self.old) (Operation op.now))
             (λ _. accepted_list self.new ≡ accepted_list self.old) }
         ensures published { published_list self.new ≡ published_list self.old }
         ensures allowed { OnOk result (op_fault (picture_at (accepted_list self.old)) op.now ≡ None) }
@@ -102,7 +102,7 @@ impl Holder {
     pub(crate) fn end(&mut self)
         requires open { is_closed (accepted_list self.old) ≡ false }
         ensures identity { identity self.new ≡ identity self.old }
-        ensures accepted { accepted_list self.new ≡ accepted_list self.old ++ entry (next_label (published_list self.old)) End ∷ [] }
+        ensures accepted { accepted_list self.new ≡ accepted_list_with (accepted_list self.old) (published_list self.old) End }
         ensures published { published_list self.new ≡ published_list self.old }
         ensures working { self.new.working ≡ self.old.working }
         ensures waits { 0 < self.new.unwritten }

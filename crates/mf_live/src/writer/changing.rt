@@ -1,11 +1,11 @@
 //! What a writer does.
-ghost use Rattle.std.specs.Prelude.{◌≡◌, ◌-◌, ◌<◌, [], ◌∷◌, ◌++◌, None, Some, Err, IfErr, IsOk, OnOk, MatchResult, ◌↔◌};
+ghost use Rattle.std.specs.Prelude.{◌≡◌, ◌-◌, None, Some, Err, IfErr, IsOk, OnOk, MatchResult, ◌↔◌};
 ghost use Rattle.mf_geom.specs.declared.cycle.CycleFault.{CycleFault};
 ghost use Rattle.mf_ops.specs.Step.{IsRefusal, op_fault};
 ghost use Rattle.mf_ops.specs.declared.op.Op.TheVariants.{Clear};
-ghost use Rattle.mf_live.specs.Entries.{entry, picture_at, revision_at, next_label, Operation};
+ghost use Rattle.mf_live.specs.Entries.{accepted_list_with, revision_at, Operation};
 ghost use Rattle.mf_live.specs.Viewers.{notice_identity, told_list};
-ghost use Rattle.mf_live.specs.Writers.{identity, accepted_list, published_list, max_ops, IsSameWriter};
+ghost use Rattle.mf_live.specs.Writers.{identity, accepted_list, published_list, max_ops, working_picture, HasRoom, IsSameWriter};
 
 use super::Writer;
 use crate::fault::Fault;
@@ -28,18 +28,17 @@ impl Writer {
         ensures published { published_list self.new ≡ published_list self.old }
         ensures max_ops { max_ops self.new ≡ max_ops self.old }
         ensures accepted { MatchResult result
-            (λ _. accepted_list self.new ≡ accepted_list self.old ++ entry (next_label (published_list self.old)) (Operation op) ∷ [])
+            (λ _. accepted_list self.new ≡ accepted_list_with (accepted_list self.old) (published_list self.old) (Operation op))
             (λ _. accepted_list self.new ≡ accepted_list self.old) }
-        ensures allowed { OnOk result ((revision_at (accepted_list self.old) < max_ops self.old) × (op_fault (picture_at (accepted_list self.old)) op ≡ None)) }
+        ensures allowed { OnOk result (HasRoom self.old × (op_fault (working_picture self.old) op ≡ None)) }
         ensures handed_back { IfErr result (λ refused. refused.0 ≡ op) }
         ensures too_many { (revision_at (accepted_list self.old) ≡ max_ops self.old) ↔ (result ≡ Err (op, Fault.TooManyOperations)) }
-        ensures clears { op ≡ Clear → revision_at (accepted_list self.old) < max_ops self.old → IsOk result }
-        ensures turning { (fault : CycleFault) → revision_at (accepted_list self.old) < max_ops self.old
-            → op_fault (picture_at (accepted_list self.old)) op ≡ Some (OpFault.Cycle fault) → result ≡ Err (op, Fault.Refused (OpFault.Cycle fault)) }
-        ensures out_of_field { revision_at (accepted_list self.old) < max_ops self.old
-            → op_fault (picture_at (accepted_list self.old)) op ≡ Some OpFault.OutOfField → result ≡ Err (op, Fault.Refused OpFault.OutOfField) }
-        ensures refused { IfErr result (λ refused. (fault : OpFault) → refused.1 ≡ Fault.Refused fault
-            → IsRefusal (picture_at (accepted_list self.old)) op fault) }
+        ensures clears { op ≡ Clear → HasRoom self.old → IsOk result }
+        ensures turning { (fault : CycleFault) → HasRoom self.old → op_fault (working_picture self.old) op ≡ Some (OpFault.Cycle fault)
+            → result ≡ Err (op, Fault.Refused (OpFault.Cycle fault)) }
+        ensures out_of_field { HasRoom self.old → op_fault (working_picture self.old) op ≡ Some OpFault.OutOfField
+            → result ≡ Err (op, Fault.Refused OpFault.OutOfField) }
+        ensures refused { IfErr result (λ refused. (fault : OpFault) → refused.1 ≡ Fault.Refused fault → IsRefusal (working_picture self.old) op fault) }
     {
         if self.holder.revision == self.max_ops {
             return Err((op, Fault::TooManyOperations));
@@ -52,7 +51,7 @@ impl Writer {
 
     /// The working picture: that of all accepted operations, published or not.
     pub fn working(&self) -> &Picture
-        ensures { result.now ≡ picture_at (accepted_list self.now) }
+        ensures { result.now ≡ working_picture self.now }
     {
         &self.holder.working
     }
