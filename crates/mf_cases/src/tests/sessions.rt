@@ -9,11 +9,12 @@ ghost use Rattle.mf_text.specs.Registers.{IsName};
 use super::AMPLE;
 use super::session_ends::assert_shows;
 use crate::tests::assertions::assert_same;
+use mf_base::OutOfMemory;
 use mf_gf::GfFile;
 use mf_live::{Desk, Ended};
 use mf_session::Session;
 use mf_testing::{Script, worked_scripts};
-use mf_text::Name;
+use mf_text::{Name, TextFault, read_command};
 use std::alloc::Global;
 use std::process::Abort;
 use std::sync::Wait;
@@ -167,6 +168,66 @@ fn have_viewers(rt: HostRuntime) {
     let viewer = desk.viewer().expect(&rt, "a place is left");
     assert_lines_print(&rt, &mut session, FILLING);
     assert_shows(&rt, viewer, 1, 6);
+    assert_total(&rt, &session, Name::Current, 12);
+    session.discard(&rt);
+}
+
+/// Asserts that a session to which the line is given once it was read prints this text.
+#[tactic(auto, using(mf_text::proofs::Registers::names_given))]
+fn assert_answer_is<R: Abort + Wait + AllocGlobal>(
+    rt: &R,
+    session: &mut Session,
+    line: &str,
+    text: &str,
+) {
+    let alloc = rt.alloc();
+    let read = read_command(alloc, line.as_bytes());
+    let printed = session
+        .answer_to(rt, alloc, read)
+        .expect(rt, "there is room for the answer");
+    assert_same(rt, printed.as_slice(), text.as_bytes(), line);
+}
+
+/// Lines with no command, lines that are refused when they are read or when they are performed, and lines that are performed.
+const READ_FIRST: &[(&str, &str)] = &[
+    ("", ""),
+    ("% a comment", ""),
+    (
+        "addto currentpicture contour (0,0)--(3,0)--(3,2)--(0,2)--cycle",
+        "",
+    ),
+    (
+        "addto currentpicture contour (0,0)--(1,1)--(0,1)--cycle",
+        "refused NotRectilinear 0\n",
+    ),
+    ("show currentpicture totalweight", "refused Syntax 21\n"),
+    (
+        "currentpicture := currentpicture shifted (4095,0)",
+        "refused OutOfField\n",
+    ),
+    ("publish", "published 1\n"),
+    ("show totalweight currentpicture", "totalweight 6\n"),
+];
+
+/// A session answers to lines that its caller has read.
+#[test]
+fn answer_to_lines_that_were_read(rt: HostRuntime) {
+    let (mut session, _) = open(&rt, rt.alloc(), AMPLE.max_ops);
+    for (line, text) in READ_FIRST {
+        assert_answer_is(&rt, &mut session, line, text);
+    }
+    assert_total(&rt, &session, Name::Current, 6);
+    session.discard(&rt);
+}
+
+/// Where there was no memory to read a line, a session answers the same, and stays as it was.
+#[test]
+fn answer_to_a_line_without_memory(rt: HostRuntime) {
+    let alloc = rt.alloc();
+    let (mut session, _) = open(&rt, alloc, AMPLE.max_ops);
+    assert_lines_print(&rt, &mut session, FILLING);
+    let answer = session.answer_to(&rt, alloc, Err(TextFault::OutOfMemory));
+    assert_same(&rt, answer.err(), Some(OutOfMemory), "no memory");
     assert_total(&rt, &session, Name::Current, 12);
     session.discard(&rt);
 }
