@@ -57,14 +57,10 @@ seen_list-same before after same = ap (λ M. longer M (learnt_list after)) same.
 pub HasLearnt-same : (first second after : Viewer) (told : List Entry) → HasLearnt first told second → SeesTheSame second after → HasLearnt first told after
 HasLearnt-same first second after told learns same = grind (arith, ints, seen_list-same second after same)
 
--- what a prefix of a look's events has published is a whole prefix of what the look shows
-shown_list-prefix : (look : Look) (events : List Event) → IsPrefix events (look_events look) → IsWholePrefix (published_list_of events) (shown_list look)
-shown_list-prefix look = grind (arith, sym, told_list-prefix)
-
 -- where the events of a look are a prefix of those of a notice, or the other way round, their lists are whole prefixes likewise
 pub one_lists : (look : Look) (n : Notice) → IsPrefix (notice_events n) (look_events look) ⊎ IsPrefix (look_events look) (notice_events n)
     → IsWholePrefix (told_list n) (shown_list look) ⊎ IsWholePrefix (shown_list look) (told_list n)
-one_lists look n (inl prefix) = inl (shown_list-prefix look (notice_events n) prefix)
+one_lists look n (inl prefix) = inl (grind (arith, sym, told_list-prefix))
 one_lists look n (inr prefix) = inr (told_list-prefix n (look_events look) prefix)
 
 -- a list that has a closed list as a whole prefix is that closed list

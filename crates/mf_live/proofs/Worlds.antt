@@ -5,7 +5,7 @@ use Rattle.mf_live.specs.Prefixes.{IsWholePrefix}
 use Rattle.mf_live.specs.World.{World, new_world, Happen, May, after_event, world_after, IsLawful, EverySchedule, StaysLawful, published_list_of}
 use Rattle.mf_live.proofs.Lawfulness.{lawful_event, published-event, shows_more, none_pending}
 use Rattle.mf_live.proofs.WholePrefixes.{whole-self, whole-trans, whole-nil}
-use Rattle.mf_live.proofs.Blank.{revision_at-none}
+use Rattle.mf_live.proofs.Blank.{blank_revision}
 use Rattle.std.proofs.lemmas.List.Elements.{All-nil}
 
 pub world_after-append : (w : World) (xs ys : List Event) → world_after w (xs ++ ys) ≡ world_after (world_after w xs) ys
@@ -37,7 +37,7 @@ stays_lawful max_ops w (e ∷ es) lawful happen =
     (lawful, shows_more max_ops w e lawful, stays_lawful max_ops (after_event w e) es (lawful_event max_ops w e lawful happen.0) happen.1)
 
 pub every_schedule : (max_ops : ℕ) → EverySchedule max_ops
-every_schedule max_ops events happen = stays_lawful max_ops new_world events (grind (arith, revision_at-none, whole-nil, none_pending, All-nil)) happen
+every_schedule max_ops events happen = stays_lawful max_ops new_world events (grind (arith, blank_revision [] refl, whole-nil, none_pending, All-nil)) happen
 
 lawful-on : (max_ops : ℕ) (w : World) (xs : List Event) → IsLawful max_ops w → Happen max_ops w xs → IsLawful max_ops (world_after w xs)
 lawful-on max_ops w [] lawful happen = lawful
@@ -45,7 +45,7 @@ lawful-on max_ops w (x ∷ xs) lawful happen = lawful-on max_ops (after_event w 
 
 -- what happens from the start leaves a lawful world
 pub lawful-after : (max_ops : ℕ) (xs : List Event) → Happen max_ops new_world xs → IsLawful max_ops (world_after new_world xs)
-lawful-after max_ops xs happen = lawful-on max_ops new_world xs (grind (arith, revision_at-none, whole-nil, none_pending, All-nil)) happen
+lawful-after max_ops xs happen = lawful-on max_ops new_world xs (grind (arith, blank_revision [] refl, whole-nil, none_pending, All-nil)) happen
 
 published-on : (max_ops : ℕ) (w : World) (xs : List Event) → IsLawful max_ops w → Happen max_ops w xs → IsWholePrefix w.published (world_after w xs).published
 published-on max_ops w [] lawful happen = whole-self w.published

@@ -19,6 +19,7 @@ use std::sync::Wait;
 /// Opens a blank picture of revision 0: its writer, which accepts at most `max_ops` operations, and a desk with at most `places`
 /// viewers. Requires at most 64 places. Refused with `OutOfMemory` where an allocation fails. It takes `rt` because it publishes
 /// once, which is how the writer learns which picture it has; it has nobody to wait for, since nobody looks yet.
+#[tactic(auto, using(crate::proofs::Blank::blank_revision))]
 pub fn open_picture<R: Wait>(
     rt: &R,
     alloc: Global,

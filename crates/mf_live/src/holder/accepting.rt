@@ -24,6 +24,7 @@ use std::marker::Brand;
 use std::sync::Wait;
 
 /// The blank version of a history in which nothing has happened.
+#[tactic(auto, using(crate::proofs::Blank::blank_picture, crate::proofs::Blank::blank_revision))]
 fn blank(alloc: Global, prefix: &Prefix) -> Version
     requires { prefix.now.knowledge.seen.log ≡ [] }
     ensures { knowledge_of result ≡ prefix.now.knowledge }

@@ -1,6 +1,6 @@
 use Rattle.std.proofs.Common.{sym, arith}
-use Rattle.mf_live.proofs.Blank.{picture_at-blank, revision_at-blank}
+use Rattle.mf_live.proofs.Blank.{blank_picture, blank_revision}
 use Rattle.mf_live.proofs.holder.Holder.open.Goals as goal
 
 pub invariant_of-result : goal.invariant_of-result
-invariant_of-result g c = grind (arith, sym, picture_at-blank, revision_at-blank)
+invariant_of-result g c = grind (arith, sym, blank_picture, blank_revision)
