@@ -18,7 +18,7 @@ pub record IsLawfulBook (cells : List Cell) (events : List Event) : Type 0 where
 abbrev pub counter_of : Book → Named
 counter_of b = record { tracked = true; key = 0; book = b }
 
--- where the step found the number that it expected, as the test says, it has added these events to all that had been seen; else
--- others were there already
+-- where the step found the number that it expected, as the test says, it has added these events to all that had been seen, and
+-- each of all these could happen in its turn; else others were there already
 abbrev pub Writes : List Event → Bool → View Event ℕ → View Event ℕ → Type 0
 Writes more expected v w = MatchBool expected ((w.0 ≡ v.0 ++ more) × Happen greatest_limit new_world w.0) (Unit {0})

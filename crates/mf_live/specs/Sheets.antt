@@ -17,7 +17,8 @@ sheet_picture s = s.picture
 abbrev pub sheet_revision : Sheet → ℕ
 sheet_revision s = s.revision
 
--- a viewer has looked at a list that the events that it knows have published, and in which nothing follows the end mark
+-- a viewer has looked at a list of which everything that it had seen is a whole prefix, and in which nothing follows the end mark. It
+-- has seen that list, which the events that it knows have published, and has learnt nothing
 pub record HasLooked (before after : Viewer) : Type 0 where
   pub extends : Extends before (looked_at_list after)
   pub learnt : learnt_list after ≡ learnt_list before
