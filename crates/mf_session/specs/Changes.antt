@@ -1,21 +1,21 @@
 -- What commands do with pictures: what they print, and the pictures after them.
-use Rattle.std.specs.Prelude.{◌<◌, ◌==◌, ℕ, List, [], ◌++◌, Option, None, Some, option_map, codes, decimal, slice_index_or, slice_set, if◌then◌else◌}
-use Rattle.mf_live.specs.Entries.{accepted_list_with, picture_at, revision_at, Operation}
+use Rattle.std.specs.Prelude.{◌<◌, ◌==◌, ℕ, List, [], ◌++◌, Option, None, Some, option_map, codes, decimal, slice_set, if◌then◌else◌}
+use Rattle.mf_live.specs.Entries.{accepted_list_with, revision_at, Operation}
 use Rattle.mf_live.specs.declared.fault.Fault.{Fault}
 use Rattle.mf_live.specs.declared.fault.Fault.TheVariants.{TooManyOperations, Refused}
 use Rattle.mf_ops.specs.Step.{next_picture, op_fault}
 use Rattle.mf_ops.specs.declared.op.Op.{Op}
 use Rattle.mf_text.specs.declared.command.Name.{Name}
 use Rattle.mf_text.specs.declared.command.Name.TheVariants.{Current, Register}
-use Rattle.mf_session.specs.Pictures.{Pictures}
+use Rattle.mf_session.specs.Pictures.{Pictures, picture}
 use Rattle.mf_session.specs.Refusals.{refusal_line}
 use Rattle.mf_session.specs.declared.refusal.Refusal.TheVariants.{Operation as RefusedOperation}
 
 -- the refusal of an operation on a picture, if there is one: `currentpicture` accepts up to max_ops operations, a register any
 -- number
 abbrev pub refusal_of : ℕ → Pictures → Name → Op → Option Fault
-refusal_of max_ops s Current op = if revision_at s.accepted == max_ops then Some TooManyOperations else option_map Refused (op_fault (picture_at s.accepted) op)
-refusal_of max_ops s (Register number) op = option_map Refused (op_fault (slice_index_or s.registers number []) op)
+refusal_of max_ops s Current op = if revision_at s.accepted == max_ops then Some TooManyOperations else option_map Refused (op_fault (picture s Current) op)
+refusal_of max_ops s (Register number) op = option_map Refused (op_fault (picture s (Register number)) op)
 
 -- a clear of a picture is accepted: always for a register, and for `currentpicture` while it accepts operations
 abbrev pub IsClearable : ℕ → Pictures → Name → Type 0
@@ -25,7 +25,7 @@ IsClearable max_ops s (Register number) = Unit {0}
 -- the pictures after an operation on one of them
 abbrev pub pictures_after : Pictures → Name → Op → Pictures
 pictures_after s Current op = record s { accepted = accepted_list_with s.accepted s.published (Operation op) }
-pictures_after s (Register number) op = record s { registers = slice_set s.registers number (next_picture (slice_index_or s.registers number []) op) }
+pictures_after s (Register number) op = record s { registers = slice_set s.registers number (next_picture (picture s (Register number)) op) }
 
 -- an operation that is refused prints why, and any other prints nothing
 abbrev pub line_if_refused : Option Fault → List ℕ
