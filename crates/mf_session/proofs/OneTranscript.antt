@@ -40,13 +40,13 @@ one_answer limits s line a b (inl p) (inr q) = absurd (given_or_refused line p.c
 one_answer limits s line a b (inr p) (inl q) = absurd (given_or_refused line q.command p.fault p.printable q.given p.refused)
 one_answer limits s line a b (inr p) (inr q) = grind (arith, refused_once, sym)
 
-performed_once : (limits : Limits) (s : State) (lines : List (List ℕ)) (a b : Answer) → Perform limits s lines a → Perform limits s lines b → a ≡ b
-performed_once limits s [] a b p q = p ∙ sym q
-performed_once limits s (line ∷ more) a b (first, rest, answer, performed, is) (first_too, rest_too, answer_too, performed_too, is_too) =
+performs_once : (limits : Limits) (s : State) (lines : List (List ℕ)) (a b : Answer) → Perform limits s lines a → Perform limits s lines b → a ≡ b
+performs_once limits s [] a b p q = p ∙ sym q
+performs_once limits s (line ∷ more) a b (first, rest, answer, performed, is) (first_too, rest_too, answer_too, performed_too, is_too) =
     let same = one_answer limits s line first first_too answer answer_too in
     let after = subst (λ x. Perform limits x.next more rest) same performed in
     is ∙ ap (λ x. answers_in_turn x rest) same
-    ∙ ap (answers_in_turn first_too) (performed_once limits first_too.next more rest rest_too after performed_too) ∙ sym is_too
+    ∙ ap (answers_in_turn first_too) (performs_once limits first_too.next more rest rest_too after performed_too) ∙ sym is_too
 
 pub one_transcript : (limits : Limits) (input text other : List ℕ) → IsTranscript limits input text → IsTranscript limits input other → text ≡ other
-one_transcript limits input text other p q = grind (arith, performed_once)
+one_transcript limits input text other p q = grind (arith, performs_once)

@@ -15,17 +15,17 @@ abbrev pub state_of : Session → List Character → State
 state_of session characters = record { pictures = pictures session.variables; check = session.check; characters = characters }
 
 -- a session represents no states but these
-pub standing : (session : Session) (Holds : State → Type 0)
+pub in_each_state : (session : Session) (Holds : State → Type 0)
     → ((characters : List Character) → Keeps session.file [] characters → Holds (state_of session characters))
     → (s : State) → StandsFor session s → Holds s
-standing session Holds holds s stands = grind (arith, sym)
+in_each_state session Holds holds s stands = grind (arith, sym)
 
 -- a session has answered a command that left its font file as it was
-pub answered : (before after : Session) (command : Command) (text : List ℕ) → after.file ≡ before.file
+pub HasAnswered-same_file : (before after : Session) (command : Command) (text : List ℕ) → after.file ≡ before.file
     → ((characters : List Character) → AnswersTo (limits before) (state_of before characters) command (answer_with text (state_of after characters)))
     → (s : State) → StandsFor before s → HasAnswered after text (AnswersTo (limits before) s command)
-answered before after command text same answers =
-    standing before (λ s. HasAnswered after text (AnswersTo (limits before) s command))
+HasAnswered-same_file before after command text same answers =
+    in_each_state before (λ s. HasAnswered after text (AnswersTo (limits before) s command))
     (λ characters keeps. record {
       next = state_of after characters;
       answer = answers characters;

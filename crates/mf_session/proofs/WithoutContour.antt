@@ -28,7 +28,7 @@ is_not_refused line given faults.OutOfMemory none p q = wants_no_memory line giv
 is_not_refused line given fault none p q = given_or_refused line given fault (λ is. cc) p q
 
 -- reading a line that gives such a command says that command
-pub read_as : (line : List ℕ) (read : Result Command TextFault) (given : Command) → HasNoContour given → IfOk read (Gives line)
+pub reads_as : (line : List ℕ) (read : Result Command TextFault) (given : Command) → HasNoContour given → IfOk read (Gives line)
     → IfErr read (IsRefused line) → Gives line given → read ≡ Ok given
-read_as line (Ok command) given none gives refused p = ap Ok (gives_one line command given gives p)
-read_as line (Err fault) given none gives refused p = absurd (is_not_refused line given fault none p refused)
+reads_as line (Ok command) given none gives refused p = ap Ok (gives_one line command given gives p)
+reads_as line (Err fault) given none gives refused p = absurd (is_not_refused line given fault none p refused)

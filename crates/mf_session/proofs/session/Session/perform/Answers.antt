@@ -3,7 +3,7 @@ use Rattle.std.proofs.lemmas.Int.{ints}
 use Rattle.std.proofs.lemmas.Result.{IfOk-weaker}
 use Rattle.mf_session.specs.States.{State, answer_with}
 use Rattle.mf_session.specs.Pictures.{Pictures}
-use Rattle.mf_session.proofs.Standing.{answered, state_of}
+use Rattle.mf_session.proofs.Standing.{HasAnswered-same_file, state_of}
 use Rattle.mf_session.proofs.session.Session.perform.Goals as goal
 use Rattle.mf_session.proofs.session.Session.perform.Goals.{in-Contour, in-Cull, in-Clear, in-Shift, in-Scale, in-Quarter}
 
@@ -15,25 +15,25 @@ draws s text line before after (printed, same) =
 
 pub returns-in-Turning-clause-answer : goal.returns-in-Turning-clause-answer
 returns-in-Turning-clause-answer g c =
-    answered c.args.self.now _ _ _ c.set_check.ensures.file
+    HasAnswered-same_file c.args.self.now _ _ _ c.set_check.ensures.file
     (λ characters. rw (c.in-Turning.is, c.set_check.ensures.text, c.set_check.ensures.variables, c.set_check.ensures.check) refl)
 
 pub returns-in-Also-clause-answer : goal.returns-in-Also-clause-answer
 returns-in-Also-clause-answer g c =
     IfOk-weaker c.add.result _ _
-    (λ text given. answered c.args.self.now _ _ _ refl
+    (λ text given. HasAnswered-same_file c.args.self.now _ _ _ refl
     (λ characters. rw c.in-Also.is (draws (state_of c.args.self.now characters) _ _ _ _ given))) c.add.ensures.answer
 
 pub returns-in-Publish-clause-answer : goal.returns-in-Publish-clause-answer
 returns-in-Publish-clause-answer g c =
     IfOk-weaker c.publish.result _ _
-    (λ text given. answered c.args.self.now _ _ _ refl
+    (λ text given. HasAnswered-same_file c.args.self.now _ _ _ refl
     (λ characters. rw c.in-Publish.is (draws (state_of c.args.self.now characters) _ _ _ _ given))) c.publish.ensures.answer
 
 pub returns-clause-answer : goal.returns-clause-answer
 returns-clause-answer g c =
     IfOk-weaker c.operate.result _ _
-    (λ text given. answered c.args.self.now _ _ _ refl
+    (λ text given. HasAnswered-same_file c.args.self.now _ _ _ refl
     (λ characters.
     let s = state_of c.args.self.now characters in
     elim c.match-command.branch [

@@ -5,12 +5,12 @@ use Rattle.mf_gf.specs.Files.{bytes_so_far}
 use Rattle.mf_gf.specs.Keeping.{Keeps, character, max_bytes_of}
 use Rattle.mf_session.specs.Pictures.{source_picture}
 use Rattle.mf_session.specs.Variables.{pictures}
-use Rattle.mf_session.proofs.Standing.{keeps-same, standing, state_of}
+use Rattle.mf_session.proofs.Standing.{keeps-same, in_each_state, state_of}
 use Rattle.mf_session.proofs.session.Session.ship.Goals as goal
 
 pub returns-in-Ok-clause-answer : goal.returns-in-Ok-clause-answer
 returns-in-Ok-clause-answer c =
-    standing c.args.self.now _ (λ characters kept.
+    in_each_state c.args.self.now _ (λ characters kept.
     let dx : to_z w32 (of_z w32 c.args.dx) ≡ c.args.dx = omega (arith, ints) in
     let width : to_z w32 (of_z w32 c.args.width) ≡ c.args.width = omega (arith, ints) in
     let shipped = character c.args.code c.args.dx c.args.width (source_picture (pictures c.args.self.now.variables) c.args.source) in
@@ -28,7 +28,7 @@ returns-in-Ok-clause-answer c =
 pub returns-in-Err-FileTooLong-clause-answer : goal.returns-in-Err-FileTooLong-clause-answer
 returns-in-Err-FileTooLong-clause-answer c =
     IfOk-weaker c.refusal_line.result _ _
-    (λ text printed. standing c.args.self.now _ (λ characters kept.
+    (λ text printed. in_each_state c.args.self.now _ (λ characters kept.
     let dx : to_z w32 (of_z w32 c.args.dx) ≡ c.args.dx = omega (arith, ints) in
     let width : to_z w32 (of_z w32 c.args.width) ≡ c.args.width = omega (arith, ints) in
     let long =
