@@ -5,9 +5,9 @@ use Rattle.mf_options.specs.Options.{number_parser}
 use Rattle.mf_options.specs.Values.{AreValuesOf, IsNumberIn}
 use Rattle.mf_words.specs.CommandLine.{greatest_viewers, mfpic}
 
-pub mfpic-plain : is_simple_and_free mfpic ≡ true
+pub mfpic_is_plain : is_simple_and_free mfpic ≡ true
 unfolding mfpic
-mfpic-plain = refl
+mfpic_is_plain = refl
 
 pub viewers_given : (app : App) (found : List Row) → app ≡ mfpic → AreValuesOf app.top.rules found
     → IfSome (one_of (codes "viewers") found) (IsNumberIn 0 greatest_viewers)

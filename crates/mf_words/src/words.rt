@@ -22,6 +22,7 @@ pub struct Words {
 
 /// Reads the words of the command line. The first word is the program's name, whatever it is. Refused with `BadWords` only where
 /// the rest is not `[--viewers 0..16] [--gf FILE]`, in either order, and with `OutOfMemory` where an allocation fails.
+#[tactic(auto, using(crate::proofs::CommandLines::mfpic_is_plain))]
 pub fn read_words(alloc: Global, words: Vec<String>) -> Result<Words, WordsFault>
     ensures accepted { OnOk result (IsCommandLine (texts_of words)) }
     ensures refused { IsErrOf result WordsFault.BadWords → ¬ IsCommandLine (texts_of words) }
@@ -37,6 +38,7 @@ pub fn read_words(alloc: Global, words: Vec<String>) -> Result<Words, WordsFault
 }
 
 /// The command line of the program: `[--viewers 0..16] [--gf FILE]`, without flags for help or a version.
+#[tactic(auto, unfolding(crate::specs::CommandLine::mfpic))]
 fn command<'a>(alloc: Global) -> Result<Command<'a>, AllocError>
     ensures { IfOk result (λ made. app_of made ≡ mfpic) }
 {

@@ -1,12 +1,9 @@
-use Rattle.std.proofs.Common.{◌∙◌, ap, arith, codes}
-use Rattle.clap.specs.Words.{app_of, found_of, is_simple_and_free, one_of, rows_of}
+use Rattle.std.proofs.Common.{arith, codes}
+use Rattle.clap.specs.Words.{app_of, found_of, one_of, rows_of}
 use Rattle.mf_options.proofs.ValuesTyped.{in_bounds, is_number}
 use Rattle.mf_words.specs.CommandLine.{greatest_viewers}
-use Rattle.mf_words.proofs.CommandLines.{mfpic-plain, viewers_given}
+use Rattle.mf_words.proofs.CommandLines.{viewers_given}
 use Rattle.mf_words.proofs.words.read_words.Goals as goal
-
-pub find_matches-requires : goal.find_matches-requires
-find_matches-requires c = record { plain = ap is_simple_and_free c.in_ok-command.ensures ∙ mfpic-plain }
 
 pub number-requires : goal.number-requires
 number-requires c =
