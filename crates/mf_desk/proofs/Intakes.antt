@@ -5,16 +5,12 @@ use Rattle.mf_desk.specs.declared.progress.Progress.{Progress}
 use Rattle.mf_desk.specs.Progress.{BreaksAfter, GoesOn, intake}
 use Rattle.mf_session.specs.Sessions.{limits}
 
--- some bytes, those after them, and what is read after both
-regrouped : (read xs ys more : List ℕ) → read ++ xs ++ (ys ++ more) ≡ read ++ (xs ++ ys) ++ more
-regrouped read xs ys more = simp append_assoc
-
 -- an intake of bytes that consist of first ones and others
 module _ (before : Progress) (xs ys bytes : List ℕ) (are : bytes ≡ xs ++ ys) (held later : Option (List ℕ)) where
   -- a run that breaks off while it takes the first bytes breaks off while it takes all
   pub BreaksAfter-first : (fault : RunFault) → BreaksAfter (intake before xs held later) fault → BreaksAfter (intake before bytes held later) fault
   BreaksAfter-first fault breaks first left read more after =
-      rw (are, ← regrouped read xs ys more) (breaks first left read (ys ++ more) after)
+      rw (are, ← append_assoc read xs ys, append_assoc (read ++ xs) ys more) (breaks first left read (ys ++ more) after)
 
   module _ (now : Progress) (holds : Option (List ℕ)) (goes_on : GoesOn (intake before xs held holds) now) where
     -- a run that takes the first bytes and then the others takes all

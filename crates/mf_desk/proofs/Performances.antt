@@ -83,7 +83,7 @@ module _ (settings : Settings) (viewers : ℕ) where
         let is_long =
         subst (λ n. IsLongFile n settings.font [] over.2.script.last.characters) (ap max_bytes_of same ∙ over.2.max_bytes_is)
         (too_long long over.2.script.last.characters (kept file same)) in
-        rw long (text, out-more _ out, record { complete = all; too_long = is_long }))
+        rw long (text, out-more _ out, (all, is_long)))
         (λ wanting. rw wanting (text, out-more _ out, record { shown = viewers; few = omega arith; complete = all }))
 
     -- the run ends well

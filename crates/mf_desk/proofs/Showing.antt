@@ -76,7 +76,8 @@ module _ (l : LastLooks) (now : EndedRun) (is : HasShown l now) where
           out-more settings viewers first l.held later read l.run over gone (Appends-trans l.held l.holds later lines more is.out out),
           (
             omega (arith, counted, is.counted, over.2.counted, length-append over.0 gone, length-append lines more),
-            (rest, rw (append_assoc over.0 gone rest) (shown_text settings first read over next (gone ++ rest) few all)),
+            rest,
+            rw (append_assoc over.0 gone rest) (shown_text settings first read over next (gone ++ rest) few all),
           ),
         )
 

@@ -143,15 +143,16 @@ module _ (held holds : Option (List ℕ)) (read : List ℕ) (run : Progress) (af
   Breaks-text OutOfMemory left later bytes line others first following before with_line performs broken =
       grind (arith, append-nil, Appends-trans, first-text, before, broken)
   Breaks-text (WriteFault count) left later bytes line others first following before with_line performs broken =
-      let (written, out, (counted, (rest, prints))) = broken in
+      let (written, out, (more, count_is, (counted, rest, prints))) = broken in
       let (next, answer) = prints so_far.last so_far.stands in
       let all : Perform bounds start first (answer_with ((so_far.text ++ written) ++ rest) next) =
       rw (append_assoc so_far.text written rest) (performs (answer_with (written ++ rest) next) answer) in (
         so_far.text ++ written,
         Appends-trans held holds later so_far.text written so_far.out out,
         (
-          length-append so_far.text written ∙ sym (counted ∙ ap (λ n. n + length written) after.lines.counted),
-          (rest, first-text bounds left bytes first following _ next with_line all),
+          omega (arith, counted, count_is, after.lines.counted, length-append so_far.text written),
+          rest,
+          first-text bounds left bytes first following _ next with_line all,
         ),
       )
   Breaks-text fault left later bytes line others first following before with_line performs broken =
@@ -255,5 +256,5 @@ Breaks-flush l held left holds later read ls performer whole limits_are same was
     subst (λ f. Gets held later (MakesPassage (Breaks l f) left read)) (sym is) (
       done.text,
       Appends-kept held holds later done.text done.out same,
-      (sym was.counted, ([], first-text l left read ls [] (done.text ++ []) done.last whole performed)),
+      (sym was.counted, [], first-text l left read ls [] (done.text ++ []) done.last whole performed),
     )

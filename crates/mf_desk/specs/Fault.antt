@@ -1,9 +1,9 @@
 -- What has been written where a fault breaks off a text, or the script.
-use Rattle.std.specs.Prelude.{ℕ, List, Option, ◌≡◌, ◌⊎◌, ◌+◌, [], length}
+use Rattle.std.specs.Prelude.{ℕ, List, Option, ◌≡◌, ◌⊎◌, ◌+◌, []}
 use Rattle.std.specs.Io.KnownBytes.{IsAtEnd}
 use Rattle.std.specs.Str.Lines.{lines}
 use Rattle.mf_desk.specs.Ended.{ended_lines}
-use Rattle.mf_desk.specs.Streams.{IsPrefixOf, Passage}
+use Rattle.mf_desk.specs.Streams.{IsCutAfter, Passage}
 use Rattle.mf_session.specs.States.{State, Limits, start}
 use Rattle.mf_session.specs.Transcript.{IsFirstText, IsTextOf, due_lines}
 use Rattle.mf_desk.specs.declared.fault.RunFault.{RunFault}
@@ -20,14 +20,10 @@ pub record IsTextSoFar (limits : Limits) (left : Option (List ℕ)) (read text :
   pub last : State
   pub first : IsFirstText (due_lines limits start whole) last text
 
--- this is what the lines print that a line feed ended
-abbrev pub IsEndedText : Limits → List ℕ → List ℕ → Type 0
-IsEndedText limits read text = IsTextOf limits (ended_lines read) text
-
 -- what a fault says where one such text is due, after this many bytes of the run
 abbrev pub BreaksOff : (List ℕ → Type 0) → ℕ → RunFault → List ℕ → Type 0
 BreaksOff IsText before OutOfMemory written = written ≡ []
-BreaksOff IsText before (WriteFault count) written = (count ≡ before + length written) × IsPrefixOf IsText written
+BreaksOff IsText before (WriteFault count) written = (more : ℕ) × (count ≡ before + more) × IsCutAfter more IsText written
 BreaksOff IsText before _ written = ⊥
 
 -- what a fault of the script, its reader or its writer says: after `ReadFault` the texts of the lines that a line feed ended have
@@ -35,6 +31,6 @@ BreaksOff IsText before _ written = ⊥
 -- `WriteFault` the start of such texts, with as many bytes as its number says
 abbrev pub Breaks : Limits → RunFault → Passage → Type 0
 Breaks limits OutOfMemory p = IsTextSoFar limits p.left p.read p.written
-Breaks limits ReadFault p = IsEndedText limits p.read p.written
-Breaks limits (WriteFault count) p = (length p.written ≡ count) × IsPrefixOf (IsTextSoFar limits p.left p.read) p.written
+Breaks limits ReadFault p = IsTextOf limits (ended_lines p.read) p.written
+Breaks limits (WriteFault count) p = IsCutAfter count (IsTextSoFar limits p.left p.read) p.written
 Breaks limits _ p = ⊥

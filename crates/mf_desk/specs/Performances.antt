@@ -10,7 +10,7 @@ use Rattle.mf_desk.specs.declared.outcome.Outcome.{Outcome}
 use Rattle.mf_desk.specs.declared.settings.Settings.{Settings}
 use Rattle.mf_session.specs.Endings.{complete_list}
 use Rattle.mf_desk.specs.Fault.{Breaks}
-use Rattle.mf_desk.specs.Streams.{HasRead, IsPrefixOf, Passage, Streams}
+use Rattle.mf_desk.specs.Streams.{HasRead, IsCutAfter, Passage, Streams}
 use Rattle.mf_session.specs.States.{Limits, least_bytes, limits_of}
 use Rattle.mf_session.specs.Transcript.{IsTranscript}
 use Rattle.mf_watch.specs.Watchers.{HasSeen, glance_at}
@@ -67,12 +67,6 @@ pub record IsShownText (limits : Limits) (viewers : ℕ) (read text : List ℕ) 
   pub few : shown ≤ viewers
   pub complete : IsCompleteText limits shown read text
 
--- this is the complete transcript and all lines of viewers, and the font file of the characters would have more bytes than it may
--- have
-pub record IsBeforeLongFile (settings : Settings) (viewers : ℕ) (read text : List ℕ) : Type 0 where
-  pub complete : IsCompleteText (run_limits settings) viewers read text
-  pub too_long : IsLongFile (run_limits settings).max_bytes settings.font [] complete.script.last.characters
-
 -- with this fault a run can end before it has read or written anything: `NoPlace` only where viewers are to look on, and `FileTooLong`
 -- only where the limit is below the length of the shortest preamble
 abbrev pub ComesFirst : Settings → ℕ → RunFault → Type 0
@@ -85,8 +79,10 @@ ComesFirst settings viewers _ = ⊥
 -- `FileTooLong` all lines are written, and the font file would be too long
 abbrev pub TellsOfEnd : Settings → ℕ → RunFault → Passage → Type 0
 TellsOfEnd settings viewers OutOfMemory p = IsShownText (run_limits settings) viewers p.read p.written
-TellsOfEnd settings viewers FileTooLong p = IsBeforeLongFile settings viewers p.read p.written
-TellsOfEnd settings viewers (WriteFault count) p = (length p.written ≡ count) × IsPrefixOf (IsShownText (run_limits settings) viewers p.read) p.written
+TellsOfEnd settings viewers FileTooLong p =
+    (all : IsCompleteText (run_limits settings) viewers p.read p.written)
+    × IsLongFile (run_limits settings).max_bytes settings.font [] all.script.last.characters
+TellsOfEnd settings viewers (WriteFault count) p = IsCutAfter count (IsShownText (run_limits settings) viewers p.read) p.written
 TellsOfEnd settings viewers NoLook p = (some : IsShownText (run_limits settings) viewers p.read p.written) × (some.shown < viewers)
 TellsOfEnd settings viewers _ p = ⊥
 

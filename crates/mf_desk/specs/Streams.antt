@@ -1,5 +1,5 @@
 -- The streams of a run, and what passes through them.
-use Rattle.std.specs.Prelude.{ℕ, List, ◌++◌, Option}
+use Rattle.std.specs.Prelude.{ℕ, List, ◌≡◌, ◌++◌, Option, length}
 use Rattle.std.specs.Io.KnownBytes.{Appends, Consumes}
 
 -- what a reader had and has left, and what a writer held and holds, where this is known
@@ -35,6 +35,6 @@ HasRead s IsSuch = (read : List ℕ) × Consumes s.unread s.left read × IsSuch 
 abbrev pub Passes : Streams → (Passage → Type 0) → Type 0
 Passes s IsSuch = HasRead s (λ read. Gets s.held s.holds (MakesPassage IsSuch s.left read))
 
--- with some more bytes, or with none, these are such a text
-abbrev pub IsPrefixOf : (List ℕ → Type 0) → List ℕ → Type 0
-IsPrefixOf IsText written = (rest : List ℕ) × IsText (written ++ rest)
+-- these are so many bytes, and a prefix of such a text, maybe all of it
+abbrev pub IsCutAfter : ℕ → (List ℕ → Type 0) → List ℕ → Type 0
+IsCutAfter count IsText written = (length written ≡ count) × (rest : List ℕ) × IsText (written ++ rest)

@@ -1,4 +1,4 @@
-use Rattle.std.proofs.Common.{[], ◌++◌, refl, take, drop, sym, ap, ◌+◌, take-append-drop, arith}
+use Rattle.std.proofs.Common.{[], ◌++◌, refl, take, drop, take-append-drop, arith}
 use Rattle.std.proofs.KnownBytes.{Appends-nil}
 use Rattle.std.proofs.lemmas.List.{length-take-le}
 use Rattle.mf_desk.specs.Performer.{IsLineText}
@@ -14,9 +14,9 @@ returns-clause-fault g c =
     let text = c.as_slice.result.now in
     let count = c.in-Err.count in
     let before = c.args.self.now in
-    let counted = ap (λ more. before.written + more) (sym (length-take-le count text (omega (arith, c.in-Err.ensures.within)))) in
     let prints : IsLineText before c.args.line.now (take count text ++ drop count text) =
     λ s stands.
     let answered = c.in_ok-text.ensures.answer s stands in
     (answered.next, rw (take-append-drop count text, c.as_slice.ensures.value) answered.answer) in
-    (take count text, c.in-Err.ensures.front, (counted, (drop count text, prints)))
+    let counted = length-take-le count text (omega (arith, c.in-Err.ensures.within)) in
+    (take count text, c.in-Err.ensures.front, (count, omega arith, (counted, drop count text, prints)))
