@@ -105,8 +105,8 @@ under_way-broken act unread left fault was between =
     }
 
 -- a fault comes before the first line
-pub unbegun : (stage : Stage) (unread held : Option (List ℕ)) → BreaksScript (act_of stage stage held held) unread OutOfMemory
-unbegun stage unread held = under_way-broken (act_of stage stage held held) unread unread OutOfMemory (under_way-start stage unread held) (inl refl)
+pub BreaksScript-start : (stage : Stage) (unread held : Option (List ℕ)) → BreaksScript (act_of stage stage held held) unread OutOfMemory
+BreaksScript-start stage unread held = under_way-broken (act_of stage stage held held) unread unread OutOfMemory (under_way-start stage unread held) (inl refl)
 
 -- a fault comes in the next line
 pub under_way-cut : (before now later : Stage) (unread left remaining held holds last : Option (List ℕ)) (line : List ℕ) (fault : StageFault)

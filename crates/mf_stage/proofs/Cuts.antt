@@ -27,19 +27,19 @@ lines_of_parts-first part [] some = absurd (omega (arith, some))
 lines_of_parts-first part (next ∷ parts) some = refl
 
 -- bytes have a first line feed or none
-cut : (bs : List ℕ) → ((front : List ℕ) × (rest : List ℕ) × (bs ≡ front ++ 10 ∷ rest) × All is_other front) ⊎ All is_other bs
-cut [] = inr (All-nil is_other)
-cut (b ∷ bs) = ⊎_elim
+feed_or_none : (bs : List ℕ) → ((front : List ℕ) × (rest : List ℕ) × (bs ≡ front ++ 10 ∷ rest) × All is_other front) ⊎ All is_other bs
+feed_or_none [] = inr (All-nil is_other)
+feed_or_none (b ∷ bs) = ⊎_elim
     (λ feed. inl ([], bs, ap (λ c. c ∷ bs) (eqb-true b 10 feed), All-nil is_other))
     (λ other. ⊎_elim
     (λ later. inl (b ∷ later.0, later.1, ap (λ l. b ∷ l) later.2, All-cons is_other b later.0 (eqb-false b 10 other) later.3))
     (λ none. inr (All-cons is_other b bs (eqb-false b 10 other) none))
-    (cut bs))
+    (feed_or_none bs))
     (cases_Bool (eqb b 10))
 
 -- the ending of a line that a line feed ends
-ended : (front : List ℕ) → without_ending (front ++ 10 ∷ []) ≡ strip_carriage_return front
-ended front =
+without_ending-feed : (front : List ℕ) → without_ending (front ++ 10 ∷ []) ≡ strip_carriage_return front
+without_ending-feed front =
     let line = front ++ 10 ∷ [] in
     let last : length line - 1 ≡ length front = omega (arith, length-append front (10 ∷ [])) in
     let is_feed : get_or line (length line - 1) 0 ≡ 10 = get_or_push front 10 0 (length line - 1) (sym last) in
@@ -48,8 +48,8 @@ ended front =
     cond-true _ _ _ (eq-eqb (get_or line (length line - 1) 0) 10 is_feed) ∙ ap strip_carriage_return before
 
 -- a line that the end of the script ends has no ending
-unended : (line : List ℕ) → 0 < length line → All is_other line → without_ending line ≡ line
-unended line some unbroken = grind (arith, All-get_or, cond-false, ne_eqb)
+without_ending-unbroken : (line : List ℕ) → 0 < length line → All is_other line → without_ending line ≡ line
+without_ending-unbroken line some unbroken = grind (arith, All-get_or, cond-false, ne_eqb)
 
 lines-feed : (front rest : List ℕ) → All is_other front → lines (front ++ 10 ∷ rest) ≡ strip_carriage_return front ∷ lines rest
 lines-feed front rest unbroken = grind (arith, slice_split_at, no_feed, lines_of_parts-first, length-slice_split)
@@ -67,18 +67,18 @@ next_lines input some = ⊎_elim
     let read : take_through 10 input ≡ front ++ 10 ∷ [] = ap (take_through 10) feed.2 ∙ take_through-append 10 front (10 ∷ rest) feed.3 in
     let left : drop_through 10 input ≡ rest = ap (drop_through 10) feed.2 ∙ drop_through-append 10 front (10 ∷ rest) feed.3 in
     ap lines feed.2 ∙ lines-feed front rest feed.3 ∙ sym (ap (λ l. without_ending l ∷ lines (drop_through 10 input)) read
-    ∙ ap (λ l. without_ending (front ++ 10 ∷ []) ∷ lines l) left ∙ ap (λ l. l ∷ lines rest) (ended front)))
+    ∙ ap (λ l. without_ending (front ++ 10 ∷ []) ∷ lines l) left ∙ ap (λ l. l ∷ lines rest) (without_ending-feed front)))
     (λ none.
     let read : take_through 10 input ≡ input = sym (ap (take_through 10) (append-nil input)) ∙ take_through-append 10 input [] none ∙ append-nil input in
     let left : drop_through 10 input ≡ [] = sym (ap (drop_through 10) (append-nil input)) ∙ drop_through-append 10 input [] none in
     lines-whole input some none ∙ sym (ap (λ l. without_ending l ∷ lines (drop_through 10 input)) read
-    ∙ ap (λ l. without_ending input ∷ lines l) left ∙ ap (λ l. l ∷ []) (unended input some none)))
-    (cut input)
+    ∙ ap (λ l. without_ending input ∷ lines l) left ∙ ap (λ l. l ∷ []) (without_ending-unbroken input some none)))
+    (feed_or_none input)
 
 -- nothing follows the line feed of a line as it is read
-alone : (front rest : List ℕ) → StopsAt (front ++ 10 ∷ rest) 10 → rest ≡ []
-alone front [] stops = refl
-alone front (b ∷ rest) stops =
+nothing_after_feed : (front rest : List ℕ) → StopsAt (front ++ 10 ∷ rest) 10 → rest ≡ []
+nothing_after_feed front [] stops = refl
+nothing_after_feed front (b ∷ rest) stops =
     let line = front ++ 10 ∷ b ∷ rest in
     let last = length line - 1 in
     let inside : length front < last = omega (arith, length-append front (10 ∷ b ∷ rest)) in
@@ -87,8 +87,8 @@ alone front (b ∷ rest) stops =
     get_or-take last line (length front) 0 inside ∙ get_or_at front 10 (b ∷ rest) 0 (length front) refl in
     absurd (All-get_or is_other (take last line) (length front) 0 kept stops feed)
 
-stripped_return : (line : List ℕ) → strip_carriage_return (line ++ 13 ∷ []) ≡ line
-stripped_return line =
+strip_carriage_return-return : (line : List ℕ) → strip_carriage_return (line ++ 13 ∷ []) ≡ line
+strip_carriage_return-return line =
     let long = line ++ 13 ∷ [] in
     let last : length long - 1 ≡ length line = omega (arith, length-append line (13 ∷ [])) in
     let is_return : get_or long (length long - 1) 0 ≡ 13 = get_or_push line 13 0 (length long - 1) (sym last) in
@@ -100,16 +100,16 @@ pub spelled_line : (line : List ℕ) → IsReadLine line → (bytes : List ℕ) 
 spelled_line line read = ⊎_elim
     (λ feed.
     let front = feed.0 in
-    let only = alone front feed.1 (subst (λ l. StopsAt l 10) feed.2 read.stops) in
+    let only = nothing_after_feed front feed.1 (subst (λ l. StopsAt l 10) feed.2 read.stops) in
     let is : line ≡ front ++ 10 ∷ [] = feed.2 ∙ ap (λ l. front ++ 10 ∷ l) only in (
       front ++ 10 ∷ [],
       λ rest. ap lines (append_assoc front (10 ∷ []) rest) ∙ lines-feed front rest feed.3
-          ∙ ap (λ l. l ∷ lines rest) (sym (ap without_ending is ∙ ended front)),
+          ∙ ap (λ l. l ∷ lines rest) (sym (ap without_ending is ∙ without_ending-feed front)),
     ))
     (λ none.
     let returned : All is_other (line ++ 13 ∷ []) = All-append is_other line (13 ∷ []) none (All-cons is_other 13 [] (λ same. cc) (All-nil is_other)) in (
       (line ++ 13 ∷ []) ++ 10 ∷ [],
       λ rest. ap lines (append_assoc (line ++ 13 ∷ []) (10 ∷ []) rest) ∙ lines-feed (line ++ 13 ∷ []) rest returned
-          ∙ ap (λ l. l ∷ lines rest) (stripped_return line ∙ sym (unended line read.some none)),
+          ∙ ap (λ l. l ∷ lines rest) (strip_carriage_return-return line ∙ sym (without_ending-unbroken line read.some none)),
     ))
-    (cut line)
+    (feed_or_none line)

@@ -77,13 +77,13 @@ under_way-next before now later unread left remaining held holds last line same 
     }
 
 -- nothing is left of the script
-ended : (unread left : Option (List ℕ)) (done : List (List ℕ)) → AreFirstLines unread left done → IsAtEnd left
+lines-at_end : (unread left : Option (List ℕ)) (done : List (List ℕ)) → AreFirstLines unread left done → IsAtEnd left
     → (input : List ℕ) × IfSome unread (λ known. input ≡ known) × (lines input ≡ done)
-ended None left done first end = (first.bytes, tt, ap lines (sym (append-nil first.bytes)) ∙ first.spelled [] ∙ append-nil done)
-ended (Some input) left done first end = grind (arith, append-nil)
+lines-at_end None left done first end = (first.bytes, tt, ap lines (sym (append-nil first.bytes)) ∙ first.spelled [] ∙ append-nil done)
+lines-at_end (Some input) left done first end = grind (arith, append-nil)
 
 -- all lines of the script have been performed
 pub under_way-end : (act : Act) (unread left : Option (List ℕ)) → IsUnderWay act unread left → IsAtEnd left → PerformsAll act unread
 under_way-end act unread left was end =
-    let (input, known, all) = ended unread left was.done was.first end in
+    let (input, known, all) = lines-at_end unread left was.done was.first end in
     record { input = input; known = known; such = subst (PerformsLines act) (sym all) was.performed }

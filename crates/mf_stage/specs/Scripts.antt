@@ -49,7 +49,3 @@ pub record HoldsOfInput (unread : Option (List ℕ)) (IsSuch : List ℕ → Type
 -- in this act the stage has performed all lines of a script, that of its reader
 abbrev pub PerformsAll : Act → Option (List ℕ) → Type 0
 PerformsAll act unread = HoldsOfInput unread (λ input. PerformsLines act (lines input))
-
--- the stage represents a state if it represented one before
-abbrev pub StillStands : Stage → Stage → Type 0
-StillStands before after = (s : State) → StandsFor before s → (t : State) × StandsFor after t

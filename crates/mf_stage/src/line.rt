@@ -12,6 +12,7 @@ use std::io::{BufRead, Error, ErrorKind};
 
 /// Reads the next line of a script, with the line feed that ends it, if one does; none at the end of the script. Refused with
 /// `ReadFault`, or with `OutOfMemory` where an allocation fails or the reader answers with an error of that kind.
+#[tactic(auto, using(std::proofs::BufReadLemmas::take_through_nonempty))]
 pub fn next_line<B: BufRead>(alloc: Global, script: &mut B) -> Result<Option<Vec<u8>>, StageFault>
     ensures line { IfOk result (λ made. IfSome made (λ line. IfSome (B.remaining script.old) (λ input. Reads input line.items (B.remaining script.new)))) }
     ensures whole { IfOk result (λ made. IfSome made (λ line. IsReadLine line.items)) }

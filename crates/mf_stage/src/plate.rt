@@ -42,7 +42,7 @@ pub struct Plate {
 impl Plates {
     /// The plate of this picture, which has this revision. Refused with `ImageTooLarge` only where the picture is too large for an
     /// image, and with `OutOfMemory` where an allocation fails.
-    pub fn plate(
+    pub(crate) fn plate(
         &self,
         alloc: Global,
         revision: u32,
@@ -97,6 +97,7 @@ impl Plates {
     }
 
     /// The path of an image file of a revision: the folder, the revision in seven digits, zeros in front, and this extension.
+    #[tactic(auto, using(crate::proofs::Paths::parts_of_path))]
     fn path(&self, alloc: Global, revision: u32, extension: &str) -> Result<String, AllocError>
         ensures { IfOk result (λ path. string_bytes path ≡ path_of (string_bytes self.now.folder) revision extension.now) }
     {
@@ -107,6 +108,7 @@ impl Plates {
 }
 
 /// A number in seven digits, zeros in front, so that the files of a folder are listed in order.
+#[tactic(auto, using(crate::proofs::Paths::padded_to_seven_digits))]
 fn seven_digits(alloc: Global, number: u32) -> Result<String, AllocError>
     ensures { IfOk result (λ digits. string_bytes digits ≡ seven_digits number) }
 {
@@ -126,7 +128,7 @@ fn fault_of_image(fault: ImageFault, revision: u32) -> StageFault
 impl Plate {
     /// Writes the image files, and replaces what was there. Refused where a file cannot be created or written; files that
     /// were written by then stay.
-    pub fn write<S: Files>(&self, rt: &S) -> io::Result<()> {
+    pub(crate) fn write<S: Files>(&self, rt: &S) -> io::Result<()> {
         self.svg.write(rt)?;
         match &self.pgm {
             Some(image) => image.write(rt),
@@ -137,7 +139,7 @@ impl Plate {
 
 impl Image {
     /// Writes the image file, and replaces what was there. Refused where it cannot be created or written.
-    pub fn write<S: Files>(&self, rt: &S) -> io::Result<()> {
+    fn write<S: Files>(&self, rt: &S) -> io::Result<()> {
         let mut out = fs::create(rt, self.path.as_str())?;
         self.write_to(&mut out)
     }

@@ -6,14 +6,14 @@ ghost use Rattle.mf_live.specs.Entries.{picture_at, revision_at};
 ghost use Rattle.mf_session.specs.States.{State, least_bytes, limits_of, start};
 ghost use Rattle.mf_stage.specs.Faults.{BreaksLines, BreaksScript, ConcernsPlate, IsOfImage, IsOfPlate, NeedsNoFile};
 ghost use Rattle.mf_stage.specs.Publications.{IsPlateIfAsked, IsPublication};
-ghost use Rattle.mf_stage.specs.Scripts.{HasPerformedLine, PerformsLines, PerformsAll, StillStands, act_of};
+ghost use Rattle.mf_stage.specs.Scripts.{HasPerformedLine, PerformsLines, PerformsAll, act_of};
 ghost use Rattle.mf_stage.specs.Stages.{StandsFor, identity, limits, plates_of, session_of};
 
 use crate::fault::StageFault;
 use crate::line::{is_publish, next_line, without_ending};
 use crate::pace::Pace;
 use crate::plate::{Plate, Plates};
-use crate::transcript::write_text;
+use crate::transcript::write_line_text;
 use mf_gf::{GfFault, GfFile};
 use mf_live::{Desk, Ended};
 use mf_session::Session;
@@ -85,7 +85,6 @@ impl Stage {
     ) -> Result<(), StageFault>
         ensures transcript { OnOk result (PerformsAll (act_of self.old self.new (W.contents transcript.old) (W.contents transcript.new)) (R.remaining reader)) }
         ensures begun { IfErr result (BreaksScript (act_of self.old self.new (W.contents transcript.old) (W.contents transcript.new)) (R.remaining reader)) }
-        ensures stands { OnOk result (StillStands self.old self.new) }
         ensures limits { limits self.new ≡ limits self.old }
         ensures identity { identity self.new ≡ identity self.old }
         ensures plates { plates_of self.new ≡ plates_of self.old }
@@ -109,7 +108,6 @@ impl Stage {
             (PerformsAll (act_of self.old self.new (W.contents transcript.old) (W.contents transcript.new)) (B.remaining script.old)) }
         ensures begun { IfErr result
             (BreaksScript (act_of self.old self.new (W.contents transcript.old) (W.contents transcript.new)) (B.remaining script.old)) }
-        ensures stands { OnOk result (StillStands self.old self.new) }
         ensures limits { limits self.new ≡ limits self.old }
         ensures identity { identity self.new ≡ identity self.old }
         ensures plates { plates_of self.new ≡ plates_of self.old }
@@ -166,7 +164,7 @@ impl Stage {
         let read = read_command(alloc, line);
         let publishes = is_publish(&read);
         let text = self.session.answer_to(rt, alloc, read)?;
-        write_text(transcript, text.as_slice())?;
+        write_line_text(transcript, text.as_slice())?;
         if publishes {
             let publication = self.publication(alloc)?;
             Ok(Some(publication))
@@ -190,6 +188,7 @@ impl Stage {
     }
 
     /// The plate of `currentpicture`, if plates are asked for.
+    #[tactic(auto, using(crate::proofs::Performed::plate_where))]
     fn plate(&self, alloc: Global) -> Result<Option<Plate>, StageFault>
         ensures made { IfOk result (λ made. (s : State) → StandsFor self.now s → IsPlateIfAsked (plates_of self.now) s.pictures.accepted made) }
         ensures plate { IfOk result (λ made. IsSome made → IsSome (plates_of self.now)) }

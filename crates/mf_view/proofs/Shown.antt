@@ -10,7 +10,7 @@ use Rattle.mf_gf.specs.declared.file.GfFile.{GfFile}
 use Rattle.mf_session.specs.Endings.{IsFileOf, complete_list}
 use Rattle.mf_session.specs.States.{State, answer_with, start}
 use Rattle.mf_session.specs.Transcript.{Perform}
-use Rattle.mf_stage.specs.Scripts.{PerformsAll, StillStands, act_of}
+use Rattle.mf_stage.specs.Scripts.{PerformsAll, act_of}
 use Rattle.mf_stage.specs.Stages.{StandsFor, limits, session_of}
 use Rattle.mf_stage.specs.declared.stage.Stage.{Stage}
 use Rattle.mf_stage.specs.declared.fault.StageFault.{StageFault}
@@ -35,10 +35,10 @@ pub drawn-part : (drawn : Result (Unit {0}) EaselFault) (easel : Easel) (screen 
 drawn-part drawn easel screen was = grind (arith, part-all)
 
 -- a stage on which nothing was performed represents a state after a script
-pub stands-after : (before after : Stage) (performed : Result (Unit {0}) StageFault) → StandsFor before start
-    → OnOk performed (StillStands before after) → OnOk performed ((t : State) × StandsFor after t)
-stands-after before after (Ok done) begins stands = stands start begins
-stands-after before after (Err fault) begins stands = tt
+pub stands-after : (before after : Stage) (unread held holds : Option (List ℕ)) (performed : Result (Unit {0}) StageFault) → StandsFor before start
+    → OnOk performed (PerformsAll (act_of before after held holds) unread) → OnOk performed ((t : State) × StandsFor after t)
+stands-after before after unread held holds (Ok done) begins script = let all = script.such start begins in (all.last, all.stands)
+stands-after before after unread held holds (Err fault) begins script = tt
 
 -- a script was performed on this stage, and its end was shown
 module _ (m : Manner) (s : ScreenStreams) (before after : Stage) (limited : limits before ≡ script_limits)

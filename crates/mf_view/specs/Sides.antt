@@ -6,7 +6,7 @@ use Rattle.mf_easel.specs.Screens.{Screen}
 use Rattle.mf_easel.specs.declared.easel.Easel.{Easel}
 use Rattle.mf_easel.specs.declared.fault.EaselFault.{EaselFault}
 use Rattle.mf_stage.specs.Faults.{BreaksScript}
-use Rattle.mf_stage.specs.Scripts.{Act, PerformsAll, StillStands}
+use Rattle.mf_stage.specs.Scripts.{Act, PerformsAll}
 use Rattle.mf_stage.specs.Stages as stages
 use Rattle.mf_stage.specs.declared.fault.StageFault.{StageFault}
 use Rattle.mf_view.specs.Drawings.{DrawsMore, DrawsPart}
@@ -35,6 +35,5 @@ pub record DrawsBeside {W : Type 0} (first : Result (Unit {0}) EaselFault) (act 
 pub record PerformsBeside (act : Act) (unread : Option (List ℕ)) (result : Result (Unit {0}) StageFault) : Type 0 where
   pub identity : stages.identity act.after ≡ stages.identity act.before
   pub plates : stages.plates_of act.after ≡ stages.plates_of act.before
-  pub stands : OnOk result (StillStands act.before act.after)
   pub transcript : OnOk result (PerformsAll act unread)
   pub fault : IfErr result (BreaksScript act unread)

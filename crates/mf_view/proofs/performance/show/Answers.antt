@@ -8,7 +8,9 @@ use Rattle.mf_view.proofs.performance.show.Goals.{After-and-drawn}
 use Rattle.mf_view.proofs.performance.show.Goals as goal
 
 pub conclude-requires-clause-stands : goal.conclude-requires-clause-stands
-conclude-requires-clause-stands g c = grind (arith, stands-after)
+conclude-requires-clause-stands g c =
+    stands-after c.args.stage c.perform_beside-drawn.new.stage _ _ _ c.perform_beside-drawn.result.performed c.requires.start
+    c.perform_beside-drawn.ensures.script.transcript
 
 -- how far the drawing has come when the performance is concluded
 drawn : (g : _) (c : After-and-drawn g) → HasDrawnAs c.and-drawn.result c.perform_beside-drawn.new.easel

@@ -12,12 +12,13 @@ use Rattle.mf_stage.proofs.stage.Stage.answer.Goals as goal
 pub returns-in_err-text-clause-begun : goal.returns-in_err-text-clause-begun
 returns-in_err-text-clause-begun g c = grind (arith, IfErr-raised, nothing-done)
 
-pub returns-in_err-write_text-clause-begun : goal.returns-in_err-write_text-clause-begun
-returns-in_err-write_text-clause-begun g c =
-    IfErr-raised c.from_residual-in_err-write_text.result _ c.from_residual-in_err-write_text.ensures.1 (rw c.in_err-write_text.ensures.fault (λ s stands.
+pub returns-in_err-write_line_text-clause-begun : goal.returns-in_err-write_line_text-clause-begun
+returns-in_err-write_line_text-clause-begun g c =
+    IfErr-raised c.from_residual-in_err-write_line_text.result _ c.from_residual-in_err-write_line_text.ensures.1
+    (rw c.in_err-write_line_text.ensures.fault (λ s stands.
     let read = c.read_command-read in
     let answered = c.in_ok-text.ensures.answer s c.args.line.now stands (record { given = read.ensures.given; refused = read.ensures.refused }) in
-    let gets = subst (GetsFront _ _) c.as_slice.ensures.value c.in_err-write_text.ensures.front in
+    let gets = subst (GetsFront _ _) c.as_slice.ensures.value c.in_err-write_line_text.ensures.front in
     line-cut _ s answered.next c.args.line.now c.in_ok-text.text.items answered.answer answered.stands gets))
 
 pub returns-in_err-publication-clause-begun : goal.returns-in_err-publication-clause-begun
@@ -28,7 +29,7 @@ returns-in_err-publication-clause-begun g c =
     let given = (read_to_publish c.args.line.now read.result read.ensures.given read.ensures.refused).0 (c.is_publish-publishes.ensures.0 c.if-publishes.true) in
     let all = published-all _ s c.args.line.now (answer_with c.in_ok-text.text.items answered.next) answered.answer given in
     line-published _ s answered.next c.args.line.now c.in_ok-text.text.items _ answered.answer answered.stands
-    (subst (Appends _ _) c.as_slice.ensures.value c.in_ok-write_text.ensures.text) all
+    (subst (Appends _ _) c.as_slice.ensures.value c.in_ok-write_line_text.ensures.text) all
     (subst (λ shown. IsOfPlate shown c.in_err-publication.field-0.0) (sym all) (c.in_err-publication.ensures.fault answered.next answered.stands).1)
     c.in_err-publication.ensures.asked)
 
@@ -37,11 +38,11 @@ returns-then-publishes-clause-performed g c = λ s stands.
     let before = c.args.self.now in
     let after : Stage = record { session = c.answer_to.new.self; plates = before.plates } in
     let held = g.W.Write.contents c.args.transcript.now in
-    let holds = g.W.Write.contents c.write_text.new.transcript in
+    let holds = g.W.Write.contents c.write_line_text.new.transcript in
     let read = c.read_command-read in
     let answered = c.in_ok-text.ensures.answer s c.args.line.now stands (record { given = read.ensures.given; refused = read.ensures.refused }) in
     let given = (read_to_publish c.args.line.now read.result read.ensures.given read.ensures.refused).0 (c.is_publish-publishes.ensures.0 c.if-publishes.true) in
-    let out = subst (Appends held holds) c.as_slice.ensures.value c.in_ok-write_text.ensures.text in
+    let out = subst (Appends held holds) c.as_slice.ensures.value c.in_ok-write_line_text.ensures.text in
     performed-published before after s c.args.line.now c.in_ok-text.text.items held holds given answered out
     c.in_ok-publication.publication refl (c.in_ok-publication.ensures.made answered.next answered.stands)
 

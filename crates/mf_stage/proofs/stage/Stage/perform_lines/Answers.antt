@@ -9,11 +9,11 @@ use Rattle.mf_stage.specs.declared.fault.StageFault.TheVariants.{ReadFault}
 use Rattle.mf_stage.proofs.stage.Stage.perform_lines.Goals as goal
 
 pub lines-init : goal.lines-init
-lines-init g c = (refl, refl, refl, under_way-start _ _ _, λ s stands. (s, stands))
+lines-init g c = (refl, refl, refl, under_way-start _ _ _)
 
 pub lines-preserved : goal.lines-preserved
 lines-preserved g c =
-    let (limits_are, identity_is, plates_are, under_way, represents) = c.lines.invariant in
+    let (limits_are, identity_is, plates_are, under_way) = c.lines.invariant in
     let line = c.in-Some.line.items in
     let remaining = g.B.Read.remaining c.next_line.new.script in
     let held = g.W.Write.contents c.lines.transcript in
@@ -28,23 +28,22 @@ lines-preserved g c =
           (g.B.Read.remaining c.lines.script) remaining (g.W.Write.contents c.args.transcript.now) held holds line limits_are under_way
           (rw c.in-Some.is at c.in_ok-line.ensures.whole) read
           (λ s stands. subst (λ l. PerformsFrom (act_of c.lines.self c.perform_line.new.self held holds) s (l ∷ [])) bare (done.performed s stands)),
-      λ s stands. let (now, represented) = represents s stands in let next = done.performed now represented in (next.last, next.stands),
     )
 
 pub returns-in_default-clause-transcript : goal.returns-in_default-clause-transcript
 returns-in_default-clause-transcript g c =
-    let (limits_are, identity_is, plates_are, under_way, represents) = c.lines.invariant in
+    let (limits_are, identity_is, plates_are, under_way) = c.lines.invariant in
     under_way-end _ (g.B.Read.remaining c.args.script.now) (g.B.Read.remaining c.lines.script) under_way (c.in_ok-line.ensures.end c.in_default.is)
 
 pub returns-in_err-line-clause-begun : goal.returns-in_err-line-clause-begun
 returns-in_err-line-clause-begun g c =
-    let (limits_are, identity_is, plates_are, under_way, represents) = c.lines.invariant in
+    let (limits_are, identity_is, plates_are, under_way) = c.lines.invariant in
     IfErr-raised c.from_residual.result _ c.from_residual.ensures.1
     (under_way-broken _ _ _ c.in_err-line.field-0.0 under_way c.in_err-line.ensures.fault)
 
 pub returns-in_err-perform_line-clause-begun : goal.returns-in_err-perform_line-clause-begun
 returns-in_err-perform_line-clause-begun g c =
-    let (limits_are, identity_is, plates_are, under_way, represents) = c.lines.invariant in
+    let (limits_are, identity_is, plates_are, under_way) = c.lines.invariant in
     let held = g.W.Write.contents c.lines.transcript in
     let holds = g.W.Write.contents c.perform_line.new.transcript in
     let fault = c.in_err-perform_line.field-0.0 in
@@ -57,5 +56,5 @@ returns-in_err-perform_line-clause-begun g c =
 
 pub returns-clause-begun : goal.returns-clause-begun
 returns-clause-begun g c =
-    let (limits_are, identity_is, plates_are, under_way, represents) = c.lines.invariant in
+    let (limits_are, identity_is, plates_are, under_way) = c.lines.invariant in
     under_way-broken _ _ _ ReadFault under_way (inr refl)

@@ -1,5 +1,5 @@
 use Rattle.std.proofs.Common.{◌≡◌}
-use Rattle.mf_stage.specs.Scripts.{StillStands, act_of}
+use Rattle.mf_stage.specs.Scripts.{act_of}
 use Rattle.mf_stage.specs.Stages.{identity, limits, plates_of}
 use Rattle.mf_stage.proofs.Scripts.{IsUnderWay}
 use Rattle.mf_stage.proofs.stage.Stage.perform_lines.Given as goal
@@ -11,4 +11,3 @@ invariant-lines g l =
     × (plates_of l.self ≡ plates_of l.initial.self)
     × IsUnderWay (act_of l.initial.self l.self (g.W.Write.contents l.initial.transcript) (g.W.Write.contents l.transcript))
     (g.B.Read.remaining l.initial.script) (g.B.Read.remaining l.script)
-    × StillStands l.initial.self l.self
