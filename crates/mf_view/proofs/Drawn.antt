@@ -17,7 +17,7 @@ use Rattle.mf_live.specs.Sheets.{HasLooked}
 use Rattle.mf_live.proofs.EntryLists.{operations-append, revision_at-append}
 use Rattle.mf_live.proofs.WholePrefixes.{whole-self, whole-trans}
 use Rattle.mf_view.proofs.Messages.{message-after}
-use Rattle.mf_view.specs.Drawings.{AreLooks, DrawsMore, DrawsPart, HasDrawn, HasDrawnPart, IsPublishable, IsSeenOf, LeavesLast, ShowsLast}
+use Rattle.mf_view.specs.Drawings.{AreLooks, Continues, DrawsMore, DrawsPart, HasDrawn, HasDrawnPart, IsPublishable, ShowsLast}
 use Rattle.mf_view.specs.Drawings.{frames, last_revision}
 
 -- nothing is drawn where the revision is that of the frame before
@@ -39,7 +39,7 @@ looks-more S L lists drawn last above more published looks =
     let before = looks-before S L lists more looks in
     record {
       rise = (subst (λ d. IsAbove d (revision_at L)) last above, before.rise);
-      seen = All-cons (IsSeenOf L) L lists (whole-self L) before.seen;
+      seen = All-cons (λ (S : List Entry). IsWholePrefix S L) L lists (whole-self L) before.seen;
       published = All-cons IsPublishable L lists published before.published;
     }
 
@@ -94,7 +94,7 @@ shown-before easel whole screen (L ∷ earlier) text looks last = grind (arith, 
 pub shown-last : {W : Type 0} (contents : W → Option (List ℕ)) (s t : W) (before after : Easel) (whole : List Entry) (shown : Option ℕ)
     → HasLookedLast (viewer_of before) whole (viewer_of after) → shown ≡ new_revision (revision_of before) (revision_at whole)
     → GetsFrame (screen_of contents s t) (drawing_of before whole) shown → IfSome shown (IsAbove (revision_of before))
-    → LeavesLast before whole (receipt_of contents s t)
+    → Continues (receipt_of contents s t) (HasDrawn before) (ShowsLast (manner_of before) whole)
 shown-last contents s t before after whole None look answer same rising held was =
     let again = sym was.last ∙ new-none (revision_of before) (revision_at whole) (sym answer) in
     let looks = looks-before (looked_at_list before) whole was.lists look.0.looked was.looks in
@@ -112,7 +112,7 @@ shown-last contents s t before after whole (Some shown) look answer gets rising 
     }
 
 no-looks : (whole : List Entry) → AreLooks whole []
-no-looks whole = record { rise = tt; seen = All-nil (IsSeenOf whole); published = All-nil IsPublishable }
+no-looks whole = record { rise = tt; seen = All-nil (λ (L : List Entry). IsWholePrefix L whole); published = All-nil IsPublishable }
 
 -- an easel that has drawn nothing
 pub drawn-nothing : (easel : Easel) (held : Option (List ℕ)) → revision_of easel ≡ None → HasDrawn easel (receipt held held)

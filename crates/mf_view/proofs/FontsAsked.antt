@@ -20,15 +20,15 @@ pub no-file : (font : FontWords) (characters : List Character) → file_if_any f
 no-file font characters none = grind arith
 
 -- no font file could be made
-pub unmade : (asked : Words) (file : GfFile) (fault : ProgramFault) → (fault ≡ FileTooLong) ⊎ (fault ≡ OutOfMemory)
+pub LosesFont-unmade : (asked : Words) (file : GfFile) (fault : ProgramFault) → (fault ≡ FileTooLong) ⊎ (fault ≡ OutOfMemory)
     → ((characters : List Character) → Keeps file [] characters → fault ≡ FileTooLong
     → IsLongFile (max_bytes_of file) (font_words asked.design_size asked.resolution) [] characters)
     → LosesFont asked file fault
-unmade asked file fault is too_long = grind arith
+LosesFont-unmade asked file fault is too_long = grind arith
 
 -- the font file that was asked for could not be written, or there is none
-pub unwritten : {A : Type 0} (asked : Words) (file : GfFile) (made : Option A) (r : Result (Unit {0}) ProgramFault) (P : ProgramFault → Type 0)
+pub LosesFont-unwritten : {A : Type 0} (asked : Words) (file : GfFile) (made : Option A) (r : Result (Unit {0}) ProgramFault) (P : ProgramFault → Type 0)
     → IsSome asked.gf → (made ≡ None → (characters : List Character) → Keeps file [] characters → characters ≡ [])
     → (made ≡ None) ↔ (r ≡ Err NoCharacters) → IfSome made (λ _. IfErr r (λ fault. fault ≡ WriteFault))
     → ((fault : ProgramFault) → LosesFont asked file fault → P fault) → IfErr r P
-unwritten asked file made r P some nothing none failed ends = grind arith
+LosesFont-unwritten asked file made r P some nothing none failed ends = grind arith

@@ -13,9 +13,10 @@ use Rattle.mf_view_words.specs.declared.words.Request.TheVariants.{Show}
 use Rattle.mf_view_words.specs.declared.words.Words.{Words}
 
 -- memory was missing before anything was drawn or told
-pub wanting : (words : List Text) (status : ℕ) (IsUnread : Type 0) (s : ScreenStreams) → s.screen.holds ≡ s.screen.held → status ≡ status_of OutOfMemory
+pub ReportsFaultLast-memory : (words : List Text) (status : ℕ) (IsUnread : Type 0) (s : ScreenStreams) → s.screen.holds ≡ s.screen.held
+    → status ≡ status_of OutOfMemory
     → GetsFront s.transcript.held s.transcript.holds (message_of OutOfMemory) → ReportsFaultLast words status IsUnread s
-wanting words status IsUnread s drawn is message = record {
+ReportsFaultLast-memory words status IsUnread s drawn is message = record {
   fault = OutOfMemory;
   status_is = sym is;
   between = s.transcript.held;
@@ -25,12 +26,12 @@ wanting words status IsUnread s drawn is message = record {
 }
 
 -- a text that was asked for went out, or was cut
-pub answered : (words : List Text) (status : ℕ) (IsUnread : Type 0) (s : ScreenStreams) → (status ≡ 3 → GetsPartOfText words s)
+pub ReportsFaultLast-text : (words : List Text) (status : ℕ) (IsUnread : Type 0) (s : ScreenStreams) → (status ≡ 3 → GetsPartOfText words s)
     → (status ≡ 0) ⊎ (status ≡ 3) → (status ≡ 3) ⊎ ((status ≡ 4) ⊎ (status ≡ 5))
     → (status ≡ 3 → GetsFront s.transcript.held s.transcript.holds (message_of WriteFault)) → ReportsFaultLast words status IsUnread s
-answered words status IsUnread s text (inl done) bad got =
+ReportsFaultLast-text words status IsUnread s text (inl done) bad got =
     absurd (⊎_elim (λ three. omega (arith, done, three)) (⊎_elim (λ four. omega (arith, done, four)) (λ five. omega (arith, done, five))) bad)
-answered words status IsUnread s text (inr failed) bad got = record {
+ReportsFaultLast-text words status IsUnread s text (inr failed) bad got = record {
   fault = WriteFault;
   status_is = sym failed;
   between = s.transcript.held;
@@ -41,7 +42,7 @@ answered words status IsUnread s text (inr failed) bad got = record {
 
 module _ (words : List Text) (asked : Words) (request : IsRequest words (Show asked)) where
   -- the script has ended with this fault, after which the stream of messages had some bytes
-  pub reported : (fault : ProgramFault) (status : ℕ) (IsUnread : Type 0) (between : Option (List ℕ)) (s : ScreenStreams)
+  pub ReportsFaultLast-script : (fault : ProgramFault) (status : ℕ) (IsUnread : Type 0) (between : Option (List ℕ)) (s : ScreenStreams)
       → EndsScript asked (record s { transcript = receipt s.transcript.held between }) fault → (fault ≡ NoPlace → IsUnread)
       → status ≡ status_of fault → GetsFront between s.transcript.holds (message_of fault) → ReportsFaultLast words status IsUnread s
-  reported fault status IsUnread between s ends unread is message = grind (arith, sym)
+  ReportsFaultLast-script fault status IsUnread between s ends unread is message = grind (arith, sym)

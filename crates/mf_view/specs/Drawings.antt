@@ -26,10 +26,6 @@ abbrev pub Rise : List (List Entry) → Type 0
 Rise [] = Unit {0}
 Rise (L ∷ earlier) = IsAbove (last_revision earlier) (revision_at L) × Rise earlier
 
--- this is a whole prefix of the list
-abbrev pub IsSeenOf : List Entry → List Entry → Type 0
-IsSeenOf whole L = IsWholePrefix L whole
-
 -- some events may happen that publish this list
 abbrev pub IsPublishable : List Entry → Type 0
 IsPublishable L = (events : List Event) × IsPublished events L
@@ -37,7 +33,7 @@ IsPublishable L = (events : List Event) × IsPublished events L
 -- a viewer that has looked at a list may have looked at these up to then: whole prefixes of it that may be published, of rising revisions
 pub record AreLooks (whole : List Entry) (lists : List (List Entry)) : Type 0 where
   pub rise : Rise lists
-  pub seen : All (IsSeenOf whole) lists
+  pub seen : All (λ L. IsWholePrefix L whole) lists
   pub published : All IsPublishable lists
 
 -- an easel has drawn frames of what its viewer has looked at, and nothing else went to its screen
@@ -74,10 +70,6 @@ DrawsMore before after screen = Continues screen (HasDrawn before) (HasDrawn aft
 -- the easel has drawn a part of its frames, whatever it had drawn before
 abbrev pub DrawsPart : Easel → Receipt → Type 0
 DrawsPart easel screen = Continues screen (HasDrawn easel) (HasDrawnPart (manner_of easel))
-
--- the last picture, which is that of this list, is shown, whatever the easel had drawn before
-abbrev pub LeavesLast : Easel → List Entry → Receipt → Type 0
-LeavesLast easel whole screen = Continues screen (HasDrawn easel) (ShowsLast (manner_of easel) whole)
 
 -- an easel whose drawing has come to this result has drawn frames, or a part of them where the drawing has failed
 abbrev pub HasDrawnAs : Result (Unit {0}) EaselFault → Easel → Receipt → Type 0

@@ -30,12 +30,6 @@ IsShownInto None m s file = Shows m s file
 IsShownInto (Some path) m s file =
     (s.transcript.holds ≡ s.transcript.held) × (filed : Receipt) × Shows m (record s { transcript = filed }) file
 
--- the font file of a script is not too long, and where the words ask for it, it has a character
-pub record HasFont (words : Words) (file : GfFile) : Type 0 where
-  pub some : (characters : List Character) → Keeps file [] characters → IsSome words.gf → characters ≢ []
-  pub fits : (characters : List Character) → Keeps file [] characters
-      → IsLongFile (max_bytes_of file) (font_words words.design_size words.resolution) [] characters → ⊥
-
 -- how the words ask for frames to be drawn
 abbrev pub manner_for : Words → Manner
 manner_for words = manner (style_in words.frames) (size_in words.columns words.rows)
@@ -44,11 +38,14 @@ manner_for words = manner (style_in words.frames) (size_in words.columns words.r
 abbrev pub IsShownFor : Words → ScreenStreams → GfFile → Type 0
 IsShownFor words = IsShownInto (option_map string_bytes words.transcript) (manner_for words)
 
--- the script was performed and shown as the words ask for it, and so is its font file
+-- the script was performed and shown as the words ask for it; its font file is not too long, and where the words ask for it, it has a
+-- character
 pub record IsWatched (words : Words) (s : ScreenStreams) : Type 0 where
   pub file : GfFile
   pub shown : IsShownFor words s file
-  pub font : HasFont words file
+  pub some : (characters : List Character) → Keeps file [] characters → IsSome words.gf → characters ≢ []
+  pub fits : (characters : List Character) → Keeps file [] characters
+      → IsLongFile (max_bytes_of file) (font_words words.design_size words.resolution) [] characters → ⊥
 
 -- these words ask for the help text or for the version, and not for a script
 abbrev pub AsksForText : List Text → Type 0

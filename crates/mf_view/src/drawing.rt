@@ -1,11 +1,11 @@
 //! The viewer's side of a performance: looking and drawing until the script has ended.
 ghost use Rattle.std.specs.Prelude.{◌≡◌, true, IfErr, OnErr, OnOk};
 ghost use Rattle.mf_base.specs.Messages.{receipt_of};
-ghost use Rattle.mf_easel.specs.Easels.{HasSameManner, drawing_of, identity, looked_at_list};
+ghost use Rattle.mf_easel.specs.Easels.{HasSameManner, drawing_of, identity, looked_at_list, manner_of};
 ghost use Rattle.mf_easel.specs.Screens.{GetsNoMore, screen_of};
 ghost use Rattle.mf_live.specs.Entries.{is_closed};
 ghost use Rattle.mf_live.specs.Viewers.{notice_identity, told_list};
-ghost use Rattle.mf_view.specs.Drawings.{DrawsMore, DrawsPart, LeavesLast};
+ghost use Rattle.mf_view.specs.Drawings.{Continues, DrawsMore, DrawsPart, HasDrawn, ShowsLast};
 
 use crate::pace::Rest;
 use mf_easel::{Easel, EaselFault};
@@ -71,7 +71,8 @@ pub fn draw_last<W: Write>(
 ) -> Result<(), EaselFault>
     requires identity { notice_identity notice ≡ identity easel.old }
     requires closed { is_closed (told_list notice) ≡ true }
-    ensures shown { OnOk result (LeavesLast easel.old (told_list notice) (receipt_of W.contents screen.old screen.new)) }
+    ensures shown { OnOk result
+        (Continues (receipt_of W.contents screen.old screen.new) (HasDrawn easel.old) (ShowsLast (manner_of easel.old) (told_list notice))) }
     ensures cut { IfErr result (GetsNoMore (screen_of W.contents screen.old screen.new) (drawing_of easel.old (told_list notice))) }
     ensures part { OnErr result (DrawsPart easel.old (receipt_of W.contents screen.old screen.new)) }
 {
