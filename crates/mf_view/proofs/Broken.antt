@@ -20,14 +20,14 @@ use Rattle.mf_view.specs.Performances.{script_limits}
 use Rattle.mf_view.specs.declared.fault.ProgramFault.{ProgramFault}
 
 -- a fault of a plate is one to the stage, too
-concerns-stage : (cause : StageFault) → ConcernsPlate (fault_of_stage cause) → stage_faults.ConcernsPlate cause
-concerns-stage cause concerns = grind arith
+ConcernsPlate-stage : (cause : StageFault) → ConcernsPlate (fault_of_stage cause) → stage_faults.ConcernsPlate cause
+ConcernsPlate-stage cause concerns = grind arith
 
 -- a performance on this stage ends with a fault
 module _ (before after : Stage) (unread told tells : Option (List ℕ)) (limited : limits before ≡ script_limits) (begins : StandsFor before start) where
-  broken-script : (cause : StageFault) → BreaksScript (act_of before after told tells) unread cause
+  IsBrokenOff-script : (cause : StageFault) → BreaksScript (act_of before after told tells) unread cause
       → IsBrokenOff unread (receipt told tells) (fault_of_stage cause)
-  broken-script cause broken =
+  IsBrokenOff-script cause broken =
       let stopped = broken.such start begins in
       let told = subst (λ l. TellsOfScript (due_lines l start (lines broken.input)) stopped.last cause stopped.written) limited stopped.told in
       record {
@@ -36,9 +36,9 @@ module _ (before after : Stage) (unread told tells : Option (List ℕ)) (limited
         such = record { last = stopped.last; written = stopped.written; out = stopped.out; tells_is = inl (cause, refl, told) };
       }
 
-  broken-end : (fault : ProgramFault) → PerformsAll (act_of before after told tells) unread
+  IsBrokenOff-end : (fault : ProgramFault) → PerformsAll (act_of before after told tells) unread
       → ((s : State) → StandsFor after s → IsOfEnd s.pictures.accepted fault) → IsBrokenOff unread (receipt told tells) fault
-  broken-end fault script late =
+  IsBrokenOff-end fault script late =
       let done = script.such start begins in
       let performed = subst (λ l. Perform l start (lines script.input) (answer_with done.text done.last)) limited done.performed in
       record {
@@ -48,33 +48,33 @@ module _ (before after : Stage) (unread told tells : Option (List ℕ)) (limited
       }
 
   -- the fault is that of the script, or one after it
-  pub broken-whole : (performed : Result (Unit {0}) StageFault) (r : Result GfFile ProgramFault)
+  pub IsBrokenOff-whole : (performed : Result (Unit {0}) StageFault) (r : Result GfFile ProgramFault)
       → OnOk performed (PerformsAll (act_of before after told tells) unread)
       → IfErr performed (BreaksScript (act_of before after told tells) unread)
       → IfErr performed (λ cause. r ≡ Err (fault_of_stage cause))
       → OnOk performed (IfErr r (λ fault. (s : State) → StandsFor after s → IsOfEnd s.pictures.accepted fault))
       → IfErr r (IsBrokenOff unread (receipt told tells))
-  broken-whole performed r script broken is late = grind (arith, broken-end, broken-script)
+  IsBrokenOff-whole performed r script broken is late = grind (arith, IsBrokenOff-end, IsBrokenOff-script)
 
   -- it is one of a plate only where plates are asked for
-  pub asked-whole : (performed : Result (Unit {0}) StageFault) (r : Result GfFile ProgramFault) → plates_of after ≡ plates_of before
+  pub plates-asked : (performed : Result (Unit {0}) StageFault) (r : Result GfFile ProgramFault) → plates_of after ≡ plates_of before
       → IfErr performed (BreaksScript (act_of before after told tells) unread)
       → IfErr performed (λ cause. r ≡ Err (fault_of_stage cause))
       → OnOk performed (IfErr r (λ fault. ConcernsPlate fault → IsSome (plates_of after)))
       → IfErr r (λ fault. ConcernsPlate fault → IsSome (plates_of before))
-  asked-whole (Ok done) (Ok file) same broken is asked = tt
-  asked-whole (Ok done) (Err fault) same broken is asked = λ concerns. subst IsSome same (asked concerns)
-  asked-whole (Err cause) r same broken is asked =
+  plates-asked (Ok done) (Ok file) same broken is asked = tt
+  plates-asked (Ok done) (Err fault) same broken is asked = λ concerns. subst IsSome same (asked concerns)
+  plates-asked (Err cause) r same broken is asked =
       subst (λ r. IfErr r (λ fault. ConcernsPlate fault → IsSome (plates_of before))) (sym is)
-      (λ concerns. (broken.such start begins).asked (concerns-stage cause concerns))
+      (λ concerns. (broken.such start begins).asked (ConcernsPlate-stage cause concerns))
 
 some-bytes : (unread : Option (List ℕ)) → (input : List ℕ) × IfSome unread (λ bytes. input ≡ bytes)
 some-bytes None = ([], tt)
 some-bytes (Some bytes) = (bytes, refl)
 
 -- nothing was read or written
-pub broken-nothing : (unread told : Option (List ℕ)) (fault : ProgramFault)
+pub IsBrokenOff-nothing : (unread told : Option (List ℕ)) (fault : ProgramFault)
     → ((input : List ℕ) → TellsOfPerformance (due_lines script_limits start (lines input)) start fault []) → IsBrokenOff unread (receipt told told) fault
-broken-nothing unread told fault tells =
+IsBrokenOff-nothing unread told fault tells =
     let (input, known) = some-bytes unread in
     record { input = input; known = known; such = record { last = start; written = []; out = Appends-nil told; tells_is = tells input } }

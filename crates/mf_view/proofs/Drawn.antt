@@ -21,22 +21,22 @@ use Rattle.mf_view.specs.Drawings.{AreLooks, Continues, DrawsMore, DrawsPart, Ha
 use Rattle.mf_view.specs.Drawings.{frames, last_revision}
 
 -- nothing is drawn where the revision is that of the frame before
-new-none : (drawn : Option ℕ) (revision : ℕ) → new_revision drawn revision ≡ None → drawn ≡ Some revision
-new-none drawn revision none = grind arith
+new_revision-none : (drawn : Option ℕ) (revision : ℕ) → new_revision drawn revision ≡ None → drawn ≡ Some revision
+new_revision-none drawn revision none = grind arith
 
 -- the revision that is drawn is that of the look
-new-some : (drawn : Option ℕ) (revision shown : ℕ) → new_revision drawn revision ≡ Some shown → shown ≡ revision
-new-some drawn revision shown some = grind arith
+new_revision-some : (drawn : Option ℕ) (revision shown : ℕ) → new_revision drawn revision ≡ Some shown → shown ≡ revision
+new_revision-some drawn revision shown some = grind arith
 
 -- what was looked at before a list was looked at before a longer one
-looks-before : (S L : List Entry) (lists : List (List Entry)) → IsWholePrefix S L → AreLooks S lists → AreLooks L lists
-looks-before S L lists more looks = grind (arith, All-weaker, whole-trans)
+AreLooks-before : (S L : List Entry) (lists : List (List Entry)) → IsWholePrefix S L → AreLooks S lists → AreLooks L lists
+AreLooks-before S L lists more looks = grind (arith, All-weaker, whole-trans)
 
 -- and so was that longer one, if its revision is above
-looks-more : (S L : List Entry) (lists : List (List Entry)) (drawn : Option ℕ) → drawn ≡ last_revision lists → IsAbove drawn (revision_at L)
+AreLooks-more : (S L : List Entry) (lists : List (List Entry)) (drawn : Option ℕ) → drawn ≡ last_revision lists → IsAbove drawn (revision_at L)
     → IsWholePrefix S L → IsPublishable L → AreLooks S lists → AreLooks L (L ∷ lists)
-looks-more S L lists drawn last above more published looks =
-    let before = looks-before S L lists more looks in
+AreLooks-more S L lists drawn last above more published looks =
+    let before = AreLooks-before S L lists more looks in
     record {
       rise = (subst (λ d. IsAbove d (revision_at L)) last above, before.rise);
       seen = All-cons (λ (S : List Entry). IsWholePrefix S L) L lists (whole-self L) before.seen;
@@ -49,31 +49,31 @@ in-manner : (held holds : Option (List ℕ)) (before after : Easel) (lists : Lis
 in-manner held holds before after lists same text = subst (λ m. Appends held holds (frames m lists)) (sym same) text
 
 -- what a look draws goes after what was drawn
-drawn-after : (held then holds : Option (List ℕ)) (m : Manner) (drawn : Option ℕ) (lists : List (List Entry)) (L : List Entry)
+frames-more : (held then holds : Option (List ℕ)) (m : Manner) (drawn : Option ℕ) (lists : List (List Entry)) (L : List Entry)
     → Appends held then (frames m lists) → drawn ≡ last_revision lists
     → Appends then holds (drawing m drawn (revision_at L) (picture_at L)) → Appends held holds (frames m (L ∷ lists))
-drawn-after held then holds m drawn lists L was last gets = grind (arith, Appends-trans)
+frames-more held then holds m drawn lists L was last gets = grind (arith, Appends-trans)
 
 -- a look draws its own list after what was drawn, or what was drawn last has its revision
-pub drawn-look : {W : Type 0} (contents : W → Option (List ℕ)) (s t : W) (before after : Easel) (shown : Option ℕ)
+pub DrawsMore-look : {W : Type 0} (contents : W → Option (List ℕ)) (s t : W) (before after : Easel) (shown : Option ℕ)
     → HasLooked (viewer_of before) (viewer_of after) → HasSameManner before after
     → shown ≡ new_revision (revision_of before) (revision_at (looked_at_list after))
     → revision_of after ≡ Some (revision_at (looked_at_list after))
     → GetsFrame (screen_of contents s t) (drawing_of before (looked_at_list after)) shown → IfSome shown (IsAbove (revision_of before))
     → DrawsMore before after (receipt_of contents s t)
-drawn-look contents s t before after None look manner answer drawn same rising held was = record {
+DrawsMore-look contents s t before after None look manner answer drawn same rising held was = record {
   lists = was.lists;
   text = rw same (in-manner held (contents s) before after was.lists manner was.text);
-  looks = looks-before (looked_at_list before) (looked_at_list after) was.lists look.extends.looked was.looks;
-  last = drawn ∙ (sym (new-none (revision_of before) (revision_at (looked_at_list after)) (sym answer)) ∙ was.last);
+  looks = AreLooks-before (looked_at_list before) (looked_at_list after) was.lists look.extends.looked was.looks;
+  last = drawn ∙ (sym (new_revision-none (revision_of before) (revision_at (looked_at_list after)) (sym answer)) ∙ was.last);
 }
-drawn-look contents s t before after (Some shown) look manner answer drawn gets rising held was =
-    let revision = new-some (revision_of before) (revision_at (looked_at_list after)) shown (sym answer) in
+DrawsMore-look contents s t before after (Some shown) look manner answer drawn gets rising held was =
+    let revision = new_revision-some (revision_of before) (revision_at (looked_at_list after)) shown (sym answer) in
     record {
       lists = looked_at_list after ∷ was.lists;
       text = in-manner held (contents t) before after (looked_at_list after ∷ was.lists) manner
-          (drawn-after held (contents s) (contents t) (manner_of before) (revision_of before) was.lists (looked_at_list after) was.text was.last gets);
-      looks = looks-more (looked_at_list before) (looked_at_list after) was.lists (revision_of before) was.last
+          (frames-more held (contents s) (contents t) (manner_of before) (revision_of before) was.lists (looked_at_list after) was.text was.last gets);
+      looks = AreLooks-more (looked_at_list before) (looked_at_list after) was.lists (revision_of before) was.last
           (subst (IsAbove (revision_of before)) revision rising) look.extends.looked (_, look.published) was.looks;
       last = drawn;
     }
@@ -84,61 +84,61 @@ unfolding revision_after
 same-picture L whole part same = grind (arith, revision_at-append, nil_from_length, sym, operations-append, append-nil)
 
 -- the last picture was drawn before
-shown-before : (easel : Easel) (whole : List Entry) (screen : Receipt) (lists : List (List Entry))
+ShowsLast-before : (easel : Easel) (whole : List Entry) (screen : Receipt) (lists : List (List Entry))
     → Appends screen.held screen.holds (frames (manner_of easel) lists) → AreLooks whole lists → last_revision lists ≡ Some (revision_at whole)
     → ShowsLast (manner_of easel) whole screen
-shown-before easel whole screen [] text looks last = cc
-shown-before easel whole screen (L ∷ earlier) text looks last = grind (arith, same-picture, All-head)
+ShowsLast-before easel whole screen [] text looks last = cc
+ShowsLast-before easel whole screen (L ∷ earlier) text looks last = grind (arith, same-picture, All-head)
 
 -- the last look leaves the last picture on the screen
-pub shown-last : {W : Type 0} (contents : W → Option (List ℕ)) (s t : W) (before after : Easel) (whole : List Entry) (shown : Option ℕ)
+pub ShowsLast-look : {W : Type 0} (contents : W → Option (List ℕ)) (s t : W) (before after : Easel) (whole : List Entry) (shown : Option ℕ)
     → HasLookedLast (viewer_of before) whole (viewer_of after) → shown ≡ new_revision (revision_of before) (revision_at whole)
     → GetsFrame (screen_of contents s t) (drawing_of before whole) shown → IfSome shown (IsAbove (revision_of before))
     → Continues (receipt_of contents s t) (HasDrawn before) (ShowsLast (manner_of before) whole)
-shown-last contents s t before after whole None look answer same rising held was =
-    let again = sym was.last ∙ new-none (revision_of before) (revision_at whole) (sym answer) in
-    let looks = looks-before (looked_at_list before) whole was.lists look.0.looked was.looks in
-    rw same (shown-before before whole (receipt held (contents s)) was.lists was.text looks again)
-shown-last contents s t before after whole (Some shown) look answer gets rising held was =
-    let revision = new-some (revision_of before) (revision_at whole) shown (sym answer) in
+ShowsLast-look contents s t before after whole None look answer same rising held was =
+    let again = sym was.last ∙ new_revision-none (revision_of before) (revision_at whole) (sym answer) in
+    let looks = AreLooks-before (looked_at_list before) whole was.lists look.0.looked was.looks in
+    rw same (ShowsLast-before before whole (receipt held (contents s)) was.lists was.text looks again)
+ShowsLast-look contents s t before after whole (Some shown) look answer gets rising held was =
+    let revision = new_revision-some (revision_of before) (revision_at whole) shown (sym answer) in
     record {
       last = whole;
       earlier = was.lists;
-      text = drawn-after held (contents s) (contents t) (manner_of before) (revision_of before) was.lists whole was.text was.last gets;
-      looks = looks-more (looked_at_list before) whole was.lists (revision_of before) was.last (subst (IsAbove (revision_of before)) revision rising)
+      text = frames-more held (contents s) (contents t) (manner_of before) (revision_of before) was.lists whole was.text was.last gets;
+      looks = AreLooks-more (looked_at_list before) whole was.lists (revision_of before) was.last (subst (IsAbove (revision_of before)) revision rising)
           look.0.looked (_, look.1.published) was.looks;
       revision = refl;
       picture = refl;
     }
 
-no-looks : (whole : List Entry) → AreLooks whole []
-no-looks whole = record { rise = tt; seen = All-nil (λ (L : List Entry). IsWholePrefix L whole); published = All-nil IsPublishable }
+AreLooks-none : (whole : List Entry) → AreLooks whole []
+AreLooks-none whole = record { rise = tt; seen = All-nil (λ (L : List Entry). IsWholePrefix L whole); published = All-nil IsPublishable }
 
 -- an easel that has drawn nothing
-pub drawn-nothing : (easel : Easel) (held : Option (List ℕ)) → revision_of easel ≡ None → HasDrawn easel (receipt held held)
-drawn-nothing easel held nothing = record { lists = []; text = Appends-nil held; looks = no-looks (looked_at_list easel); last = nothing }
+pub HasDrawn-nothing : (easel : Easel) (held : Option (List ℕ)) → revision_of easel ≡ None → HasDrawn easel (receipt held held)
+HasDrawn-nothing easel held nothing = record { lists = []; text = Appends-nil held; looks = AreLooks-none (looked_at_list easel); last = nothing }
 
 -- all that an easel has drawn is a part of it
-pub part-all : (easel : Easel) (screen : Receipt) → HasDrawn easel screen → HasDrawnPart (manner_of easel) screen
-part-all easel screen was = grind (arith, sym, append-nil)
+pub HasDrawnPart-all : (easel : Easel) (screen : Receipt) → HasDrawn easel screen → HasDrawnPart (manner_of easel) screen
+HasDrawnPart-all easel screen was = grind (arith, sym, append-nil)
 
 -- nothing was drawn
-pub part-nothing : (m : Manner) (held : Option (List ℕ)) → HasDrawnPart m (receipt held held)
-part-nothing m held = record { whole = []; lists = []; looks = no-looks []; text = ([], [], refl, Appends-nil held) }
+pub nothing_is_a_part : (m : Manner) (held : Option (List ℕ)) → HasDrawnPart m (receipt held held)
+nothing_is_a_part m held = record { whole = []; lists = []; looks = AreLooks-none []; text = ([], [], refl, Appends-nil held) }
 
 -- after a fault of a look at a list the screen has a part of what was drawn and of the frame of that list
-pub part-cut : {W : Type 0} (contents : W → Option (List ℕ)) (s t : W) (easel : Easel) (L : List Entry) (fault : EaselFault)
+pub DrawsPart-cut : {W : Type 0} (contents : W → Option (List ℕ)) (s t : W) (easel : Easel) (L : List Entry) (fault : EaselFault)
     → (fault ≡ WriteFault → IsWholePrefix (looked_at_list easel) L × IsPublishable L × IsAbove (revision_of easel) (revision_at L))
     → GetsNoMore (screen_of contents s t) (drawing_of easel L) fault → DrawsPart easel (receipt_of contents s t)
-part-cut contents s t easel L OutOfMemory begun same held was = rw same (part-all easel (receipt held (contents s)) was)
-part-cut contents s t easel L NoLook begun same held was = rw same (part-all easel (receipt held (contents s)) was)
-part-cut contents s t easel L WriteFault begun gets held was =
+DrawsPart-cut contents s t easel L OutOfMemory begun same held was = rw same (HasDrawnPart-all easel (receipt held (contents s)) was)
+DrawsPart-cut contents s t easel L NoLook begun same held was = rw same (HasDrawnPart-all easel (receipt held (contents s)) was)
+DrawsPart-cut contents s t easel L WriteFault begun gets held was =
     let (more, published, above) = begun refl in
     let frame = λ (drawn : Option ℕ). drawing (manner_of easel) drawn (revision_at L) (picture_at L) in
     record {
       whole = L;
       lists = L ∷ was.lists;
-      looks = looks-more (looked_at_list easel) L was.lists (revision_of easel) was.last above more published was.looks;
+      looks = AreLooks-more (looked_at_list easel) L was.lists (revision_of easel) was.last above more published was.looks;
       text = message-after held (contents s) (contents t) (frames (manner_of easel) was.lists) (frame (last_revision was.lists)) was.text
           (subst (λ d. GetsFront (contents s) (contents t) (frame d)) was.last gets);
     }

@@ -140,6 +140,7 @@ fn show<
 }
 
 /// Ends a performance whose two sides have come to this. A fault of the script comes before one of the drawing.
+#[tactic(auto, using(crate::proofs::Shown::drawing_has_a_part))]
 fn conclude<S: Wait + Files, W: Write>(
     rt: &S,
     alloc: Global,

@@ -150,6 +150,7 @@ fn style(frames: bool) -> Style
 }
 
 /// Performs and draws the script, with the transcript in a file where a path is given, and else in the stream of messages.
+#[tactic(auto, using(crate::proofs::Drawn::nothing_is_a_part))]
 fn perform_into<
     S: Wait + Threads + Files + Sync,
     R: Read,

@@ -1,18 +1,18 @@
 use Rattle.std.proofs.Common.{Err, ap, subst, arith}
 use Rattle.mf_easel.specs.Easels.{IsNotDrawn}
-use Rattle.mf_view.proofs.Drawn.{drawn-look, part-cut}
+use Rattle.mf_view.proofs.Drawn.{DrawsMore-look, DrawsPart-cut}
 use Rattle.mf_view.proofs.drawing.draw.Goals as goal
 
 pub returns-in-Ok-Some-clause-drawn : goal.returns-in-Ok-Some-clause-drawn
-returns-in-Ok-Some-clause-drawn g c = grind (arith, drawn-look)
+returns-in-Ok-Some-clause-drawn g c = grind (arith, DrawsMore-look)
 
 pub returns-in-Ok-None-clause-drawn : goal.returns-in-Ok-None-clause-drawn
-returns-in-Ok-None-clause-drawn g c = grind (arith, drawn-look)
+returns-in-Ok-None-clause-drawn g c = grind (arith, DrawsMore-look)
 
 pub returns-in-Err-clause-part : goal.returns-in-Err-clause-part
 returns-in-Err-clause-part g c =
     let failed = c.in-Err.ensures in
-    part-cut g.W.Write.contents _ _ c.args.easel.now _ c.in-Err.fault (λ is.
+    DrawsPart-cut g.W.Write.contents _ _ c.args.easel.now _ c.in-Err.fault (λ is.
     let look = subst (IsNotDrawn _ _) is failed.missed in
     (look.extends.looked, (_, look.published), failed.rising_if_cut (ap Err is)))
     failed.cut

@@ -1,15 +1,15 @@
 use Rattle.std.proofs.Common.{Err, ap, subst, arith}
 use Rattle.mf_easel.specs.Easels.{IsLastNotDrawn}
-use Rattle.mf_view.proofs.Drawn.{part-cut, shown-last}
+use Rattle.mf_view.proofs.Drawn.{DrawsPart-cut, ShowsLast-look}
 use Rattle.mf_view.proofs.drawing.draw_last.Goals as goal
 
 pub returns-in-Ok-clause-shown : goal.returns-in-Ok-clause-shown
-returns-in-Ok-clause-shown g c = grind (arith, shown-last)
+returns-in-Ok-clause-shown g c = grind (arith, ShowsLast-look)
 
 pub returns-in-Err-clause-part : goal.returns-in-Err-clause-part
 returns-in-Err-clause-part g c =
     let failed = c.in-Err.ensures in
-    part-cut g.W.Write.contents _ _ c.args.easel.now _ c.in-Err.fault (λ is.
+    DrawsPart-cut g.W.Write.contents _ _ c.args.easel.now _ c.in-Err.fault (λ is.
     let look = subst (IsLastNotDrawn _ _ _) is failed.missed in
     (look.0.looked, (_, look.1.published), failed.rising_if_cut (ap Err is)))
     failed.cut
