@@ -55,19 +55,19 @@ frames-more : (held then holds : Option (List ℕ)) (m : Manner) (drawn : Option
 frames-more held then holds m drawn lists L was last gets = grind (arith, Appends-trans)
 
 -- a look draws its own list after what was drawn, or what was drawn last has its revision
-pub DrawsMore-look : {W : Type 0} (contents : W → Option (List ℕ)) (s t : W) (before after : Easel) (shown : Option ℕ)
+pub look_draws_more : {W : Type 0} (contents : W → Option (List ℕ)) (s t : W) (before after : Easel) (shown : Option ℕ)
     → HasLooked (viewer_of before) (viewer_of after) → HasSameManner before after
     → shown ≡ new_revision (revision_of before) (revision_at (looked_at_list after))
     → revision_of after ≡ Some (revision_at (looked_at_list after))
     → GetsFrame (screen_of contents s t) (drawing_of before (looked_at_list after)) shown → IfSome shown (IsAbove (revision_of before))
     → DrawsMore before after (receipt_of contents s t)
-DrawsMore-look contents s t before after None look manner answer drawn same rising held was = record {
+look_draws_more contents s t before after None look manner answer drawn same rising held was = record {
   lists = was.lists;
   text = rw same (in-manner held (contents s) before after was.lists manner was.text);
   looks = AreLooks-before (looked_at_list before) (looked_at_list after) was.lists look.extends.looked was.looks;
   last = drawn ∙ (sym (new_revision-none (revision_of before) (revision_at (looked_at_list after)) (sym answer)) ∙ was.last);
 }
-DrawsMore-look contents s t before after (Some shown) look manner answer drawn gets rising held was =
+look_draws_more contents s t before after (Some shown) look manner answer drawn gets rising held was =
     let revision = new_revision-some (revision_of before) (revision_at (looked_at_list after)) shown (sym answer) in
     record {
       lists = looked_at_list after ∷ was.lists;
@@ -91,15 +91,15 @@ ShowsLast-before easel whole screen [] text looks last = cc
 ShowsLast-before easel whole screen (L ∷ earlier) text looks last = grind (arith, same-picture, All-head)
 
 -- the last look leaves the last picture on the screen
-pub ShowsLast-look : {W : Type 0} (contents : W → Option (List ℕ)) (s t : W) (before after : Easel) (whole : List Entry) (shown : Option ℕ)
+pub last_look_shows_last : {W : Type 0} (contents : W → Option (List ℕ)) (s t : W) (before after : Easel) (whole : List Entry) (shown : Option ℕ)
     → HasLookedLast (viewer_of before) whole (viewer_of after) → shown ≡ new_revision (revision_of before) (revision_at whole)
     → GetsFrame (screen_of contents s t) (drawing_of before whole) shown → IfSome shown (IsAbove (revision_of before))
     → Continues (receipt_of contents s t) (HasDrawn before) (ShowsLast (manner_of before) whole)
-ShowsLast-look contents s t before after whole None look answer same rising held was =
+last_look_shows_last contents s t before after whole None look answer same rising held was =
     let again = sym was.last ∙ new_revision-none (revision_of before) (revision_at whole) (sym answer) in
     let looks = AreLooks-before (looked_at_list before) whole was.lists look.0.looked was.looks in
     rw same (ShowsLast-before before whole (receipt held (contents s)) was.lists was.text looks again)
-ShowsLast-look contents s t before after whole (Some shown) look answer gets rising held was =
+last_look_shows_last contents s t before after whole (Some shown) look answer gets rising held was =
     let revision = new_revision-some (revision_of before) (revision_at whole) shown (sym answer) in
     record {
       last = whole;

@@ -5,8 +5,8 @@ use Rattle.std.specs.Io.KnownBytes.{Appends}
 use Rattle.mf_base.specs.Messages.{GetsFront}
 
 -- what a writer got of a text, it got of a longer one
-pub message-front : (held holds : Option (List ℕ)) (text more : List ℕ) → GetsFront held holds text → GetsFront held holds (text ++ more)
-message-front held holds text more (front, rest, is, out) = (front, rest ++ more, ap (λ all. all ++ more) is ∙ append_assoc front rest more, out)
+pub front_of_longer_text : (held holds : Option (List ℕ)) (text more : List ℕ) → GetsFront held holds text → GetsFront held holds (text ++ more)
+front_of_longer_text held holds text more (front, rest, is, out) = (front, rest ++ more, ap (λ all. all ++ more) is ∙ append_assoc front rest more, out)
 
 -- what a writer got after a text
 pub message-after : (held then holds : Option (List ℕ)) (text more : List ℕ) → Appends held then text

@@ -26,12 +26,12 @@ ReportsFaultLast-memory words status IsUnread s drawn is message = record {
 }
 
 -- a text that was asked for went out, or was cut
-pub ReportsFaultLast-text : (words : List Text) (status : ℕ) (IsUnread : Type 0) (s : ScreenStreams) → (status ≡ 3 → GetsPartOfText words s)
+pub text_reports_its_fault : (words : List Text) (status : ℕ) (IsUnread : Type 0) (s : ScreenStreams) → (status ≡ 3 → GetsPartOfText words s)
     → (status ≡ 0) ⊎ (status ≡ 3) → (status ≡ 3) ⊎ ((status ≡ 4) ⊎ (status ≡ 5))
     → (status ≡ 3 → GetsFront s.transcript.held s.transcript.holds (message_of WriteFault)) → ReportsFaultLast words status IsUnread s
-ReportsFaultLast-text words status IsUnread s text (inl done) bad got =
+text_reports_its_fault words status IsUnread s text (inl done) bad got =
     absurd (⊎_elim (λ three. omega (arith, done, three)) (⊎_elim (λ four. omega (arith, done, four)) (λ five. omega (arith, done, five))) bad)
-ReportsFaultLast-text words status IsUnread s text (inr failed) bad got = record {
+text_reports_its_fault words status IsUnread s text (inr failed) bad got = record {
   fault = WriteFault;
   status_is = sym failed;
   between = s.transcript.held;

@@ -40,6 +40,7 @@ pub fn draw_on<S: Wait, W: Write, P: Rest>(
 }
 
 /// Looks once, and draws what is new.
+#[tactic(auto, using(crate::proofs::Drawn::look_draws_more))]
 pub fn draw<W: Write, P: Rest>(
     alloc: Global,
     easel: &mut Easel,
@@ -63,6 +64,7 @@ pub fn draw<W: Write, P: Rest>(
 }
 
 /// Learns of the end, and draws the last picture if it was not drawn yet.
+#[tactic(auto, using(crate::proofs::Drawn::last_look_shows_last))]
 pub fn draw_last<W: Write>(
     alloc: Global,
     easel: &mut Easel,

@@ -59,6 +59,7 @@ struct Sides {
 /// no place for the viewer. After each fault the thread is joined, and what was written stays; of the frames, only the last may be
 /// cut. No clause says that the blank picture is drawn first, that the script goes on after a fault of the screen, or which fault
 /// comes before another: tests do.
+#[tactic(auto, using(crate::proofs::Drawn::nothing_is_a_part))]
 pub fn perform<
     S: Wait + Threads + Files + Sync,
     R: Read,

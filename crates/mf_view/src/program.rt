@@ -39,6 +39,7 @@ pub const TOO_SMALL: u8 = 5;
 /// `errors`, unless the words name a file for it. Then it writes the font file where the words ask for one. Where something went
 /// wrong, a message goes to `errors` last. Answers with the exit status. `words` are those of the command line, and the first is
 /// the program's name. A fault of `errors` while a message is written changes no status.
+#[tactic(auto, using(crate::proofs::Reports::text_reports_its_fault))]
 pub fn program<S: Wait + Threads + Files + Clock + Sync, R: Read, W: Write + Send, E: Write>(
     rt: &S,
     alloc: Global,
@@ -255,6 +256,7 @@ fn put<E: Write>(errors: &mut E, text: &str)
 
 /// Writes a text, a number and a line feed, or a front of these where `errors` fails: nothing follows a text that was cut. It allocates
 /// nothing, so that each fault can be told.
+#[tactic(auto, using(crate::proofs::Messages::front_of_longer_text))]
 fn write_numbered<E: Write>(errors: &mut E, text: &str, number: u32)
     ensures { GetsFront (E.contents errors.old) (E.contents errors.new) (text.now ++ decimal number ++ codes "\n") }
 {

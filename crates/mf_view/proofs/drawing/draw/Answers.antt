@@ -1,13 +1,7 @@
-use Rattle.std.proofs.Common.{Err, ap, subst, arith}
+use Rattle.std.proofs.Common.{Err, ap, subst}
 use Rattle.mf_easel.specs.Easels.{IsNotDrawn}
-use Rattle.mf_view.proofs.Drawn.{DrawsMore-look, DrawsPart-cut}
+use Rattle.mf_view.proofs.Drawn.{DrawsPart-cut}
 use Rattle.mf_view.proofs.drawing.draw.Goals as goal
-
-pub returns-in-Ok-Some-clause-drawn : goal.returns-in-Ok-Some-clause-drawn
-returns-in-Ok-Some-clause-drawn g c = grind (arith, DrawsMore-look)
-
-pub returns-in-Ok-None-clause-drawn : goal.returns-in-Ok-None-clause-drawn
-returns-in-Ok-None-clause-drawn g c = grind (arith, DrawsMore-look)
 
 pub returns-in-Err-clause-part : goal.returns-in-Err-clause-part
 returns-in-Err-clause-part g c =

@@ -1,10 +1,7 @@
-use Rattle.std.proofs.Common.{Err, ap, subst, arith}
+use Rattle.std.proofs.Common.{Err, ap, subst}
 use Rattle.mf_easel.specs.Easels.{IsLastNotDrawn}
-use Rattle.mf_view.proofs.Drawn.{DrawsPart-cut, ShowsLast-look}
+use Rattle.mf_view.proofs.Drawn.{DrawsPart-cut}
 use Rattle.mf_view.proofs.drawing.draw_last.Goals as goal
-
-pub returns-in-Ok-clause-shown : goal.returns-in-Ok-clause-shown
-returns-in-Ok-clause-shown g c = grind (arith, ShowsLast-look)
 
 pub returns-in-Err-clause-part : goal.returns-in-Err-clause-part
 returns-in-Err-clause-part g c =

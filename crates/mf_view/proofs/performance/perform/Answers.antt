@@ -15,6 +15,3 @@ returns-clause-fault g c = IsBrokenOff-nothing _ _ _ (λ input. inr (inr (refl, 
 
 pub returns-in_err-stage-clause-part : goal.returns-in_err-stage-clause-part
 returns-in_err-stage-clause-part g c = grind (arith, IfErr-raised, nothing_is_a_part)
-
-pub returns-clause-part : goal.returns-clause-part
-returns-clause-part g c = nothing_is_a_part _ _

@@ -1,5 +1,5 @@
-use Rattle.std.proofs.Common.{Err, refl, ap, arith}
-use Rattle.mf_view.proofs.Reports.{ReportsFaultLast-memory, ReportsFaultLast-script, ReportsFaultLast-text}
+use Rattle.std.proofs.Common.{Err, refl, ap}
+use Rattle.mf_view.proofs.Reports.{ReportsFaultLast-memory, ReportsFaultLast-script}
 use Rattle.mf_view.proofs.program.program.Goals as goal
 
 pub returns-in-Err-OutOfMemory-clause-fault : goal.returns-in-Err-OutOfMemory-clause-fault
@@ -9,9 +9,3 @@ pub returns-in-Err-clause-fault : goal.returns-in-Err-clause-fault
 returns-in-Err-clause-fault g c = λ _.
     ReportsFaultLast-script _ c.in-Show.words (rw c.in-Show.is at c.in-Ok.ensures.value) c.in-Err.fault _ _ (g.E.Write.contents c.watch.new.errors) _
     c.in-Err.ensures.fault (λ is. c.in-Err.ensures.unread (ap Err is)) c.report-in-Err.ensures.status c.report-in-Err.ensures.message
-
-pub returns-in-Help-clause-fault : goal.returns-in-Help-clause-fault
-returns-in-Help-clause-fault g c = grind (arith, ReportsFaultLast-text)
-
-pub returns-in-Version-clause-fault : goal.returns-in-Version-clause-fault
-returns-in-Version-clause-fault g c = grind (arith, ReportsFaultLast-text)

@@ -1,18 +1,15 @@
-use Rattle.std.proofs.Common.{◌++◌, codes, decimal, arith}
+use Rattle.std.proofs.Common.{◌++◌, codes, decimal}
 use Rattle.std.proofs.KnownBytes.{Appends-trans}
 use Rattle.std.specs.Io.KnownBytes.{Appends}
 use Rattle.mf_base.specs.Messages.{GetsFront}
-use Rattle.mf_view.proofs.Messages.{message-after, message-front}
+use Rattle.mf_view.proofs.Messages.{message-after, front_of_longer_text}
 use Rattle.mf_view.proofs.program.write_numbered.Goals as goal
-
-pub returns-then-not-write_text : goal.returns-then-not-write_text
-returns-then-not-write_text g c = grind (arith, message-front)
 
 pub returns-then-not-write_text-2 : goal.returns-then-not-write_text-2
 returns-then-not-write_text-2 g c =
     let first = c.write_text.ensures.all c.if-not-write_text.false in
     let second : GetsFront _ _ (decimal c.args.number) = rw (← c.format.ensures.text) c.write_text-2.ensures.front in
-    message-front _ _ (c.args.text.now ++ decimal c.args.number) (codes "\n") (message-after _ _ _ c.args.text.now (decimal c.args.number) first second)
+    front_of_longer_text _ _ (c.args.text.now ++ decimal c.args.number) (codes "\n") (message-after _ _ _ c.args.text.now (decimal c.args.number) first second)
 
 pub returns : goal.returns
 returns g c =
