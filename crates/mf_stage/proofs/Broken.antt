@@ -30,28 +30,28 @@ regroup : (a b c d : List (List ℕ)) → (a ++ (b ++ c)) ++ d ≡ (a ++ b) ++ (
 regroup a b c d = simp append_assoc
 
 -- a fault between two lines says that the texts of the lines before it are written, and is not one of a plate
-tells-between : (d : DueLines) (last : State) (fault : StageFault) (written : List ℕ) → (fault ≡ OutOfMemory) ⊎ (fault ≡ ReadFault)
+TellsOfScript-between : (d : DueLines) (last : State) (fault : StageFault) (written : List ℕ) → (fault ≡ OutOfMemory) ⊎ (fault ≡ ReadFault)
     → IsFirstText d last written → TellsOfScript d last fault written × (ConcernsPlate fault → ⊥)
-tells-between d last fault written between first = grind arith
+TellsOfScript-between d last fault written between first = grind arith
 
 module _ (limits : Limits) (s t : State) (done mid more : List (List ℕ)) (text : List ℕ) (before : Perform limits s done (answer_with text t)) where
   -- lines that were performed go before the first of others
-  first-after : (last : State) (written : List ℕ) → IsFirstText (due_lines limits t mid) last written
+  IsFirstText-after : (last : State) (written : List ℕ) → IsFirstText (due_lines limits t mid) last written
       → IsFirstText (due_lines limits s ((done ++ mid) ++ more)) last (text ++ written)
-  first-after last written f = record {
+  IsFirstText-after last written f = record {
     done = done ++ f.done;
     more = f.more ++ more;
     first = ap (λ m. (done ++ m) ++ more) f.first ∙ regroup done f.done f.more more;
     performed = Perform-append limits s done f.done (answer_with text t) (answer_with written last) before f.performed;
   }
 
-  cut-after : (last : State) (written : List ℕ) → IsCutText (due_lines limits t mid) last written
+  IsCutText-after : (last : State) (written : List ℕ) → IsCutText (due_lines limits t mid) last written
       → IsCutText (due_lines limits s ((done ++ mid) ++ more)) last (text ++ written)
-  unfolding first-after
-  cut-after last written f = record {
+  unfolding IsFirstText-after
+  IsCutText-after last written f = record {
     texts = text ++ f.texts;
     between = f.between;
-    before = first-after f.between f.texts f.before;
+    before = IsFirstText-after f.between f.texts f.before;
     line = f.line;
     more = f.more ++ more;
     next = ap (λ m. m ++ more) f.next;
@@ -62,17 +62,17 @@ module _ (limits : Limits) (s t : State) (done mid more : List (List ℕ)) (text
   }
 
 -- what is written where a fault comes in a line, whose stage represented the state t
-broken-after : (before now after : Stage) (s : State) (done mid more : List (List ℕ)) (fault : StageFault) (held holds last : Option (List ℕ))
+AreBrokenOff-after : (before now after : Stage) (s : State) (done mid more : List (List ℕ)) (fault : StageFault) (held holds last : Option (List ℕ))
     → limits now ≡ limits before → plates_of now ≡ plates_of before → (first : PerformsFrom (act_of before now held holds) s done)
     → AreBrokenOff (act_of now after holds last) first.last mid fault
     → AreBrokenOff (act_of before after held last) s ((done ++ mid) ++ more) fault
-broken-after before now after s done mid more fault held holds last same same_plates first broken =
+AreBrokenOff-after before now after s done mid more fault held holds last same same_plates first broken =
     record {
       last = broken.last;
       written = first.text ++ broken.written;
       stands = broken.stands;
       out = Appends-trans held holds last first.text broken.written first.out broken.out;
-      told = grind (arith, first-after, cut-after);
+      told = grind (arith, IsFirstText-after, IsCutText-after);
       asked = λ concerns. subst IsSome same_plates (broken.asked concerns);
     }
 
@@ -83,16 +83,16 @@ first_lines None left done first = (first.bytes, tt, ([], ap lines (sym (append-
 first_lines (Some input) left done first = let (rest, is, before) = first.ahead in (input, refl, (lines rest, before))
 
 -- a fault comes where no line is being performed
-pub under_way-broken : (act : Act) (unread left : Option (List ℕ)) (fault : StageFault) → IsUnderWay act unread left
+pub BreaksScript-between : (act : Act) (unread left : Option (List ℕ)) (fault : StageFault) → IsUnderWay act unread left
     → (fault ≡ OutOfMemory) ⊎ (fault ≡ ReadFault) → BreaksScript act unread fault
-under_way-broken act unread left fault was between =
+BreaksScript-between act unread left fault was between =
     let (input, known, (more, first)) = first_lines unread left was.done was.first in
     record {
       input = input;
       known = known;
       such = λ s stands.
           let performed = was.performed s stands in
-          let (told, unasked) = tells-between (due_lines (limits act.before) s (lines input)) performed.last fault performed.text between
+          let (told, unasked) = TellsOfScript-between (due_lines (limits act.before) s (lines input)) performed.last fault performed.text between
           (record { done = was.done; more = more; first = first; performed = performed.performed }) in
           record {
             last = performed.last;
@@ -105,15 +105,15 @@ under_way-broken act unread left fault was between =
     }
 
 -- a fault comes before the first line
-pub BreaksScript-start : (stage : Stage) (unread held : Option (List ℕ)) → BreaksScript (act_of stage stage held held) unread OutOfMemory
-BreaksScript-start stage unread held = under_way-broken (act_of stage stage held held) unread unread OutOfMemory (under_way-start stage unread held) (inl refl)
+pub breaks_at_start : (stage : Stage) (unread held : Option (List ℕ)) → BreaksScript (act_of stage stage held held) unread OutOfMemory
+breaks_at_start stage unread held = BreaksScript-between (act_of stage stage held held) unread unread OutOfMemory (under_way-start stage unread held) (inl refl)
 
 -- a fault comes in the next line
-pub under_way-cut : (before now later : Stage) (unread left remaining held holds last : Option (List ℕ)) (line : List ℕ) (fault : StageFault)
+pub BreaksScript-line : (before now later : Stage) (unread left remaining held holds last : Option (List ℕ)) (line : List ℕ) (fault : StageFault)
     → limits now ≡ limits before → plates_of now ≡ plates_of before → IsUnderWay (act_of before now held holds) unread left
     → IsReadLine line → IfSome left (λ rest. Reads rest line remaining) → BreaksLines (act_of now later holds last) (without_ending line ∷ []) fault
     → BreaksScript (act_of before later held last) unread fault
-under_way-cut before now later unread left remaining held holds last line fault same same_plates was whole reads breaks =
+BreaksScript-line before now later unread left remaining held holds last line fault same same_plates was whole reads breaks =
     let one = without_ending line ∷ [] in
     let next = under_way-line unread left remaining was.done line was.first whole reads in
     let (input, known, (more, first)) = first_lines unread remaining (was.done ++ one) next in
@@ -123,18 +123,18 @@ under_way-cut before now later unread left remaining held holds last line fault 
       such = λ s stands.
           let performed = was.performed s stands in
           subst (λ ls. AreBrokenOff (act_of before later held last) s ls fault) (sym first)
-          (broken-after before now later s was.done one more fault held holds last same same_plates performed (breaks performed.last performed.stands));
+          (AreBrokenOff-after before now later s was.done one more fault held holds last same same_plates performed (breaks performed.last performed.stands));
     }
 
 -- an allocation failed before anything was done for a line
-pub nothing-done : (before after : Stage) (s : State) (line : List ℕ) (held : Option (List ℕ)) → StandsFor after s
+pub AreBrokenOff-nothing : (before after : Stage) (s : State) (line : List ℕ) (held : Option (List ℕ)) → StandsFor after s
     → AreBrokenOff (act_of before after held held) s (line ∷ []) OutOfMemory
-nothing-done before after s line held stands = grind (arith, Appends-nil)
+AreBrokenOff-nothing before after s line held stands = grind (arith, Appends-nil)
 
 -- the text of a line was cut
-pub line-cut : (act : Act) (s next : State) (line text : List ℕ) → Answers (limits act.before) s line (answer_with text next) → StandsFor act.after next
+pub AreBrokenOff-cut : (act : Act) (s next : State) (line text : List ℕ) → Answers (limits act.before) s line (answer_with text next) → StandsFor act.after next
     → GetsFront act.transcript.held act.transcript.holds text → AreBrokenOff act s (line ∷ []) WriteFault
-line-cut act s next line text answer stands (front, rest, is, out) = record {
+AreBrokenOff-cut act s next line text answer stands (front, rest, is, out) = record {
   last = next;
   written = front;
   stands = stands;
@@ -155,17 +155,17 @@ line-cut act s next line text answer stands (front, rest, is, out) = record {
 }
 
 -- a line was performed and its text was written
-line-first : (limits : Limits) (s next : State) (line text : List ℕ) → Answers limits s line (answer_with text next)
+IsFirstText-line : (limits : Limits) (s next : State) (line text : List ℕ) → Answers limits s line (answer_with text next)
     → IsFirstText (due_lines limits s (line ∷ [])) next text
-line-first limits s next line text answer =
+IsFirstText-line limits s next line text answer =
     record { done = line ∷ []; more = []; first = refl; performed = Perform-one limits s line (answer_with text next) answer }
 
 -- a line was performed and its text was written, and then the plate of what it has published fails
-pub line-published : (act : Act) (s next : State) (line text : List ℕ) (fault : StageFault)
+pub AreBrokenOff-published : (act : Act) (s next : State) (line text : List ℕ) (fault : StageFault)
     → Answers (limits act.before) s line (answer_with text next) → StandsFor act.after next → Appends act.transcript.held act.transcript.holds text
     → next.pictures.published ≡ next.pictures.accepted → IsOfPlate next.pictures.published fault → IsSome (plates_of act.before)
     → AreBrokenOff act s (line ∷ []) fault
-line-published act s next line text fault answer stands out all is some = grind (arith, line-first)
+AreBrokenOff-published act s next line text fault answer stands out all is some = grind (arith, IsFirstText-line)
 
 -- there is a plate only where plates are asked for, and where the picture is not too large for an image
 plate-made : (plates : Option Plates) (shown : List Entry) (made : Option Plate) → IsPlateIfAsked plates shown made → IsSome made
@@ -173,12 +173,12 @@ plate-made : (plates : Option Plates) (shown : List Entry) (made : Option Plate)
 plate-made plates shown made is some = grind arith
 
 -- the same of a plate that was made and not written
-pub line-unwritten : (act : Act) (s : State) (line : List ℕ) (fault : StageFault) (made : Option Publication) → HasPerformedLine act s line made
+pub AreBrokenOff-unwritten : (act : Act) (s : State) (line : List ℕ) (fault : StageFault) (made : Option Publication) → HasPerformedLine act s line made
     → IsSomeAnd made (λ publication. (fault ≡ PlateFault publication.revision) × IsSome publication.plate) → AreBrokenOff act s (line ∷ []) fault
-line-unwritten act s line fault None done is = absurd is
-line-unwritten act s line fault (Some publication) done (is, some) =
+AreBrokenOff-unwritten act s line fault None done is = absurd is
+AreBrokenOff-unwritten act s line fault (Some publication) done (is, some) =
     let (given, of_list) = done.made_is in
     let all = published-all (limits act.before) s line (answer_with done.text done.next) done.answer given in
     let (asked, fits) = plate-made (plates_of act.before) done.next.pictures.published publication.plate of_list.plate some in
-    line-published act s done.next line done.text fault done.answer done.stands done.out all
+    AreBrokenOff-published act s done.next line done.text fault done.answer done.stands done.out all
     (subst (IsOfPlate done.next.pictures.published) (sym is) (sym of_list.revision, fits)) asked

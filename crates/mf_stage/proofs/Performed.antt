@@ -43,10 +43,10 @@ read_to_publish line read given refused = (λ is. rw is at given, read_as line r
 module _ (before after : Stage) (s : State) (line text : List ℕ) (held holds : Option (List ℕ)) (given : Gives line Publish)
     (answered : HasAnswered (session_of after) text (Answers (limits (session_of before)) s line)) (out : Appends held holds text) where
   -- the publication of what was published is made of one that does
-  pub performed-published : (made : Publication) → plates_of after ≡ plates_of before
+  pub HasPerformedLine-published : (made : Publication) → plates_of after ≡ plates_of before
       → IsPublication (plates_of after) answered.next.pictures.accepted made
       → HasPerformedLine (act_of before after held holds) s line (Some made)
-  performed-published made same publication =
+  HasPerformedLine-published made same publication =
       let all = published-all _ s line (answer_with text answered.next) answered.answer given in
       record {
         text = text;

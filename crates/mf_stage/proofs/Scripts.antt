@@ -39,10 +39,10 @@ under_way-start stage unread held = record {
 }
 
 -- some lines are performed, and then others
-performed-more : (before now later : Stage) (s : State) (done more : List (List ℕ)) (held holds last : Option (List ℕ))
+PerformsFrom-more : (before now later : Stage) (s : State) (done more : List (List ℕ)) (held holds last : Option (List ℕ))
     → limits now ≡ limits before → (first : PerformsFrom (act_of before now held holds) s done)
     → PerformsFrom (act_of now later holds last) first.last more → PerformsFrom (act_of before later held last) s (done ++ more)
-performed-more before now later s done more held holds last same first second = grind (arith, Perform-append, Appends-trans)
+PerformsFrom-more before now later s done more held holds last same first second = grind (arith, Perform-append, Appends-trans)
 
 ahead-next : (unread left remaining : Option (List ℕ)) (done : List (List ℕ)) (line : List ℕ) → AreBefore unread left done
     → IfSome left (λ rest. Reads rest line remaining) → AreBefore unread remaining (done ++ without_ending line ∷ [])
@@ -73,7 +73,7 @@ under_way-next before now later unread left remaining held holds last line same 
       first = under_way-line unread left remaining was.done line was.first whole reads;
       performed = λ s stands.
           let first = was.performed s stands in
-          performed-more before now later s was.done one held holds last same first (performs first.last first.stands);
+          PerformsFrom-more before now later s was.done one held holds last same first (performs first.last first.stands);
     }
 
 -- nothing is left of the script

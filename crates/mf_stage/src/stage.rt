@@ -75,6 +75,7 @@ impl Stage {
     /// Refused with `OutOfMemory`, `ReadFault` or `WriteFault`, and where plates are asked for, with `ImageTooLarge` or `PlateFault`.
     /// `ReadFault` also comes after 18,446,744,073,709,551,615 lines. What was written by then stays; the caller discards the stage.
     /// No clause says that plates are written, or when the pace is told: tests do.
+    #[tactic(auto, using(crate::proofs::Broken::breaks_at_start))]
     pub fn perform<S: Wait + Files, R: Read + Drop, W: Write, P: Pace>(
         &mut self,
         rt: &S,

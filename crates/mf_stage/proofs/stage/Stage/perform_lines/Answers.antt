@@ -1,6 +1,6 @@
 use Rattle.std.proofs.Common.{◌∷◌, [], inr, refl, ap, subst, ◌∙◌}
 use Rattle.mf_base.proofs.Faults.{IfErr-raised}
-use Rattle.mf_stage.proofs.Broken.{under_way-broken, under_way-cut}
+use Rattle.mf_stage.proofs.Broken.{BreaksScript-between, BreaksScript-line}
 use Rattle.mf_stage.proofs.Scripts.{under_way-end, under_way-next, under_way-start}
 use Rattle.mf_stage.specs.Faults.{BreaksLines}
 use Rattle.mf_stage.specs.Lines.{without_ending}
@@ -39,7 +39,7 @@ pub returns-in_err-line-clause-begun : goal.returns-in_err-line-clause-begun
 returns-in_err-line-clause-begun g c =
     let (limits_are, identity_is, plates_are, under_way) = c.lines.invariant in
     IfErr-raised c.from_residual.result _ c.from_residual.ensures.1
-    (under_way-broken _ _ _ c.in_err-line.field-0.0 under_way c.in_err-line.ensures.fault)
+    (BreaksScript-between _ _ _ c.in_err-line.field-0.0 under_way c.in_err-line.ensures.fault)
 
 pub returns-in_err-perform_line-clause-begun : goal.returns-in_err-perform_line-clause-begun
 returns-in_err-perform_line-clause-begun g c =
@@ -49,7 +49,7 @@ returns-in_err-perform_line-clause-begun g c =
     let fault = c.in_err-perform_line.field-0.0 in
     let bare = c.without_ending.ensures ∙ ap without_ending c.deref.ensures.value in
     IfErr-raised c.from_residual-in_err-perform_line.result _ c.from_residual-in_err-perform_line.ensures.1
-    (under_way-cut c.args.self.now c.lines.self c.perform_line.new.self (g.B.Read.remaining c.args.script.now)
+    (BreaksScript-line c.args.self.now c.lines.self c.perform_line.new.self (g.B.Read.remaining c.args.script.now)
     (g.B.Read.remaining c.lines.script) (g.B.Read.remaining c.next_line.new.script) (g.W.Write.contents c.args.transcript.now) held holds
     c.in-Some.line.items fault limits_are plates_are under_way (rw c.in-Some.is at c.in_ok-line.ensures.whole) (rw c.in-Some.is at c.in_ok-line.ensures.line)
     (subst (λ l. BreaksLines (act_of c.lines.self c.perform_line.new.self held holds) (l ∷ []) fault) bare c.in_err-perform_line.ensures.begun))
@@ -57,4 +57,4 @@ returns-in_err-perform_line-clause-begun g c =
 pub returns-clause-begun : goal.returns-clause-begun
 returns-clause-begun g c =
     let (limits_are, identity_is, plates_are, under_way) = c.lines.invariant in
-    under_way-broken _ _ _ ReadFault under_way (inr refl)
+    BreaksScript-between _ _ _ ReadFault under_way (inr refl)
