@@ -1,15 +1,15 @@
 -- The characters of a file, with one more at the end.
-use Rattle.std.proofs.Common.{◌≡◌, ◌≤◌, ℕ, ℤ, List, [], ◌∷◌, ◌++◌, Some, length, refl, ap, ◌∙◌, append_assoc, length-append, arith}
+use Rattle.std.proofs.Common.{◌≡◌, ◌<◌, ◌≤◌, ◌↔◌, ℕ, ℤ, List, [], ◌∷◌, ◌++◌, Option, Some, length, refl, ap, ◌∙◌, append_assoc, length-append, arith}
 use Rattle.std.proofs.lemmas.Int.{ints}
 use Rattle.mf_rows.specs.Dots.{Dot}
 use Rattle.mf_gf.specs.declared.file.FontWords.{FontWords}
 use Rattle.mf_gf.specs.declared.file.GfFile.{GfFile}
 use Rattle.mf_gf.specs.Boxes.{box_of_pixels, join, widen}
 use Rattle.mf_gf.specs.Files.{Character, FileSoFar, Shipment, body, box_of_all, bytes_so_far, ending, file_of, file_so_far}
-use Rattle.mf_gf.specs.Files.{locator_of, locators_from, post_text, shipments, spell_after, with_character, with_characters}
-use Rattle.mf_gf.specs.Keeping.{IsAppended, Keeps, bounds_of}
+use Rattle.mf_gf.specs.Files.{last_place, locator_of, locators_from, post_text, shipments, spell_after, with_character, with_characters}
+use Rattle.mf_gf.specs.Keeping.{HasLastLocators, IsAppended, Keeps, bounds_of}
 use Rattle.mf_gf.specs.Numbers.{code_count}
-use Rattle.mf_gf.specs.Spelling.{spell}
+use Rattle.mf_gf.specs.Spelling.{pointer, spell}
 use Rattle.mf_gf.proofs.BlackBoxes.{join-assoc}
 
 -- the bytes of a character are not empty
@@ -22,12 +22,9 @@ unfolding with_characters
 with_characters-more f [] c = refl
 with_characters-more f (b ∷ cs) c = with_characters-more (with_character f b) cs c
 
-file_so_far-more : (comment : List ℕ) (cs : List Character) (c : Character) → file_so_far comment (cs ++ c ∷ []) ≡ with_character (file_so_far comment cs) c
-file_so_far-more comment cs c = with_characters-more _ cs c
-
 pub bytes_so_far-more : (comment : List ℕ) (cs : List Character) (c : Character)
     → bytes_so_far comment (cs ++ c ∷ []) ≡ bytes_so_far comment cs ++ spell_after (file_so_far comment cs) c
-bytes_so_far-more comment cs c = ap (λ (f : FileSoFar). f.bytes) (file_so_far-more comment cs c)
+bytes_so_far-more comment cs c = ap (λ (f : FileSoFar). f.bytes) (with_characters-more _ cs c)
 
 -- the shipment of a character after these bytes
 abbrev pub shipment_after : List ℕ → Character → Shipment
@@ -35,7 +32,7 @@ shipment_after bytes c = record { character = c; place = length bytes }
 
 pub shipments-more : (comment : List ℕ) (cs : List Character) (c : Character)
     → shipments comment (cs ++ c ∷ []) ≡ shipment_after (bytes_so_far comment cs) c ∷ shipments comment cs
-shipments-more comment cs c = ap (λ (f : FileSoFar). f.shipped) (file_so_far-more comment cs c)
+shipments-more comment cs c = ap (λ (f : FileSoFar). f.shipped) (with_characters-more _ cs c)
 
 pub box_of_all-more : (b : Character) (cs : List Character) (c : Character) → box_of_all (b ∷ cs ++ c ∷ []) ≡ join (box_of_all (b ∷ cs)) (box_of_pixels c.black)
 unfolding box_of_all
@@ -52,6 +49,13 @@ pub keeps-more : (before after : GfFile) (comment : List ℕ) (cs : List Charact
     → IsAppended before after (locator_of (shipment_after before.bytes.items c)) (spell_after (file_so_far comment cs) c)
     → after.bounds ≡ Some (widen before.bounds (box_of_pixels c.black)) → Keeps before comment cs → Keeps after comment (cs ++ c ∷ [])
 keeps-more before after comment cs c appended widened keeps = grind (arith, ints, bytes_so_far-more, shipments-more, length-append, bounds_of-more)
+
+-- where one more character is too long for a file, so are its bytes after those that the file has
+pub too_long_with : {P : Type 0} (file : GfFile) (c : Character) (earlier : Option ℕ)
+    → ((shipped : List Shipment) → HasLastLocators file.locators shipped → earlier ≡ last_place c.code shipped)
+    → (file.max_bytes < length (file.bytes.items ++ spell c.code (pointer earlier) c.black)) ↔ P
+    → (comment : List ℕ) (cs : List Character) → Keeps file comment cs → (file.max_bytes < length (bytes_so_far comment (cs ++ c ∷ []))) ↔ P
+too_long_with file c earlier last fits comment cs keeps = grind (arith, ints, bytes_so_far-more, last (shipments comment cs) keeps.locators)
 
 -- the bytes of a file after post: its locators and its ending
 abbrev pub bytes_after_post : FontWords → List ℕ → List Character → List ℕ

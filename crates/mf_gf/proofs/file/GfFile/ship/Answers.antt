@@ -1,11 +1,10 @@
-use Rattle.std.proofs.Common.{◌≡◌, ℕ, List, [], ◌∷◌, ◌++◌, rules, length, ap, ◌∙◌, w32, to_z, of_z, arith}
+use Rattle.std.proofs.Common.{◌≡◌, rules, length, ap, ◌∙◌, w32, to_z, of_z, arith}
 use Rattle.std.proofs.lemmas.Int.{ints}
-use Rattle.mf_gf.specs.Files.{Character, bytes_so_far, shipments}
-use Rattle.mf_gf.specs.Keeping.{Keeps, character}
+use Rattle.mf_gf.specs.Files.{shipments}
+use Rattle.mf_gf.specs.Keeping.{character}
 use Rattle.mf_gf.specs.Pixels.{black}
 use Rattle.mf_gf.specs.Spelling.{pointer, spell}
-use Rattle.mf_gf.proofs.Shipped.{keeps-more, bytes_so_far-more}
-use Rattle.mf_gf.proofs.file.GfFile.ship.Goals.{After-last_place-earlier}
+use Rattle.mf_gf.proofs.Shipped.{keeps-more, too_long_with}
 use Rattle.mf_gf.proofs.file.GfFile.ship.Goals as goal
 
 pub returns-clause-shipped : goal.returns-clause-shipped
@@ -18,20 +17,14 @@ returns-clause-shipped c = λ comment characters keeps.
     keeps-more c.args.self.now c.append.new.self comment characters (character c.args.code c.args.dx c.args.width c.args.picture.now)
     (rw (dx, width, place, spelled) at c.in_ok-append.ensures.appended) (rw c.of_black-bounds.ensures.value at c.in_ok-append.ensures.bounds) keeps
 
-whole : (c : After-last_place-earlier) (comment : List ℕ) (characters : List Character) → Keeps c.args.self.now comment characters
-    → bytes_so_far comment (characters ++ character c.args.code c.args.dx c.args.width c.args.picture.now ∷ [])
-    ≡ c.args.self.now.bytes.items ++ spell c.args.code (pointer c.last_place-earlier.result) (black c.args.picture.now)
-whole c comment characters keeps =
-    grind (arith, ints, bytes_so_far-more, c.last_place-earlier.ensures (shipments comment characters) keeps.locators)
-
 pub returns-in_err-spelled-clause-too_long : goal.returns-in_err-spelled-clause-too_long
-returns-in_err-spelled-clause-too_long c = λ comment characters keeps.
-    rw (whole (goal.at.returns-in_err-spelled-clause-too_long c).After-last_place-earlier comment characters keeps) (search rules)
+returns-in_err-spelled-clause-too_long c =
+    too_long_with _ (character c.args.code c.args.dx c.args.width c.args.picture.now) _ c.last_place-earlier.ensures (search rules)
 
 pub returns-in_err-append-clause-too_long : goal.returns-in_err-append-clause-too_long
-returns-in_err-append-clause-too_long c = λ comment characters keeps.
-    rw (whole (goal.at.returns-in_err-append-clause-too_long c).After-last_place-earlier comment characters keeps) (search rules)
+returns-in_err-append-clause-too_long c =
+    too_long_with _ (character c.args.code c.args.dx c.args.width c.args.picture.now) _ c.last_place-earlier.ensures (search rules)
 
 pub returns-clause-too_long : goal.returns-clause-too_long
-returns-clause-too_long c = λ comment characters keeps.
-    rw (whole (goal.at.returns-clause-too_long c).After-last_place-earlier comment characters keeps) (search rules)
+returns-clause-too_long c =
+    too_long_with _ (character c.args.code c.args.dx c.args.width c.args.picture.now) _ c.last_place-earlier.ensures (search rules)
