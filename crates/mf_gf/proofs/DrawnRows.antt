@@ -16,8 +16,8 @@ use Rattle.mf_gf.proofs.ReadBack.{Spells, spells_one, spells_both, strokes-spell
 use Rattle.byteorder.specs.Numbers.{big_number-reads_back}
 use Rattle.std.proofs.lemmas.Iterator.Adapters.{option_map_id}
 
--- a stretch of black pixels to which the machine can go from a position in the same row or above it
-pub record IsNext (left row column : ℤ) (r : Run) : Type 0 where
+-- a stretch of black pixels is ahead of the machine at a position: in the same row, at the column or right of it, or in a lower row
+pub record IsAhead (left row column : ℤ) (r : Run) : Type 0 where
   pub weight : r.weight ≡ pos 1
   pub field_left : least_coordinate ≤ℤ left
   pub column_left : left ≤ℤ column
@@ -28,10 +28,10 @@ pub record IsNext (left row column : ℤ) (r : Run) : Type 0 where
   pub bottom : least_coordinate ≤ℤ r.y
   pub after : r.y ≡ row → column ≤ℤ r.x
 
--- stretches of black pixels, to each of which the machine can go from the end of the one before it
-abbrev pub AreNext : ℤ → ℤ → ℤ → List Run → Type 0
-AreNext left row column [] = Unit {0}
-AreNext left row column (r ∷ rs) = IsNext left row column r × AreNext left r.y (r.x +ℤ pos r.len) rs
+-- stretches of black pixels, each of them ahead of the machine at the end of the one before it
+abbrev pub AreAhead : ℤ → ℤ → ℤ → List Run → Type 0
+AreAhead left row column [] = Unit {0}
+AreAhead left row column (r ∷ rs) = IsAhead left row column r × AreAhead left r.y (r.x +ℤ pos r.len) rs
 
 -- the machine at a row and column, in white
 abbrev white_at : ℤ → ℤ → ℤ → Machine
@@ -51,7 +51,7 @@ record Approaches (machine : Machine) (r : Run) (bytes : List ℕ) : Type 0 wher
   drawn : (others : List Stroke) → pixels_of_strokes machine (commands ++ Paint r.len ∷ others)
       ≡ dots_of r ++ pixels_of_strokes (white_at machine.left r.y (r.x +ℤ pos r.len)) others
 
-in_row : (left row column : ℤ) (r : Run) → IsNext left row column r → r.y ≡ row → Approaches (white_at left row column) r (paint (distance r.x column))
+in_row : (left row column : ℤ) (r : Run) → IsAhead left row column r → r.y ≡ row → Approaches (white_at left row column) r (paint (distance r.x column))
 unfolding pixels_of_strokes
 in_row left row column r next same =
     let after = next.after same in
@@ -62,7 +62,7 @@ in_row left row column r next same =
       drawn = λ others. draws_run left row (column +ℤ pos n) r others (sym same) (omega (arith, ints, after)) next.weight;
     }
 
-in_next_row : (left row column : ℤ) (r : Run) → IsNext left row column r → distance row r.y ≡ 1
+in_next_row : (left row column : ℤ) (r : Run) → IsAhead left row column r → distance row r.y ≡ 1
     → distance r.x left ≤ gf.most_new_row → Approaches (white_at left row column) r (new_row (distance r.x left))
 unfolding pixels_of_strokes read_stroke
 in_next_row left row column r next one few =
@@ -73,7 +73,7 @@ in_next_row left row column r next one few =
       drawn = λ others. draws_run left (row -ℤ pos 1) (left +ℤ pos n) r others (omega (arith, ints, next, one)) (omega (arith, ints, next)) next.weight;
     }
 
-in_lower_row : (left row column : ℤ) (r : Run) → IsNext left row column r → (r.y ≡ row → ⊥)
+in_lower_row : (left row column : ℤ) (r : Run) → IsAhead left row column r → (r.y ≡ row → ⊥)
     → Approaches (white_at left row column) r (skip (distance row r.y - 1) ++ paint (distance r.x left))
 unfolding pixels_of_strokes skip read_stroke
 in_lower_row left row column r next other =
@@ -87,7 +87,7 @@ in_lower_row left row column r next other =
       drawn = λ others. draws_run left (row -ℤ pos (m + 1)) (left +ℤ pos n) r others (omega (arith, ints, next, other)) (omega (arith, ints, next)) next.weight;
     }
 
-approaches : (left row column : ℤ) (r : Run) → IsNext left row column r → Approaches (white_at left row column) r (approach left row column r)
+approaches : (left row column : ℤ) (r : Run) → IsAhead left row column r → Approaches (white_at left row column) r (approach left row column r)
 approaches left row column r next = grind (arith, ints, cond_both, in_row, Decides-int_eq, and_parts, in_next_row, eqb-true, leb-true, in_lower_row)
 
 -- bytes by which the machine makes these pixels black
@@ -96,7 +96,7 @@ record Draws (machine : Machine) (bytes : List ℕ) (ds : List Dot) : Type 0 whe
   spelled : Spells bytes commands
   drawn : pixels_of_strokes machine commands ≡ ds
 
-draws_rows : (left row column : ℤ) (rs : List Run) → AreNext left row column rs
+draws_rows : (left row column : ℤ) (rs : List Run) → AreAhead left row column rs
     → Draws (white_at left row column) (stretches_text left row column rs) (flat_map dots_of rs)
 unfolding stretches_text pixels_of_strokes
 draws_rows left row column [] next = record { commands = []; spelled = grind (arith, ints, option_map_id); drawn = refl }
@@ -112,6 +112,6 @@ draws_rows left row column (r ∷ rs) next =
     }
 
 -- the same, starting at the top left corner of a box
-pub pixels_from-rows : (left top : ℤ) (rs : List Run) → AreNext left top left rs
+pub pixels_from-rows : (left top : ℤ) (rs : List Run) → AreAhead left top left rs
     → pixels_from left top (stretches_text left top left rs ++ gf.eoc ∷ []) ≡ Some (flat_map dots_of rs)
 pixels_from-rows left top rs next = grind (arith, ints, draws_rows, strokes-spelled)

@@ -117,7 +117,7 @@ module _ (all : List Run) (r : Run) (o : Option Run) (rs others : List Run) (ahe
   unfolding runs_of
   ended_at_none none = rw none (stretch_first all r [] tt (subst (λ next. IsBegun all r (with_next next others)) none so_far))
 
--- where no run is ahead, no stretch is left
-pub none_left : (o : Option Run) (rs : List Run) → o ≡ None → runs_of (flat_map dots_of (with_next o rs)) ≡ []
+-- without a next run there is no stretch
+pub no_run_no_stretch : (o : Option Run) (rs : List Run) → o ≡ None → runs_of (flat_map dots_of (with_next o rs)) ≡ []
 unfolding runs_of
-none_left o rs none = rw none refl
+no_run_no_stretch o rs none = rw none refl

@@ -72,14 +72,14 @@ end_within zero place before some = absurd (omega (arith, some))
 end_within (suc n) place before some = refl
 
 module _ (shipped : List Shipment) (fits : (code : ℕ) (s : Shipment) → last_shipment code shipped ≡ Some s → FitsFields (locator_of s)) (place before : ℕ) where
-  one_read : (code n m : ℕ) (last : Option Shipment) → suc n < m → last_shipment code shipped ≡ last
+  locators_within-more : (code n m : ℕ) (last : Option Shipment) → suc n < m → last_shipment code shipped ≡ last
       → ((k : ℕ) → n < k → locators_within k (locators_from (code + 1) n shipped ++ ending place before) ≡ Some (lasts_from (code + 1) n shipped))
       → locators_within m (locator_if (option_map locator_of last) ++ locators_from (code + 1) n shipped ++ ending place before)
       ≡ Some (with_last last (lasts_from (code + 1) n shipped))
   unfolding locators_within
-  one_read code n m None few is others = others m (omega (arith, few))
-  one_read code n zero (Some s) few is others = absurd (omega (arith, few))
-  one_read code n (suc m) (Some s) few is others =
+  locators_within-more code n m None few is others = others m (omega (arith, few))
+  locators_within-more code n zero (Some s) few is others = absurd (omega (arith, few))
+  locators_within-more code n (suc m) (Some s) few is others =
       let l = locator_of s in
       let rest = locators_from (code + 1) n shipped ++ ending place before in
       ap (λ bytes. read_on m (read_item bytes)) (append_assoc (locator_text l) (locators_from (code + 1) n shipped) (ending place before))
@@ -89,7 +89,7 @@ module _ (shipped : List Shipment) (fits : (code : ℕ) (s : Shipment) → last_
   pub within-reads : (code n m : ℕ) → n < m → locators_within m (locators_from code n shipped ++ ending place before) ≡ Some (lasts_from code n shipped)
   unfolding locators_from lasts_from
   within-reads code zero m few = end_within m place before (omega (arith, few))
-  within-reads code (suc n) m few = one_read code n m (last_shipment code shipped) few refl (λ k less. within-reads (code + 1) n k less)
+  within-reads code (suc n) m few = locators_within-more code n m (last_shipment code shipped) few refl (λ k less. within-reads (code + 1) n k less)
 
 -- ---- what the locators are
 

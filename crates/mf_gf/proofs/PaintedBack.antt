@@ -9,7 +9,7 @@ use Rattle.mf_gf.specs.Format as gf
 use Rattle.mf_gf.specs.Painting.{pixels_of_character}
 use Rattle.mf_gf.specs.Pixels.{IsPixelSet}
 use Rattle.mf_gf.specs.Spelling.{begin, spell, stretches_text}
-use Rattle.mf_gf.proofs.BlackRuns.{next_runs}
+use Rattle.mf_gf.proofs.BlackRuns.{ahead_runs}
 use Rattle.mf_gf.proofs.BoxesInRange.{box_in_range}
 use Rattle.mf_gf.proofs.BoxOfDots.{box_round_dots, paint-begin}
 use Rattle.mf_gf.proofs.DrawnRows.{pixels_from-rows}
@@ -20,7 +20,7 @@ paint-spell code p ds set =
     let b = box_of_pixels ds in
     let all = stretches_text b.min_m b.max_n b.min_m (runs_of ds) in
     let inside = box_round_dots ds set.picture in
-    let next = next_runs b.min_m b.max_n b.min_m ds inside.left (≤ℤ_refl b.min_m) inside.top inside.dots set.ones inside.columns in
+    let next = ahead_runs b.min_m b.max_n b.min_m ds inside.left (≤ℤ_refl b.min_m) inside.top inside.dots set.ones inside.columns in
     ap pixels_of_character (append_assoc (begin code p b) all (gf.eoc ∷ []))
     ∙ paint-begin code p b (all ++ gf.eoc ∷ []) (box_in_range ds set.picture)
     ∙ pixels_from-rows b.min_m b.max_n (runs_of ds) next

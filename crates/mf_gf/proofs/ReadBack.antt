@@ -38,17 +38,17 @@ from_read n next = elim next [
   ]
 ]
 
-one_read : (m n : ℕ) (bytes rest : List ℕ) (stroke : Stroke) → m ≡ 1 + n → read_stroke bytes ≡ read_as stroke rest
+strokes_within-more : (m n : ℕ) (bytes rest : List ℕ) (stroke : Stroke) → m ≡ 1 + n → read_stroke bytes ≡ read_as stroke rest
     → strokes_within m bytes ≡ option_map (λ others. stroke ∷ others) (strokes_within n rest)
 unfolding strokes_within
-one_read zero n bytes rest stroke same read = absurd (omega arith)
-one_read (suc m) n bytes rest stroke same read =
+strokes_within-more zero n bytes rest stroke same read = absurd (omega arith)
+strokes_within-more (suc m) n bytes rest stroke same read =
     let less : m ≡ n = omega arith in ap (from_read m) read ∙ ap (λ fuel. option_map (λ others. stroke ∷ others) (strokes_within fuel rest)) less
 
 pub spells_one : (bytes : List ℕ) (stroke : Stroke) → IsCommand bytes stroke → Spells bytes (stroke ∷ [])
 spells_one bytes stroke writes = record {
   few = writes.some;
-  read = λ m n rest same. one_read m n (bytes ++ rest) rest stroke same (writes.read rest);
+  read = λ m n rest same. strokes_within-more m n (bytes ++ rest) rest stroke same (writes.read rest);
 }
 
 all_of_both : (ss ts : List Stroke) (others : Option (List Stroke))

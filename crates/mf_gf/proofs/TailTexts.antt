@@ -47,7 +47,7 @@ pub kept_file : (file : GfFile) (words : FontWords) (b : CharacterBox) (comment 
 kept_file file words b comment cs some keeps = grind (arith, ints, box_of_all-some, file_of-tail, table_text-is)
 
 -- a refusal with OutOfMemory is not one with FileTooLong
-pub wanting_only : (before : GfFile) (r : Result GfBytes (GfFile × GfFault))
+pub out_of_memory_only : (before : GfFile) (r : Result GfBytes (GfFile × GfFault))
     → IfErr r (λ refused. IsSameFile before refused.0 × (refused.1 ≡ fault.OutOfMemory)) → IsRefusedAs fault.FileTooLong r → ⊥
-wanting_only before (Ok bytes) is refused = refused
-wanting_only before (Err back) is refused = let same = is.1 in cc
+out_of_memory_only before (Ok bytes) is refused = refused
+out_of_memory_only before (Err back) is refused = let same = is.1 in cc

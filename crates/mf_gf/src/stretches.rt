@@ -65,7 +65,7 @@ impl Iterator for Stretches<'_> {
     ghost remaining = { item_count stretches_ahead };
 
     #[inline(always)]
-    #[tactic(auto, using(crate::proofs::Lengthening::none_left))]
+    #[tactic(auto, using(crate::proofs::Lengthening::no_run_no_stretch))]
     fn next(&mut self) -> Option<Run> {
         let begun = self.next?;
         Some(self.lengthen(begun))

@@ -28,7 +28,7 @@ impl GfFile {
     /// Finishes the file. Its postamble has these numbers of the font. Refused with `NoCharacters` exactly where no character was
     /// shipped, else with `FileTooLong` exactly where the file would have more bytes than it may have, and with `OutOfMemory`
     /// where an allocation fails. A refusal hands the file back as it was.
-    #[tactic(auto, using(crate::proofs::TailTexts::kept_file, crate::proofs::TailTexts::wanting_only))]
+    #[tactic(auto, using(crate::proofs::TailTexts::kept_file, crate::proofs::TailTexts::out_of_memory_only))]
     pub fn finish(self, words: FontWords) -> Result<GfBytes, (GfFile, GfFault)>
         ensures finished { IfOk result (λ bytes. (comment : List ℕ) (characters : List Character)
             → Keeps self comment characters → bytes ≡ file_of words comment characters) }
