@@ -1,13 +1,13 @@
 -- The box of pixels of the field, and the bytes that begin its character, read back.
 use Rattle.std.proofs.Common.{◌≡◌, ℕ, true, ◌&&◌, ℤ, pos, negsuc, ◌-ℤ◌, ◌≤ℤ◌, unsigned_abs}
-use Rattle.std.proofs.Common.{List, [], ◌∷◌, ◌++◌, ◌<◌, Some, refl, sym, ap₂, arith}
+use Rattle.std.proofs.Common.{List, [], ◌∷◌, ◌++◌, ◌<◌, Some, drop, refl, sym, ap, arith}
 use Rattle.std.specs.List.{All}
 use Rattle.std.specs.Ordering.{int_eq}
 use Rattle.std.proofs.lemmas.Bool.{cond_both, cond-true, cond-false, and_parts, false≢true}
 use Rattle.std.proofs.lemmas.Bool.Decides.{Decides-int_eq}
 use Rattle.std.proofs.lemmas.Int.{ints}
 use Rattle.std.proofs.lemmas.List.Elements.{All-head, All-nil, All-weaker}
-use Rattle.mf_geom.specs.Coordinates.{least_coordinate, last_in_field, IsCoordinate}
+use Rattle.mf_geom.specs.Coordinates.{least_coordinate, last_in_field}
 use Rattle.byteorder.specs.Endian.{big_number, twos_complement}
 use Rattle.byteorder.specs.Numbers.{big_number-reads_back}
 use Rattle.mf_rows.specs.Bounds.{IsDotIn}
@@ -15,10 +15,9 @@ use Rattle.mf_rows.specs.Boxes.{box_of_dots}
 use Rattle.mf_rows.specs.Dots.{Dot, IsPicture, AreDotsFrom, place}
 use Rattle.mf_rows.proofs.BoxesOfDots.{least_box_of_dots, least_box_of_field}
 use Rattle.mf_gf.specs.declared.boxes.CharacterBox.{CharacterBox}
-use Rattle.mf_gf.specs.Boxes.{box_of_pixels}
+use Rattle.mf_gf.specs.Boxes.{IsBoxInRange, box_at, box_of_pixels}
 use Rattle.mf_gf.specs.Numbers.{IsWord, code_count, word}
-use Rattle.mf_gf.specs.Painting.{pixels_from, pixels_in, pixels_of_character, head_of}
-use Rattle.mf_gf.proofs.BoxesInRange.{IsBoxInRange}
+use Rattle.mf_gf.specs.Painting.{head_of, head_of_boc1, pixels_in, pixels_of_character}
 use Rattle.mf_gf.specs.Spelling.{is_byte, is_short, short_begin, long_begin, begin}
 
 -- the machine can paint pixels when it starts at the left end and the top of a box
@@ -48,49 +47,57 @@ pub word-reads_back : (z : ℤ) (rest : List ℕ) → IsWord z → twos_compleme
 word-reads_back (pos n) rest fits = grind (arith, ints, big_number-reads_back, cond-true)
 word-reads_back (negsuc n) rest fits = grind (arith, ints, big_number-reads_back, cond-false)
 
--- coordinates that the field allows are such numbers
-pub coordinate_fits : (z : ℤ) → IsCoordinate z → IsWord z
-coordinate_fits z range = omega (arith, ints, range)
+-- the numbers of a box fit into four bytes
+pub record FitsWords (b : CharacterBox) : Type 0 where
+  pub left : IsWord b.min_m
+  pub right : IsWord b.max_m
+  pub bottom : IsWord b.min_n
+  pub top : IsWord b.max_n
+
+pub box_fits_words : (b : CharacterBox) → IsBoxInRange b → FitsWords b
+box_fits_words b range = omega (arith, ints, range.columns.0, range.columns.1, range.rows.0, range.rows.1)
+
+-- such a box is read back
+pub box-reads_back : (b : CharacterBox) (rest : List ℕ) → FitsWords b
+    → box_at 0 (word b.min_m ++ word b.max_m ++ word b.min_n ++ word b.max_n ++ rest) ≡ b
+box-reads_back b rest fits =
+    let left = word-reads_back b.min_m (word b.max_m ++ word b.min_n ++ word b.max_n ++ rest) fits.left in
+    let right = word-reads_back b.max_m (word b.min_n ++ word b.max_n ++ rest) fits.right in
+    let bottom = word-reads_back b.min_n (word b.max_n ++ rest) fits.bottom in
+    let top = word-reads_back b.max_n rest fits.top in
+    λ i. record { min_m = left i; max_m = right i; min_n = bottom i; max_n = top i }
 
 byte-reads_back : (z : ℤ) → is_byte z ≡ true → pos (unsigned_abs z) ≡ z
 byte-reads_back (pos n) fits = refl
 byte-reads_back (negsuc n) fits = absurd (false≢true fits)
 
--- the numbers of a box that fits into one-byte fields are read back
-record AreReadBack (b : CharacterBox) : Type 0 where
-  left : pos (unsigned_abs b.max_m) -ℤ pos (unsigned_abs (b.max_m -ℤ b.min_m)) ≡ b.min_m
-  right : pos (unsigned_abs b.max_m) ≡ b.max_m
-  bottom : pos (unsigned_abs b.max_n) -ℤ pos (unsigned_abs (b.max_n -ℤ b.min_n)) ≡ b.min_n
-  top : pos (unsigned_abs b.max_n) ≡ b.max_n
-
-short-reads_back : (b : CharacterBox) → is_short b ≡ true → AreReadBack b
-short-reads_back b short = grind (arith, ints, and_parts, byte-reads_back)
+-- a box that fits into one-byte fields is read back
+short-reads_back : (code : ℕ) (b : CharacterBox) (rest : List ℕ) → is_short b ≡ true → (head_of_boc1 (drop 1 (short_begin code b ++ rest))).box ≡ b
+short-reads_back code b rest short =
+    let left : pos (unsigned_abs b.max_m) -ℤ pos (unsigned_abs (b.max_m -ℤ b.min_m)) ≡ b.min_m = grind (arith, ints, and_parts, byte-reads_back) in
+    let right : pos (unsigned_abs b.max_m) ≡ b.max_m = grind (arith, ints, and_parts, byte-reads_back) in
+    let bottom : pos (unsigned_abs b.max_n) -ℤ pos (unsigned_abs (b.max_n -ℤ b.min_n)) ≡ b.min_n = grind (arith, ints, and_parts, byte-reads_back) in
+    let top : pos (unsigned_abs b.max_n) ≡ b.max_n = grind (arith, ints, and_parts, byte-reads_back) in
+    λ i. record { min_m = left i; max_m = right i; min_n = bottom i; max_n = top i }
 
 -- the bytes that begin a character are read back
 pub head-begin : (code : ℕ) (p : ℤ) (b : CharacterBox) (rest : List ℕ) → code < code_count → IsWord p → IsBoxInRange b
     → head_of (begin code p b ++ rest) ≡ Some (record { code = pos code; earlier = p; box = b })
 unfolding head_of
 head-begin code p b rest fits p_fits range =
-    let all = λ (bytes : List ℕ). head_of (bytes ++ rest) ≡ Some (record { code = pos code; earlier = p; box = b }) in
-    cond_both (int_eq p (negsuc 0) && is_short b) (short_begin code b) (long_begin code p b) all
+    cond_both (int_eq p (negsuc 0) && is_short b) (short_begin code b) (long_begin code p b)
+    (λ (bytes : List ℕ). head_of (bytes ++ rest) ≡ Some (record { code = pos code; earlier = p; box = b }))
     (λ short.
     let both = and_parts (int_eq p (negsuc 0)) (is_short b) short in
     let none = sym ((Decides-int_eq p (negsuc 0)).0 both.0) in
-    let back = short-reads_back b both.1 in
-    λ t. Some (record {
-      code = pos code;
-      earlier = none t;
-      box = record { min_m = back.left t; max_m = back.right t; min_n = back.bottom t; max_n = back.top t };
-    }))
+    let box = short-reads_back code b rest both.1 in
+    λ t. Some (record { code = pos code; earlier = none t; box = box t }))
     (λ long.
     let numbers = word b.min_m ++ word b.max_m ++ word b.min_n ++ word b.max_n ++ rest in
     let code_is = word-reads_back (pos code) (word p ++ numbers) (omega (arith, ints)) in
-    let earlier_is = word-reads_back p numbers p_fits in
-    let left = word-reads_back b.min_m (word b.max_m ++ word b.min_n ++ word b.max_n ++ rest) (coordinate_fits _ range.columns.0) in
-    let right = word-reads_back b.max_m (word b.min_n ++ word b.max_n ++ rest) (coordinate_fits _ range.columns.1) in
-    let bottom = word-reads_back b.min_n (word b.max_n ++ rest) (coordinate_fits _ range.rows.0) in
-    let top = word-reads_back b.max_n rest (coordinate_fits _ range.rows.1) in
-    λ t. Some (record { code = code_is t; earlier = earlier_is t; box = record { min_m = left t; max_m = right t; min_n = bottom t; max_n = top t } }))
+    let earlier = word-reads_back p numbers p_fits in
+    let box = box-reads_back b rest (box_fits_words b range) in
+    λ t. Some (record { code = code_is t; earlier = earlier t; box = box t }))
 
 -- so the commands after them start at the left end and the top of the box
 pub paint-begin : (code : ℕ) (p : ℤ) (b : CharacterBox) (rest : List ℕ) → IsBoxInRange b
@@ -99,8 +106,5 @@ unfolding pixels_of_character
 paint-begin code p b rest range =
     cond_both (int_eq p (negsuc 0) && is_short b) (short_begin code b) (long_begin code p b)
     (λ bytes. pixels_of_character (bytes ++ rest) ≡ pixels_in b rest)
-    (λ short. let back = short-reads_back b (and_parts (int_eq p (negsuc 0)) (is_short b) short).1 in ap₂ (λ l t. pixels_from l t rest) back.left back.top)
-    (λ long.
-    ap₂ (λ l t. pixels_from l t rest)
-    (word-reads_back b.min_m (word b.max_m ++ word b.min_n ++ word b.max_n ++ rest) (coordinate_fits _ range.columns.0))
-    (word-reads_back b.max_n rest (coordinate_fits _ range.rows.1)))
+    (λ short. ap (λ box. pixels_in box rest) (short-reads_back code b rest (and_parts (int_eq p (negsuc 0)) (is_short b) short).1))
+    (λ long. ap (λ box. pixels_in box rest) (box-reads_back b rest (box_fits_words b range)))

@@ -9,8 +9,9 @@ use Rattle.mf_geom.specs.Coordinates.{least_coordinate, greatest_coordinate, las
 use Rattle.mf_rows.specs.declared.run.Run.{Run}
 use Rattle.mf_rows.specs.Dots.{Dot}
 use Rattle.mf_rows.specs.Runs.{dots_of}
+use Rattle.mf_gf.specs.declared.boxes.CharacterBox.{CharacterBox}
 use Rattle.mf_gf.specs.Format as gf
-use Rattle.mf_gf.specs.Painting.{Stroke, Paint, Skip, NewRow, Machine, pixels_of_strokes, pixels_from, read_stroke}
+use Rattle.mf_gf.specs.Painting.{Stroke, Paint, Skip, NewRow, Machine, pixels_in, pixels_of_strokes, read_stroke}
 use Rattle.mf_gf.specs.Spelling.{paint, skip, new_row, distance, approach, stretches_text}
 use Rattle.mf_gf.proofs.ReadBack.{Spells, spells_one, spells_both, strokes-spelled, writes_paint}
 use Rattle.byteorder.specs.Numbers.{big_number-reads_back}
@@ -112,6 +113,6 @@ draws_rows left row column (r ∷ rs) next =
     }
 
 -- the same, starting at the top left corner of a box
-pub pixels_from-rows : (left top : ℤ) (rs : List Run) → AreAhead left top left rs
-    → pixels_from left top (stretches_text left top left rs ++ gf.eoc ∷ []) ≡ Some (flat_map dots_of rs)
-pixels_from-rows left top rs next = grind (arith, ints, draws_rows, strokes-spelled)
+pub pixels_in-rows : (b : CharacterBox) (rs : List Run) → AreAhead b.min_m b.max_n b.min_m rs
+    → pixels_in b (stretches_text b.min_m b.max_n b.min_m rs ++ gf.eoc ∷ []) ≡ Some (flat_map dots_of rs)
+pixels_in-rows b rs next = grind (arith, ints, draws_rows, strokes-spelled)

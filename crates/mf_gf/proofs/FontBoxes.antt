@@ -6,24 +6,16 @@ use Rattle.std.proofs.lemmas.List.Elements.{All-cons, All-head, All-nil, All-tai
 use Rattle.mf_rows.proofs.BoxesJoined.{either_max, either_min}
 use Rattle.mf_gf.specs.declared.boxes.CharacterBox.{CharacterBox}
 use Rattle.mf_gf.specs.Boxes.{join}
-use Rattle.mf_gf.specs.Files.{Character, box_of_all}
-use Rattle.mf_gf.specs.FontNumbers.{IsLeastAround, IsWithin, box_of_character}
-use Rattle.mf_gf.specs.Numbers.{IsWord}
+use Rattle.mf_gf.specs.Files.{Character, box_of_all, box_of_character}
+use Rattle.mf_gf.specs.FontNumbers.{IsLeastAround, IsWithin}
 use Rattle.mf_gf.specs.Pointers.{IsShippable}
 use Rattle.mf_gf.proofs.BoxesInRange.{box_in_range}
+use Rattle.mf_gf.proofs.BoxOfDots.{FitsWords, box_fits_words}
 
 -- ---- the numbers of a box fit into four bytes
 
-pub record FitsWords (b : CharacterBox) : Type 0 where
-  pub left : IsWord b.min_m
-  pub right : IsWord b.max_m
-  pub bottom : IsWord b.min_n
-  pub top : IsWord b.max_n
-
 character_fits : (c : Character) → IsShippable c → FitsWords (box_of_character c)
-character_fits c shippable =
-    let range = box_in_range c.black shippable.black.picture in
-    omega (arith, ints, range.columns.0, range.columns.1, range.rows.0, range.rows.1)
+character_fits c shippable = box_fits_words _ (box_in_range c.black shippable.black.picture)
 
 pub all_fit : (c : Character) (cs : List Character) → All IsShippable (c ∷ cs) → FitsWords (box_of_all (c ∷ cs))
 unfolding box_of_all

@@ -16,10 +16,9 @@ use Rattle.mf_gf.specs.Files.{last_place, post_text, preamble, shipments, with_c
 use Rattle.mf_gf.specs.FontNumbers.{IsAfterEoc, comment_of, greatest_unsigned, post_at, post_of, read_post}
 use Rattle.mf_gf.specs.Numbers.{IsWord, greatest_word}
 use Rattle.mf_gf.specs.Spelling.{begin, pointer, spell, stretches_text}
-use Rattle.mf_gf.proofs.BoxOfDots.{word-reads_back}
+use Rattle.mf_gf.proofs.BoxOfDots.{FitsWords, box-reads_back, word-reads_back}
 use Rattle.mf_gf.proofs.PostFound.{post_is_found}
 use Rattle.mf_gf.proofs.Shipped.{bytes_after_post, bytes_so_far-more, file-begins, file_of-parts}
-use Rattle.mf_gf.proofs.FontBoxes.{FitsWords}
 
 -- ---- the comment
 
@@ -77,12 +76,7 @@ module _ (words : FontWords) (b : CharacterBox) (at : ℕ) (rest : List ℕ) whe
   vppp-read fits = word-reads_back words.vppp (drop 21 bytes) fits
 
   pub box-read : FitsWords b → (read_post bytes).box ≡ b
-  box-read fits =
-      let left = word-reads_back b.min_m (drop 25 bytes) fits.left in
-      let right = word-reads_back b.max_m (drop 29 bytes) fits.right in
-      let bottom = word-reads_back b.min_n (drop 33 bytes) fits.bottom in
-      let top = word-reads_back b.max_n rest fits.top in
-      λ i. record { min_m = left i; max_m = right i; min_n = bottom i; max_n = top i }
+  box-read fits = box-reads_back b rest fits
 
 -- ---- the last eoc
 

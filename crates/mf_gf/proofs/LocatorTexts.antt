@@ -1,5 +1,5 @@
 -- The bytes of locators, one code more at a time.
-use Rattle.std.proofs.Common.{◌≡◌, ◌+◌, ◌<◌, ℕ, zero, suc, List, [], ◌∷◌, ◌++◌, Option, None, option_map, length}
+use Rattle.std.proofs.Common.{◌≡◌, ◌+◌, ◌<◌, ℕ, zero, suc, List, [], ◌∷◌, ◌++◌, Option, None, length}
 use Rattle.std.proofs.Common.{slice_index_or, take, refl, ap, ap₂, sym, subst, ◌∙◌, append_assoc, arith}
 use Rattle.std.specs.List.{flat_map}
 use Rattle.std.proofs.lemmas.Grind.{flat_map-append}
@@ -7,7 +7,7 @@ use Rattle.std.proofs.lemmas.List.{append-nil, take_more}
 use Rattle.mf_gf.specs.declared.locator.Locator.{Locator}
 use Rattle.mf_gf.specs.declared.locators.Locators.{Locators}
 use Rattle.mf_gf.specs.declared.spelling.Spelling.{Spelling}
-use Rattle.mf_gf.specs.Files.{Shipment, last_shipment, locator_if, locator_of, locators_from}
+use Rattle.mf_gf.specs.Files.{Shipment, last_locator, locator_if, locators_from}
 use Rattle.mf_gf.specs.Keeping.{HasLastLocators, table_text}
 use Rattle.mf_gf.specs.Numbers.{code_count}
 use Rattle.mf_gf.specs.Spellings.{Holds}
@@ -27,10 +27,6 @@ next_code_held s text items code d within held =
     ap (flat_map locator_if) (take_more items code d within)
     ∙ flat_map-append locator_if (take code items) (last ∷ []) ∙ ap (λ more. before ++ more) (append-nil (locator_if last)) in
     subst (Holds s) (append_assoc text before (locator_if last) ∙ ap (λ bytes. text ++ bytes) (sym all)) held
-
--- the locator of the last character of a code
-abbrev pub last_locator : ℕ → List Shipment → Option Locator
-last_locator code shipped = option_map locator_of (last_shipment code shipped)
 
 -- the locators of n codes are those of the last characters with these codes
 lasts_text : (shipped : List Shipment) (items : List (Option Locator)) (code n : ℕ) → length items ≡ n

@@ -12,7 +12,7 @@ use Rattle.mf_gf.specs.Spelling.{begin, spell, stretches_text}
 use Rattle.mf_gf.proofs.BlackRuns.{ahead_runs}
 use Rattle.mf_gf.proofs.BoxesInRange.{box_in_range}
 use Rattle.mf_gf.proofs.BoxOfDots.{box_round_dots, paint-begin}
-use Rattle.mf_gf.proofs.DrawnRows.{pixels_from-rows}
+use Rattle.mf_gf.proofs.DrawnRows.{pixels_in-rows}
 
 pub paint-spell : (code : ℕ) (p : ℤ) (ds : List Dot) → IsPixelSet ds → pixels_of_character (spell code p ds) ≡ Some ds
 unfolding spell
@@ -23,5 +23,5 @@ paint-spell code p ds set =
     let next = ahead_runs b.min_m b.max_n b.min_m ds inside.left (≤ℤ_refl b.min_m) inside.top inside.dots set.ones inside.columns in
     ap pixels_of_character (append_assoc (begin code p b) all (gf.eoc ∷ []))
     ∙ paint-begin code p b (all ++ gf.eoc ∷ []) (box_in_range ds set.picture)
-    ∙ pixels_from-rows b.min_m b.max_n (runs_of ds) next
+    ∙ pixels_in-rows b (runs_of ds) next
     ∙ ap (λ dots. Some dots) (dots_of-runs_of ds)

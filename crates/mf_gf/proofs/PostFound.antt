@@ -9,13 +9,13 @@ use Rattle.std.proofs.lemmas.List.{reverse-append}
 use mathlib.Core.List.{reverse-cons}
 use Rattle.byteorder.specs.Numbers.{big_number-reads_back}
 use Rattle.mf_gf.specs.declared.file.FontWords.{FontWords}
-use Rattle.mf_gf.specs.Files.{Character, Shipment, body, box_of_all, bytes_so_far, file_of}
+use Rattle.mf_gf.specs.Files.{Character, Shipment, box_of_all, bytes_so_far, file_of}
 use Rattle.mf_gf.specs.Files.{last_shipment, locator_of, padding, post_text, shipments}
 use Rattle.mf_gf.specs.Format as gf
 use Rattle.mf_gf.specs.Numbers.{code_count, greatest_word, word}
 use Rattle.mf_gf.specs.Pointers.{locators_after, locators_of, locators_within, post_place, post_place_back}
 use Rattle.mf_gf.proofs.LocatorsRead.{FitsFields, lasts_from, within-reads}
-use Rattle.mf_gf.proofs.Shipped.{bytes_after_post, file_of-parts}
+use Rattle.mf_gf.proofs.Shipped.{bytes_after_post, bytes_to_ending, file_of-ending, file_of-parts}
 
 -- the reader passes over the padding
 padding_passed : (count : ℕ) (rest : List ℕ) → post_place_back (reverse (replicate count gf.padding_byte) ++ rest) ≡ post_place_back rest
@@ -37,8 +37,9 @@ place_found before place count short =
 
 pub post_is_found : (words : FontWords) (comment : List ℕ) (cs : List Character) → length (bytes_so_far comment cs) ≤ greatest_word
     → post_place (file_of words comment cs) ≡ Some (length (bytes_so_far comment cs))
-unfolding file_of
-post_is_found words comment cs short = place_found (body words comment cs) _ (padding (length (body words comment cs) + gf.ending_size)) short
+post_is_found words comment cs short =
+    let before = bytes_to_ending words comment cs in
+    ap post_place (file_of-ending words comment cs) ∙ place_found before _ (padding (length before + gf.ending_size)) short
 
 -- what a reader finds after post
 pub locators_found : (words : FontWords) (comment : List ℕ) (cs : List Character) → length (bytes_so_far comment cs) ≤ greatest_word
@@ -58,4 +59,4 @@ locators_found words comment cs short fits =
     ap (option_and_then (λ at. locators_after at file)) (post_is_found words comment cs short)
     ∙ cond-true (slice_index file place == 248) (locators_within (code_count + 1) (drop (place + 37) file)) None (eq-eqb _ _ opcode)
     ∙ ap (locators_within (code_count + 1)) rest
-    ∙ within-reads (shipments comment cs) fits place (length (body words comment cs)) 0 code_count (code_count + 1) (omega arith)
+    ∙ within-reads (shipments comment cs) fits place (length (bytes_to_ending words comment cs)) 0 code_count (code_count + 1) (omega arith)

@@ -5,8 +5,8 @@ use Rattle.mf_rows.specs.Dots.{Dot}
 use Rattle.mf_gf.specs.declared.file.FontWords.{FontWords}
 use Rattle.mf_gf.specs.declared.file.GfFile.{GfFile}
 use Rattle.mf_gf.specs.Boxes.{box_of_pixels, join, widen}
-use Rattle.mf_gf.specs.Files.{Character, FileSoFar, Shipment, body, box_of_all, bytes_so_far, ending, file_of, file_so_far}
-use Rattle.mf_gf.specs.Files.{last_place, locator_of, locators_from, post_text, shipments, spell_after, with_character, with_characters}
+use Rattle.mf_gf.specs.Files.{Character, FileSoFar, Shipment, box_of_all, bytes_so_far, ending, file_of, file_so_far}
+use Rattle.mf_gf.specs.Files.{last_place, locator_of, locators_from, post_text, shipments, spell_after, tail_of, with_character, with_characters}
 use Rattle.mf_gf.specs.Keeping.{HasLastLocators, IsAppended, Keeps, bounds_of}
 use Rattle.mf_gf.specs.Numbers.{code_count}
 use Rattle.mf_gf.specs.Spelling.{pointer, spell}
@@ -57,15 +57,25 @@ pub too_long_with : {P : Type 0} (file : GfFile) (c : Character) (earlier : Opti
     → (comment : List ℕ) (cs : List Character) → Keeps file comment cs → (file.max_bytes < length (bytes_so_far comment (cs ++ c ∷ []))) ↔ P
 too_long_with file c earlier last fits comment cs keeps = grind (arith, ints, bytes_so_far-more, last (shipments comment cs) keeps.locators)
 
+-- the bytes of a file up to its ending
+abbrev pub bytes_to_ending : FontWords → List ℕ → List Character → List ℕ
+bytes_to_ending words comment cs =
+    bytes_so_far comment cs ++ post_text words (box_of_all cs) (length (bytes_so_far comment cs)) ++ locators_from 0 code_count (shipments comment cs)
+
+pub file_of-ending : (words : FontWords) (comment : List ℕ) (cs : List Character) → file_of words comment cs
+    ≡ bytes_to_ending words comment cs ++ ending (length (bytes_so_far comment cs)) (length (bytes_to_ending words comment cs))
+unfolding file_of tail_of
+file_of-ending words comment cs = simp append_assoc
+
 -- the bytes of a file after post: its locators and its ending
 abbrev pub bytes_after_post : FontWords → List ℕ → List Character → List ℕ
 bytes_after_post words comment cs =
-    locators_from 0 code_count (shipments comment cs) ++ ending (length (bytes_so_far comment cs)) (length (body words comment cs))
+    locators_from 0 code_count (shipments comment cs) ++ ending (length (bytes_so_far comment cs)) (length (bytes_to_ending words comment cs))
 
 pub file_of-parts : (words : FontWords) (comment : List ℕ) (cs : List Character) → file_of words comment cs
     ≡ bytes_so_far comment cs ++ (post_text words (box_of_all cs) (length (bytes_so_far comment cs)) ++ bytes_after_post words comment cs)
-unfolding file_of
-file_of-parts words comment cs = simp append_assoc
+unfolding file_of tail_of
+file_of-parts words comment cs = refl
 
 -- a file begins with its preamble and its characters
 pub file-begins : (words : FontWords) (comment : List ℕ) (cs : List Character) → (rest : List ℕ) × (file_of words comment cs ≡ bytes_so_far comment cs ++ rest)

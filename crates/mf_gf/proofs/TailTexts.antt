@@ -1,6 +1,6 @@
 -- Bytes that are appended to a file.
 use Rattle.std.proofs.Common.{◌≡◌, ◌+◌, ◌<◌, ◌↔◌, ℕ, List, [], ◌∷◌, ◌++◌, Some, Result, Ok, Err}
-use Rattle.std.proofs.Common.{length, subst, append_assoc, length-append, arith}
+use Rattle.std.proofs.Common.{length, ap, subst, sym, ◌∙◌, append_assoc, length-append, arith}
 use Rattle.std.proofs.lemmas.Int.{ints}
 use Rattle.std.specs.Prelude.{IfErr}
 use Rattle.mf_gf.specs.declared.boxes.CharacterBox.{CharacterBox}
@@ -10,31 +10,25 @@ use Rattle.mf_gf.specs.declared.file.FontWords.{FontWords}
 use Rattle.mf_gf.specs.declared.file.GfFile.{GfFile}
 use Rattle.mf_gf.specs.declared.finished.GfBytes.{GfBytes}
 use Rattle.mf_gf.specs.declared.spelling.Spelling.{Spelling}
-use Rattle.mf_gf.specs.Files.{Character, box_of_all, bytes_so_far, ending, file_of, locators_from, post_text, shipments}
+use Rattle.mf_gf.specs.Files.{Character, box_of_all, ending, file_of, post_text, tail_of}
 use Rattle.mf_gf.specs.Keeping.{IsRefusedAs, IsSameFile, Keeps, bounds_of, table_text}
-use Rattle.mf_gf.specs.Numbers.{code_count}
 use Rattle.mf_gf.specs.Spellings.{Holds}
-use Rattle.mf_gf.specs.Tails.{tail_of}
 use Rattle.mf_gf.proofs.LocatorTexts.{table_text-is}
 
 pub tail_held : (s : Spelling) (words : FontWords) (b : CharacterBox) (place : ℕ) (bytes locators : List ℕ) → place ≡ length bytes
     → Holds s (post_text words b place ++ locators ++ ending place (place + length (post_text words b place ++ locators)))
     → Holds s (tail_of words b bytes locators)
 unfolding tail_of
-tail_held s words b place bytes locators is =
-    subst (λ (at : ℕ). Holds s (post_text words b at ++ locators ++ ending at (at + length (post_text words b at ++ locators)))) is
+tail_held s words b place bytes locators is held =
+    let numbers = post_text words b (length bytes) in
+    subst (λ n. Holds s (numbers ++ locators ++ ending (length bytes) n))
+    (sym (ap length (append_assoc bytes numbers locators) ∙ length-append bytes (numbers ++ locators)))
+    (subst (λ (at : ℕ). Holds s (post_text words b at ++ locators ++ ending at (at + length (post_text words b at ++ locators)))) is held)
 
 -- there is no room for the tail exactly where there is none for the complete file
 pub too_long_after : {P : Type 0} (room max_bytes : ℕ) (before text : List ℕ) → room + length before ≡ max_bytes
     → (room < length text) ↔ P → (max_bytes < length (before ++ text)) ↔ P
 too_long_after room max_bytes before text is fits = grind (arith, ints, length-append)
-
-file_of-tail : (words : FontWords) (comment : List ℕ) (cs : List Character)
-    → file_of words comment cs
-    ≡ bytes_so_far comment cs ++ tail_of words (box_of_all cs) (bytes_so_far comment cs) (locators_from 0 code_count (shipments comment cs))
-unfolding file_of tail_of
-file_of-tail words comment cs =
-    grind (arith, ints, append_assoc, length-append)
 
 box_of_all-some : (cs : List Character) (b : CharacterBox) → bounds_of cs ≡ Some b → box_of_all cs ≡ b
 box_of_all-some [] b is = absurd (cc)
@@ -44,7 +38,8 @@ box_of_all-some (c ∷ cs) b is = cc
 pub kept_file : (file : GfFile) (words : FontWords) (b : CharacterBox) (comment : List ℕ) (cs : List Character)
     → file.bounds ≡ Some b → Keeps file comment cs
     → file_of words comment cs ≡ file.bytes.items ++ tail_of words b file.bytes.items (table_text file.locators)
-kept_file file words b comment cs some keeps = grind (arith, ints, box_of_all-some, file_of-tail, table_text-is)
+unfolding file_of
+kept_file file words b comment cs some keeps = grind (arith, ints, box_of_all-some, table_text-is)
 
 -- a refusal with OutOfMemory is not one with FileTooLong
 pub out_of_memory_only : (before : GfFile) (r : Result GfBytes (GfFile × GfFault))

@@ -1,10 +1,12 @@
 -- The boxes of characters.
-use Rattle.std.specs.Prelude.{pos, ◌+ℤ◌, ◌-ℤ◌, List, [], ◌∷◌, Option, None, Some}
+use Rattle.std.specs.Prelude.{◌+◌, ◌*◌, ℕ, pos, ◌+ℤ◌, ◌-ℤ◌, List, [], ◌∷◌, Option, None, Some}
 use Rattle.std.specs.Int.{int_max, int_min}
+use Rattle.mf_geom.specs.Coordinates.{IsCoordinate}
 use Rattle.mf_rows.specs.declared.bounds.Box4.{Box4}
 use Rattle.mf_rows.specs.Boxes.{box_of_dots}
 use Rattle.mf_rows.specs.Dots.{Dot}
 use Rattle.mf_gf.specs.declared.boxes.CharacterBox.{CharacterBox}
+use Rattle.mf_gf.specs.Numbers.{word_at, word_size}
 
 -- the box of a character with no black pixel
 abbrev pub no_box : CharacterBox
@@ -32,6 +34,20 @@ widen (Some before) b = join before b
 unfoldable pub box_of_pixels : List Dot → CharacterBox
 box_of_pixels [] = no_box
 box_of_pixels (d ∷ ds) = character_box (box_of_dots d ds)
+
+-- the box whose numbers are in the bytes from place i: least m, greatest m, least n and greatest n, four bytes each
+abbrev pub box_at : ℕ → List ℕ → CharacterBox
+box_at i bytes = record {
+  min_m = word_at i bytes;
+  max_m = word_at (i + word_size) bytes;
+  min_n = word_at (i + 2 * word_size) bytes;
+  max_n = word_at (i + 3 * word_size) bytes;
+}
+
+-- the ends of a box are coordinates
+pub record IsBoxInRange (b : CharacterBox) : Type 0 where
+  pub columns : IsCoordinate b.min_m × IsCoordinate b.max_m
+  pub rows : IsCoordinate b.min_n × IsCoordinate b.max_n
 
 -- the box of the pixels in a box: the last column is the one before the right end
 abbrev pub pixel_box : CharacterBox → Box4

@@ -20,6 +20,10 @@ pub record Character : Type 0 where
   pub width : ℤ
   pub black : List Dot
 
+-- the box of a character: that of its black pixels
+abbrev pub box_of_character : Character → CharacterBox
+box_of_character c = box_of_pixels c.black
+
 -- the preamble: pre, the identification byte, the length of the comment, and the comment
 abbrev pub preamble : List ℕ → List ℕ
 preamble comment = gf.pre ∷ gf.id_byte ∷ length comment ∷ comment
@@ -83,12 +87,17 @@ abbrev pub locator_head : ℕ → ℤ → Option ℕ → List ℕ
 locator_head code dx (Some pixels) = gf.char_loc0 ∷ code ∷ pixels ∷ []
 locator_head code dx None = (gf.char_loc ∷ code ∷ []) ++ word dx ++ word (pos 0)
 
+-- the bytes of a locator
 abbrev pub locator_text : Locator → List ℕ
 locator_text l = locator_head l.code l.dx (short_dx l.dx) ++ word l.width ++ word (pos l.place)
 
 -- the locator of a shipped character
 abbrev pub locator_of : Shipment → Locator
 locator_of s = record { code = s.character.code; dx = s.character.dx; width = s.character.width; place = s.place }
+
+-- the locator of the last character with a code, if there is one
+abbrev pub last_locator : ℕ → List Shipment → Option Locator
+last_locator code shipped = option_map locator_of (last_shipment code shipped)
 
 -- the bytes of a locator, if there is one
 abbrev pub locator_if : Option Locator → List ℕ
@@ -98,13 +107,13 @@ locator_if (Some l) = locator_text l
 -- the bytes of the locators of n codes from this one on, codes rising: each is that of the last character with its code
 unfoldable pub locators_from : ℕ → ℕ → List Shipment → List ℕ
 locators_from code zero shipped = []
-locators_from code (suc n) shipped = locator_if (option_map locator_of (last_shipment code shipped)) ++ locators_from (code + 1) n shipped
+locators_from code (suc n) shipped = locator_if (last_locator code shipped) ++ locators_from (code + 1) n shipped
 
 -- the least box around the boxes of all characters, as these are written
 unfoldable pub box_of_all : List Character → CharacterBox
 box_of_all [] = no_box
-box_of_all (c ∷ []) = box_of_pixels c.black
-box_of_all (c ∷ d ∷ cs) = join (box_of_pixels c.black) (box_of_all (d ∷ cs))
+box_of_all (c ∷ []) = box_of_character c
+box_of_all (c ∷ d ∷ cs) = join (box_of_character c) (box_of_all (d ∷ cs))
 
 -- post, with which the postamble begins: its own place, the numbers of the font, and the box of all characters
 abbrev pub post_text : FontWords → CharacterBox → ℕ → List ℕ
@@ -120,15 +129,17 @@ padding before = gf.most_padding - (before + 3) % 4
 abbrev pub ending : ℕ → ℕ → List ℕ
 ending place before = (gf.post_post ∷ []) ++ word (pos place) ++ (gf.id_byte ∷ []) ++ replicate (padding (before + gf.ending_size)) gf.padding_byte
 
--- the bytes of a file without its ending
-abbrev pub body : FontWords → List ℕ → List Character → List ℕ
-body words comment characters =
-    bytes_so_far comment characters ++ post_text words (box_of_all characters) (length (bytes_so_far comment characters))
-    ++ locators_from 0 code_count (shipments comment characters)
+-- what comes after the characters of a file whose bytes up to there are `before`: post, these locators, and the ending
+unfoldable pub tail_of : FontWords → CharacterBox → List ℕ → List ℕ → List ℕ
+tail_of words b before locators =
+    post_text words b (length before) ++ locators
+    ++ ending (length before) (length (before ++ post_text words b (length before) ++ locators))
 
 -- the bytes of the finished file of these characters
 unfoldable pub file_of : FontWords → List ℕ → List Character → List ℕ
-file_of words comment characters = body words comment characters ++ ending (length (bytes_so_far comment characters)) (length (body words comment characters))
+file_of words comment characters =
+    bytes_so_far comment characters
+    ++ tail_of words (box_of_all characters) (bytes_so_far comment characters) (locators_from 0 code_count (shipments comment characters))
 
 -- the finished file of these characters, or none where there are none
 abbrev pub file_if_any : FontWords → List ℕ → List Character → Option (List ℕ)

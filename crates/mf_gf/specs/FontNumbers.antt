@@ -4,8 +4,8 @@ use Rattle.std.specs.Prelude.{◌≡◌, ◌+◌, ◌-◌, ◌*◌, ◌==◌, �
 use Rattle.std.specs.Option.{option_and_then}
 use Rattle.mf_gf.specs.declared.boxes.CharacterBox.{CharacterBox}
 use Rattle.mf_gf.specs.declared.file.FontWords.{FontWords}
-use Rattle.mf_gf.specs.Boxes.{box_of_pixels}
-use Rattle.mf_gf.specs.Files.{Character}
+use Rattle.mf_gf.specs.Boxes.{box_at}
+use Rattle.mf_gf.specs.Files.{Character, box_of_character}
 use Rattle.mf_gf.specs.Numbers.{unsigned_at, word_at, word_size}
 use Rattle.mf_gf.specs.Pointers.{post_place}
 
@@ -33,13 +33,14 @@ abbrev pub read_post : List ℕ → Post
 read_post bytes = record {
   place = unsigned_number 0 bytes;
   words = record { ds = signed_number 1 bytes; cs = unsigned_number 2 bytes; hppp = signed_number 3 bytes; vppp = signed_number 4 bytes };
-  box = record { min_m = signed_number 5 bytes; max_m = signed_number 6 bytes; min_n = signed_number 7 bytes; max_n = signed_number 8 bytes };
+  box = box_at (1 + word_size * 5) bytes;
 }
 
+-- post (248), at a place
 abbrev pub post_at : ℕ → List ℕ → Option Post
 post_at place file = if slice_index file place == 248 then Some (read_post (drop place file)) else None
 
--- post (248), at the place that the end of the file names
+-- post, at the place that the end of the file gives
 unfoldable pub post_of : List ℕ → Option Post
 post_of file = option_and_then (λ place. post_at place file) (post_place file)
 
@@ -56,10 +57,6 @@ IsAfterEoc file place = slice_index file (place - 1) ≡ 69
 -- the greatest number of four bytes without a sign
 abbrev pub greatest_unsigned : ℕ
 greatest_unsigned = 4294967295
-
--- the box of a character
-abbrev pub box_of_character : Character → CharacterBox
-box_of_character c = box_of_pixels c.black
 
 -- a box lies in another
 pub record IsWithin (outer inner : CharacterBox) : Type 0 where

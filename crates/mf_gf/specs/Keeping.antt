@@ -1,5 +1,5 @@
 -- What a file that is being made represents.
-use Rattle.std.specs.Prelude.{◌≡◌, ◌<◌, ◌+◌, ℕ, ℤ, List, [], ◌∷◌, ◌++◌, length, slice_index_or, flat_map, Option, None, Some, option_map, Result, Ok, Err}
+use Rattle.std.specs.Prelude.{◌≡◌, ◌<◌, ◌+◌, ℕ, ℤ, List, [], ◌∷◌, ◌++◌, length, slice_index_or, flat_map, Option, None, Some, Result, Ok, Err}
 use Rattle.mf_rows.specs.Dots.{Dot}
 use Rattle.mf_gf.specs.declared.boxes.CharacterBox.{CharacterBox}
 use Rattle.mf_gf.specs.declared.fault.GfFault.{GfFault}
@@ -7,7 +7,7 @@ use Rattle.mf_gf.specs.declared.file.GfFile.{GfFile}
 use Rattle.mf_gf.specs.declared.finished.GfBytes.{GfBytes}
 use Rattle.mf_gf.specs.declared.locator.Locator.{Locator}
 use Rattle.mf_gf.specs.declared.locators.Locators.{Locators}
-use Rattle.mf_gf.specs.Files.{Character, Shipment, box_of_all, bytes_so_far, last_shipment, locator_if, locator_of, shipments}
+use Rattle.mf_gf.specs.Files.{Character, Shipment, box_of_all, bytes_so_far, last_locator, locator_if, locator_of, shipments}
 use Rattle.mf_gf.specs.Numbers.{code_count}
 use Rattle.mf_gf.specs.Pixels.{black}
 
@@ -15,13 +15,14 @@ use Rattle.mf_gf.specs.Pixels.{black}
 abbrev pub character : ℕ → ℤ → ℤ → List Dot → Character
 character code dx width ds = record { code = code; dx = dx; width = width; black = black ds }
 
+-- the box of all characters, if there is one
 abbrev pub bounds_of : List Character → Option CharacterBox
 bounds_of [] = None
 bounds_of (c ∷ cs) = Some (box_of_all (c ∷ cs))
 
 -- a table has the locator of the last character with each code
 pub record HasLastLocators (table : Locators) (shipped : List Shipment) : Type 0 where
-  pub last : (code : ℕ) → code < code_count → slice_index_or table.by_code.items code None ≡ option_map locator_of (last_shipment code shipped)
+  pub last : (code : ℕ) → code < code_count → slice_index_or table.by_code.items code None ≡ last_locator code shipped
 
 -- the bytes of the locators of a table, codes rising
 abbrev pub table_text : Locators → List ℕ

@@ -11,4 +11,3 @@ pub mod Pixels
 pub mod Pointers
 pub mod Spelling
 pub mod Spellings
-pub mod Tails

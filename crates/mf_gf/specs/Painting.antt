@@ -7,6 +7,7 @@ use Rattle.byteorder.specs.Endian.{big_number}
 use Rattle.mf_rows.specs.Dots.{Dot}
 use Rattle.mf_rows.specs.Runs.{equal_dots}
 use Rattle.mf_gf.specs.declared.boxes.CharacterBox.{CharacterBox}
+use Rattle.mf_gf.specs.Boxes.{box_at}
 use Rattle.mf_gf.specs.Numbers.{word_at, word_size}
 
 -- a painting command: paint k pixels, skip k rows and go to the one after them, or go to the next row at offset k
@@ -52,6 +53,7 @@ strokes_within (suc n) bytes = elim (read_stroke bytes) [
   ]
 ]
 
+-- the commands of a character, up to its end
 abbrev pub strokes : List ℕ → Option (List Stroke)
 strokes bytes = strokes_within (length bytes) bytes
 
@@ -62,9 +64,9 @@ pub record Machine : Type 0 where
   pub left : ℤ
   pub is_black : Bool
 
--- the machine at the beginning of a character: at the left end of the top row, and white
-abbrev pub machine_at : ℤ → ℤ → Machine
-machine_at left top = record { row = top; column = left; left = left; is_black = false }
+-- the machine at the beginning of a character with this box: at the left end of the top row, and white
+abbrev pub machine_at : CharacterBox → Machine
+machine_at b = record { row = b.max_n; column = b.min_m; left = b.min_m; is_black = false }
 
 -- the pixels that a command makes black
 abbrev pub pixels_of_stroke : Machine → Stroke → List Dot
@@ -110,25 +112,17 @@ abbrev pub head_of_boc : List ℕ → CharacterHead
 head_of_boc bytes = record {
   code = word_at 0 bytes;
   earlier = word_at word_size bytes;
-  box = record {
-    min_m = word_at (2 * word_size) bytes;
-    max_m = word_at (3 * word_size) bytes;
-    min_n = word_at (4 * word_size) bytes;
-    max_n = word_at (5 * word_size) bytes;
-  };
+  box = box_at (2 * word_size) bytes;
 }
 
--- the head of a character
+-- the head with which the bytes of a character begin
 unfoldable pub head_of : List ℕ → Option CharacterHead
 head_of [] = None
 head_of (b ∷ bytes) = if b == 68 then Some (head_of_boc1 bytes) else (if b == 67 then Some (head_of_boc bytes) else None)
 
--- the pixels that commands make black, when they start at the left end and the top of a box
-abbrev pub pixels_from : ℤ → ℤ → List ℕ → Option (List Dot)
-pixels_from left top bytes = option_map (pixels_of_strokes (machine_at left top)) (strokes bytes)
-
+-- the pixels that these bytes make black, which are the commands of a character with this box
 abbrev pub pixels_in : CharacterBox → List ℕ → Option (List Dot)
-pixels_in b bytes = pixels_from b.min_m b.max_n bytes
+pixels_in b bytes = option_map (pixels_of_strokes (machine_at b)) (strokes bytes)
 
 -- the pixels that a character makes black with the commands after its head
 unfoldable pub pixels_of_character : List ℕ → Option (List Dot)

@@ -5,8 +5,7 @@ use Rattle.std.specs.Prelude.{◌≡◌, ◌<◌, ◌≤◌, ◌+◌, ◌*◌, �
 use Rattle.std.specs.Prelude.{length, take, drop, reverse, filter, slice_index, Option, None, Some, option_map, if◌then◌else◌}
 use Rattle.std.specs.Option.{option_and_then}
 use Rattle.mf_gf.specs.declared.locator.Locator.{Locator}
-use Rattle.mf_gf.specs.Boxes.{box_of_pixels}
-use Rattle.mf_gf.specs.Files.{Character, bytes_so_far}
+use Rattle.mf_gf.specs.Files.{Character, box_of_character, bytes_so_far}
 use Rattle.mf_gf.specs.Numbers.{IsWord, code_count, greatest_word, unsigned_at, word_at, word_size}
 use Rattle.mf_gf.specs.Painting.{head_of, pixels_of_character}
 use Rattle.mf_gf.specs.Pixels.{IsPixelSet}
@@ -20,6 +19,7 @@ post_place_back [] = None
 post_place_back (b ∷ bytes) =
     if b == 223 then post_place_back bytes else (if b == 131 then Some (unsigned_at 0 (reverse (take word_size bytes))) else None)
 
+-- the place of post, which is looked for from the end of a file
 abbrev pub post_place : List ℕ → Option ℕ
 post_place file = post_place_back (reverse file)
 
@@ -68,12 +68,13 @@ locators_within (suc n) bytes = elim (read_item bytes) [
 abbrev pub locators_after : ℕ → List ℕ → Option (List Locator)
 locators_after place file = if slice_index file place == 248 then locators_within (code_count + 1) (drop (place + 37) file) else None
 
+-- the locators of a file, after post at the place that its end gives
 abbrev pub locators_of : List ℕ → Option (List Locator)
 locators_of file = option_and_then (λ place. locators_after place file) (post_place file)
 
 -- a character begins at a place with this p: its head says so, and its bytes paint its pixels
 pub record IsCharacterAt (file : List ℕ) (place : ℕ) (c : Character) (p : ℤ) : Type 0 where
-  pub head : head_of (drop place file) ≡ Some (record { code = pos c.code; earlier = p; box = box_of_pixels c.black })
+  pub head : head_of (drop place file) ≡ Some (record { code = pos c.code; earlier = p; box = box_of_character c })
   pub count : ℕ
   pub painted : pixels_of_character (take count (drop place file)) ≡ Some c.black
 

@@ -1,7 +1,7 @@
 //! The bytes of a character.
 ghost use Rattle.std.specs.Prelude.{◌≡◌, ◌&&◌, ◌-ℤ◌, ◌++◌, List, ℕ, true};
 ghost use Rattle.mf_geom.specs.Coordinates.{IsCoordinate};
-ghost use Rattle.mf_gf.specs.Boxes.{box_of_pixels};
+ghost use Rattle.mf_gf.specs.Boxes.{IsBoxInRange, box_of_pixels};
 ghost use Rattle.mf_gf.specs.Numbers.{word};
 ghost use Rattle.mf_gf.specs.Pixels.{black};
 ghost use Rattle.mf_gf.specs.Spelling.{begin, is_byte, is_short, long_begin, pointer, short_begin, spell};
@@ -66,8 +66,7 @@ fn most_bytes(picture: &Picture, bounds: &CharacterBox) -> usize {
 
 /// Begins a character: with boc1 where it is the first of its code and its box allows it, else with boc.
 fn put_begin(out: &mut Spelling, code: u8, earlier: Option<u32>, bounds: &CharacterBox)
-    requires columns { IsCoordinate bounds.now.min_m × IsCoordinate bounds.now.max_m }
-    requires rows { IsCoordinate bounds.now.min_n × IsCoordinate bounds.now.max_n }
+    requires { IsBoxInRange bounds.now }
     ensures held { (text : List ℕ) → Holds out.old text → Holds out.new (text ++ begin code (pointer earlier) bounds.now) }
     ensures room { out.new.room ≡ out.old.room }
 {
@@ -80,8 +79,7 @@ fn put_begin(out: &mut Spelling, code: u8, earlier: Option<u32>, bounds: &Charac
 
 /// Begins a character with boc1, whose fields have one byte each.
 fn put_short_begin(out: &mut Spelling, code: u8, bounds: &CharacterBox)
-    requires columns { IsCoordinate bounds.now.min_m × IsCoordinate bounds.now.max_m }
-    requires rows { IsCoordinate bounds.now.min_n × IsCoordinate bounds.now.max_n }
+    requires range { IsBoxInRange bounds.now }
     requires short { is_short bounds.now ≡ true }
     ensures held { (text : List ℕ) → Holds out.old text → Holds out.new (text ++ short_begin code bounds.now) }
     ensures room { out.new.room ≡ out.old.room }
@@ -124,8 +122,7 @@ fn put_pointer(out: &mut Spelling, earlier: Option<u32>)
 /// Whether a box fits into the one-byte fields of boc1.
 #[tactic(auto, using(crate::proofs::ShortBoxes::and_else))]
 fn is_short(bounds: &CharacterBox) -> bool
-    requires columns { IsCoordinate bounds.now.min_m × IsCoordinate bounds.now.max_m }
-    requires rows { IsCoordinate bounds.now.min_n × IsCoordinate bounds.now.max_n }
+    requires { IsBoxInRange bounds.now }
     ensures { result ≡ is_short bounds.now }
 {
     is_short_side(bounds.min_m, bounds.max_m) && is_short_side(bounds.min_n, bounds.max_n)

@@ -1,9 +1,8 @@
 //! The postamble, which ends a file: post with its numbers, the locators and the ending.
 ghost use Rattle.std.specs.Prelude.{◌≡◌, ◌⊎◌, ◌<◌, ◌≤◌, ◌↔◌, ◌+◌, ◌++◌, [], Err, IfErr, IfOk, List, None, Ok, ℕ, length};
-ghost use Rattle.mf_gf.specs.Files.{Character, IsLongFile, ending, file_if_any, file_of, post_text};
+ghost use Rattle.mf_gf.specs.Files.{Character, IsLongFile, ending, file_if_any, file_of, post_text, tail_of};
 ghost use Rattle.mf_gf.specs.Keeping.{IsRefusedAs, IsSameFile, Keeps, max_bytes_of, table_text};
 ghost use Rattle.mf_gf.specs.Spellings.{Holds};
-ghost use Rattle.mf_gf.specs.Tails.{tail_of};
 
 use super::{FontWords, GF_ID, GfFile};
 use crate::boxes::CharacterBox;

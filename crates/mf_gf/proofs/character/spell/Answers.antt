@@ -1,22 +1,17 @@
-use Rattle.mf_gf.proofs.BoxesInRange.{bounds_in_range}
+use Rattle.mf_gf.proofs.BoxesInRange.{black_box_in_range}
 use Rattle.mf_gf.proofs.Writing.{write_both, write_same}
 use Rattle.mf_gf.proofs.character.spell.Goals as goal
 use Rattle.std.proofs.Common.{refl}
 use Rattle.mf_gf.specs.Spelling.{spell}
 
-pub put_begin-requires-clause-columns : goal.put_begin-requires-clause-columns
-put_begin-requires-clause-columns c =
-    let over = c.over-stretches in (bounds_in_range over.result _ _ c.requires over.ensures.order over.ensures.stretches).columns
-
-pub put_begin-requires-clause-rows : goal.put_begin-requires-clause-rows
-put_begin-requires-clause-rows c = let over = c.over-stretches in (bounds_in_range over.result _ _ c.requires over.ensures.order over.ensures.stretches).rows
+pub put_begin-requires : goal.put_begin-requires
+put_begin-requires c = rw c.requires (black_box_in_range _ c.over-stretches.ensures.lawful)
 
 pub spell_rows-requires-clause-left : goal.spell_rows-requires-clause-left
-spell_rows-requires-clause-left c =
-    let over = c.over-stretches in (bounds_in_range over.result _ _ c.requires over.ensures.order over.ensures.stretches).columns.0
+spell_rows-requires-clause-left c = rw c.requires ((black_box_in_range _ c.over-stretches.ensures.lawful).columns.0)
 
 pub spell_rows-requires-clause-top : goal.spell_rows-requires-clause-top
-spell_rows-requires-clause-top c = let over = c.over-stretches in (bounds_in_range over.result _ _ c.requires over.ensures.order over.ensures.stretches).rows.1
+spell_rows-requires-clause-top c = rw c.requires ((black_box_in_range _ c.over-stretches.ensures.lawful).rows.1)
 
 pub returns-clause-held : goal.returns-clause-held
 unfolding spell

@@ -1,8 +1,9 @@
-use Rattle.std.proofs.Common.{◌≡◌, ◌+◌, ℕ, List, [], ◌∷◌, ◌++◌, length, replicate, pos, sym, append_assoc, length-append, arith}
+use Rattle.std.proofs.Common.{◌≡◌, ◌+◌, ℕ, List, [], ◌∷◌, ◌++◌, length, replicate, pos, sym, subst, append_assoc, length-append, arith}
 use Rattle.std.proofs.lemmas.List.{length-replicate}
-use Rattle.mf_gf.specs.Files.{IsPadded, body, bytes_so_far, ending, file_of, padding}
+use Rattle.mf_gf.specs.Files.{IsPadded, bytes_so_far, ending, padding}
 use Rattle.mf_gf.specs.Format as gf
 use Rattle.mf_gf.specs.Numbers.{word}
+use Rattle.mf_gf.proofs.Shipped.{bytes_to_ending, file_of-ending}
 use Rattle.mf_gf.proofs.laws.files_are_padded.Goals as goal
 
 length-ending : (place before : ℕ) → length (ending place before) ≡ gf.ending_size + padding (before + gf.ending_size)
@@ -24,5 +25,5 @@ is_padded text place =
     }
 
 pub returns : goal.returns
-unfolding file_of
-returns c = λ words comment characters. is_padded (body words comment characters) (length (bytes_so_far comment characters))
+returns c = λ words comment cs.
+    subst IsPadded (sym (file_of-ending words comment cs)) (is_padded (bytes_to_ending words comment cs) (length (bytes_so_far comment cs)))

@@ -1,8 +1,8 @@
 use Rattle.std.proofs.Common.{[], ◌∙◌, arith}
 use Rattle.std.proofs.lemmas.Result.{IfOk-weaker}
+use Rattle.mf_gf.specs.Files.{tail_of}
 use Rattle.mf_gf.specs.Keeping.{table_text}
 use Rattle.mf_gf.specs.Spellings.{Holds}
-use Rattle.mf_gf.specs.Tails.{tail_of}
 use Rattle.mf_gf.proofs.TailTexts.{tail_held, too_long_after}
 use Rattle.mf_gf.proofs.file.GfFile.tail.Goals as goal
 
