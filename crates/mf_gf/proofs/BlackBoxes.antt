@@ -16,8 +16,7 @@ use Rattle.mf_rows.proofs.LeastBoxes.{blank_of_weights, least_of_weights}
 use Rattle.mf_gf.specs.declared.boxes.CharacterBox.{CharacterBox}
 use Rattle.mf_gf.specs.Boxes.{no_box, character_box, join, box_of_pixels, pixel_box}
 use Rattle.mf_gf.specs.Pixels.{black}
-use Rattle.mf_gf.proofs.BlackDots.{black_picture}
-use Rattle.mf_gf.proofs.BlackWeights.{black_at}
+use Rattle.mf_gf.proofs.BlackDots.{black_at, black_picture}
 
 -- ---- joined boxes
 

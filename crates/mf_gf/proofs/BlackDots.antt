@@ -1,15 +1,16 @@
 -- The black pixels of a picture, and the runs that contain them.
-use Rattle.std.proofs.Common.{◌≡◌, ℕ, zero, suc, true, false, ℤ, pos, ◌+ℤ◌, List, [], ◌∷◌, ◌++◌, refl, sym, ap, ◌∙◌, arith}
+use Rattle.std.proofs.Common.{◌≡◌, ℕ, zero, suc, true, false, if◌then◌else◌, ℤ, pos, ◌+ℤ◌, List, [], ◌∷◌, ◌++◌, refl, sym, ap, ◌∙◌, arith}
 use Rattle.std.specs.Prelude.{int_lt}
 use Rattle.std.specs.List.{All, flat_map}
-use Rattle.std.proofs.lemmas.Bool.{cond-true, cond-false, cond_both}
+use Rattle.std.proofs.lemmas.Bool.{and_parts, cases_Bool, cond-true, cond-false, cond_both}
+use Rattle.std.proofs.lemmas.Bool.Decides.{Decides-int_eq}
 use Rattle.std.proofs.lemmas.Int.{ints}
 use Rattle.std.proofs.lemmas.List.Elements.{All-nil, All-cons}
 use Rattle.mf_rows.specs.declared.run.Run.{Run}
-use Rattle.mf_rows.specs.Dots.{Dot, IsPicture, AreDotsFrom, place, start_of_field}
+use Rattle.mf_rows.specs.Dots.{Dot, IsPicture, AreDotsFrom, place, start_of_field, weight_at}
 use Rattle.mf_rows.specs.Order.{AreRunsFrom}
 use Rattle.mf_rows.specs.Runs.{equal_dots, dots_of, runs_of}
-use Rattle.mf_rows.proofs.DotsLemmas.{dots_from-lower}
+use Rattle.mf_rows.proofs.DotsLemmas.{dots_from-lower, weight_at-before}
 use Rattle.mf_rows.proofs.RunsLemmas.{dots_of-runs_of}
 use Rattle.mf_rows.proofs.RunDots.{runs_from-lower}
 use Rattle.mf_gf.specs.Ahead.{black_runs}
@@ -45,6 +46,14 @@ black-from low (d ∷ ds) dots = grind (arith, ints, cond_both, dots_from-lower,
 
 pub black_picture : (ds : List Dot) → IsPicture ds → IsPicture (black ds)
 black_picture ds picture = record { dots = black-from start_of_field ds picture.dots }
+
+-- the weight is 1 where it was positive, else 0
+pub black_at : (low : ℤ) (ds : List Dot) (x y : ℤ) → AreDotsFrom low ds
+    → weight_at (black ds) x y ≡ (if int_lt (pos 0) (weight_at ds x y) then pos 1 else pos 0)
+unfolding black weight_at
+black_at low [] x y dots = refl
+black_at low (d ∷ ds) x y dots =
+    grind (arith, ints, cases_Bool, and_parts, Decides-int_eq, weight_at-before, black-from, black_at (place d.x d.y +ℤ pos 1) ds x y dots.2)
 
 -- ---- the black runs of a picture
 

@@ -13,7 +13,7 @@ use Rattle.mf_gf.specs.declared.boxes.CharacterBox.{CharacterBox}
 use Rattle.mf_gf.specs.Format as gf
 use Rattle.mf_gf.specs.Painting.{Stroke, Paint, Skip, NewRow, Machine, pixels_in, pixels_of_strokes, read_stroke}
 use Rattle.mf_gf.specs.Spelling.{paint, skip, new_row, distance, approach, stretches_text}
-use Rattle.mf_gf.proofs.ReadBack.{Spells, spells_one, spells_both, strokes-spelled, writes_paint}
+use Rattle.mf_gf.proofs.ReadBack.{Spells, spells_one, spells_both, strokes-eoc, writes_paint}
 use Rattle.byteorder.specs.Numbers.{big_number-reads_back}
 use Rattle.std.proofs.lemmas.Iterator.Adapters.{option_map_id}
 
@@ -115,4 +115,4 @@ draws_rows left row column (r ∷ rs) next =
 -- the same, starting at the top left corner of a box
 pub pixels_in-rows : (b : CharacterBox) (rs : List Run) → AreAhead b.min_m b.max_n b.min_m rs
     → pixels_in b (stretches_text b.min_m b.max_n b.min_m rs ++ gf.eoc ∷ []) ≡ Some (flat_map dots_of rs)
-pixels_in-rows b rs next = grind (arith, ints, draws_rows, strokes-spelled)
+pixels_in-rows b rs next = grind (arith, ints, draws_rows, strokes-eoc)

@@ -16,19 +16,13 @@ pub holds_beyond : (s : Spelling) (text other : List ℕ) → s.room < length te
 holds_beyond s text other long other_long held = grind (arith, ints)
 
 module _ (before opened placed named after : Spelling) (place written : ℕ) where
-  whole_ending : Writes before opened (gf.post_post ∷ []) → Writes opened placed (word (pos place)) → Writes placed named (gf.id_byte ∷ [])
-      → Writes named after (take (padding (place + written + gf.ending_size)) (replicate gf.most_padding gf.padding_byte))
-      → Writes before after (ending place (place + written))
-  whole_ending opens places names pads =
-      let padded = write_same _ _ _ _ (take-replicate (padding (place + written + gf.ending_size)) gf.most_padding gf.padding_byte (omega arith)) pads in
-      write_both _ _ _ _ _ (write_both _ _ _ _ _ (write_both _ _ _ _ _ opens places) names) padded
-
-  pub ending_held : Writes before opened (gf.post_post ∷ []) → Writes opened placed (word (pos place)) → Writes placed named (gf.id_byte ∷ [])
+  pub holds_ending : Writes before opened (gf.post_post ∷ []) → Writes opened placed (word (pos place)) → Writes placed named (gf.id_byte ∷ [])
       → Writes named after (take (padding (place + written + gf.ending_size)) (replicate gf.most_padding gf.padding_byte))
       → after.room ≡ before.room → written ≡ before.length
       → (text : List ℕ) → Holds before text → Holds after (text ++ ending place (place + length text))
-  ending_held opens places names pads room counts text held =
-      let all = whole_ending opens places names pads text held in
+  holds_ending opens places names pads room counts text held =
+      let padded = write_same _ _ _ _ (take-replicate (padding (place + written + gf.ending_size)) gf.most_padding gf.padding_byte (omega arith)) pads in
+      let all = write_both _ _ _ _ _ (write_both _ _ _ _ _ (write_both _ _ _ _ _ opens places) names) padded text held in
       ⊎_elim
       (λ long. holds_beyond after (text ++ ending place (place + written)) (text ++ ending place (place + length text))
       (omega (arith, length-append text (ending place (place + written)))) (omega (arith, length-append text (ending place (place + length text)))) all)

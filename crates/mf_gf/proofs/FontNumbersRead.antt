@@ -5,33 +5,30 @@ use Rattle.std.proofs.lemmas.Int.{ints}
 use Rattle.std.specs.Option.{option_and_then}
 use Rattle.std.proofs.Math.Seq.{drop-append_seam, get_or-append_seam, take-append_seam}
 use Rattle.std.proofs.lemmas.Bool.{cond-true}
-use Rattle.byteorder.specs.Numbers.{big_number-reads_back}
 use Rattle.mf_rows.specs.Dots.{Dot}
 use Rattle.mf_rows.specs.Runs.{runs_of}
-use Rattle.mf_gf.specs.declared.boxes.CharacterBox.{CharacterBox}
 use Rattle.mf_gf.specs.declared.file.FontWords.{FontWords}
 use Rattle.mf_gf.specs.Boxes.{box_of_pixels}
 use Rattle.mf_gf.specs.Files.{Character, FileSoFar, box_of_all, bytes_so_far, file_of}
 use Rattle.mf_gf.specs.Files.{last_place, post_text, preamble, shipments, with_character, with_characters}
-use Rattle.mf_gf.specs.FontNumbers.{IsAfterEoc, comment_of, greatest_unsigned, post_at, post_of, read_post}
-use Rattle.mf_gf.specs.Numbers.{IsWord, greatest_word}
+use Rattle.mf_gf.specs.FontNumbers.{IsAfterEoc, comment_of, post_at, post_of, read_post}
+use Rattle.mf_gf.specs.Numbers.{greatest_word}
 use Rattle.mf_gf.specs.Spelling.{begin, pointer, spell, stretches_text}
-use Rattle.mf_gf.proofs.BoxOfDots.{FitsWords, box-reads_back, word-reads_back}
-use Rattle.mf_gf.proofs.PostFound.{post_is_found}
+use Rattle.mf_gf.proofs.PostFound.{post_place-file}
 use Rattle.mf_gf.proofs.Shipped.{bytes_after_post, bytes_so_far-more, file-begins, file_of-parts}
 
 -- ---- the comment
 
-characters-come_after : (f : FileSoFar) (cs : List Character) → (rest : List ℕ) × ((with_characters f cs).bytes ≡ f.bytes ++ rest)
+with_characters-begins : (f : FileSoFar) (cs : List Character) → (rest : List ℕ) × ((with_characters f cs).bytes ≡ f.bytes ++ rest)
 unfolding with_characters
-characters-come_after f [] = ([], sym (append-nil f.bytes))
-characters-come_after f (c ∷ cs) = grind (arith, ints, append_assoc, characters-come_after (with_character f c) cs)
+with_characters-begins f [] = ([], sym (append-nil f.bytes))
+with_characters-begins f (c ∷ cs) = grind (arith, ints, append_assoc, with_characters-begins (with_character f c) cs)
 
-pub comment-found : (words : FontWords) (comment : List ℕ) (cs : List Character) → comment_of (file_of words comment cs) ≡ Some comment
+pub comment_of-file : (words : FontWords) (comment : List ℕ) (cs : List Character) → comment_of (file_of words comment cs) ≡ Some comment
 unfolding comment_of
-comment-found words comment cs =
+comment_of-file words comment cs =
     let begins = file-begins words comment cs in
-    let after = characters-come_after (record { bytes = preamble comment; shipped = [] }) cs in
+    let after = with_characters-begins (record { bytes = preamble comment; shipped = [] }) cs in
     ap comment_of (begins.1 ∙ ap (λ bytes. bytes ++ begins.0) after.1 ∙ append_assoc (preamble comment) after.0 begins.0)
     ∙ ap (λ it. Some it) (take-append_seam comment (after.0 ++ begins.0))
 
@@ -42,41 +39,17 @@ module _ (words : FontWords) (comment : List ℕ) (cs : List Character) where
   abbrev pub all_bytes : List ℕ
   all_bytes = post_text words (box_of_all cs) (length (bytes_so_far comment cs)) ++ bytes_after_post words comment cs
 
-  pub post-found : length (bytes_so_far comment cs) ≤ greatest_word → post_of (file_of words comment cs) ≡ Some (read_post all_bytes)
+  pub post_of-file : length (bytes_so_far comment cs) ≤ greatest_word → post_of (file_of words comment cs) ≡ Some (read_post all_bytes)
   unfolding post_of
-  post-found short =
+  post_of-file short =
       let characters = bytes_so_far comment cs in
       let place = length characters in
       let file = file_of words comment cs in
       let whole = file_of-parts words comment cs in
       let opcode : slice_index file place ≡ 248 = ap (λ bytes. slice_index bytes place) whole ∙ get_or-append_seam characters 248 _ 0 in
-      ap (option_and_then (λ at. post_at at file)) (post_is_found words comment cs short)
+      ap (option_and_then (λ at. post_at at file)) (post_place-file words comment cs short)
       ∙ cond-true (slice_index file place == 248) (Some (read_post (drop place file))) None (eq-eqb _ _ opcode)
       ∙ ap (λ bytes. Some (read_post bytes)) (ap (drop place) whole ∙ drop-append_seam characters all_bytes)
-
--- ---- its numbers
-
-module _ (words : FontWords) (b : CharacterBox) (at : ℕ) (rest : List ℕ) where
-  abbrev bytes : List ℕ
-  bytes = post_text words b at ++ rest
-
-  pub place-read : at ≤ greatest_word → (read_post bytes).place ≡ at
-  place-read short = big_number-reads_back 4 at (drop 5 bytes) (omega (arith, short))
-
-  pub ds-read : IsWord words.ds → (read_post bytes).words.ds ≡ words.ds
-  ds-read fits = word-reads_back words.ds (drop 9 bytes) fits
-
-  pub cs-read : words.cs ≤ greatest_unsigned → (read_post bytes).words.cs ≡ words.cs
-  cs-read fits = big_number-reads_back 4 words.cs (drop 13 bytes) (omega (arith, fits))
-
-  pub hppp-read : IsWord words.hppp → (read_post bytes).words.hppp ≡ words.hppp
-  hppp-read fits = word-reads_back words.hppp (drop 17 bytes) fits
-
-  pub vppp-read : IsWord words.vppp → (read_post bytes).words.vppp ≡ words.vppp
-  vppp-read fits = word-reads_back words.vppp (drop 21 bytes) fits
-
-  pub box-read : FitsWords b → (read_post bytes).box ≡ b
-  box-read fits = box-reads_back b rest fits
 
 -- ---- the last eoc
 
@@ -93,9 +66,9 @@ byte_before before more bytes last is =
     ∙ ap (λ it. slice_index it (length before)) (append_assoc before (last ∷ []) more)
     ∙ get_or-append_seam before last more 0
 
-pub eoc-found : (words : FontWords) (comment : List ℕ) (cs : List Character) (c : Character)
+pub eoc_before_post : (words : FontWords) (comment : List ℕ) (cs : List Character) (c : Character)
     → IsAfterEoc (file_of words comment (cs ++ c ∷ [])) (length (bytes_so_far comment (cs ++ c ∷ [])))
-eoc-found words comment cs c =
+eoc_before_post words comment cs c =
     let characters = bytes_so_far comment cs in
     let all = bytes_so_far comment (cs ++ c ∷ []) in
     let begins = file-begins words comment (cs ++ c ∷ []) in

@@ -81,10 +81,10 @@ unfolding equal_dots run_from
 maximal_apart r y x w zero ds some apart = absurd (omega arith)
 maximal_apart r y x w (suc n) ds some apart = grind (arith, ints, runs_of-first, maximal_runs_of)
 
-ended_before : (all : List Run) (r s : Run) (rs : List Run) → (IsAdjacent r s → ⊥) → IsBegun all r (s ∷ rs)
+ends_before : (all : List Run) (r s : Run) (rs : List Run) → (IsAdjacent r s → ⊥) → IsBegun all r (s ∷ rs)
     → runs_of (flat_map dots_of all) ≡ r ∷ runs_of (flat_map dots_of (s ∷ rs))
 unfolding dots_of
-ended_before all r s rs apart so_far =
+ends_before all r s rs apart so_far =
     let maximal =
     maximal_apart r s.y s.x s.weight s.len (flat_map dots_of rs) so_far.blacks.order.runs.2.0.some
     (λ followed. apart (record { row = sym followed.row; column = sym followed.column })) in
@@ -109,13 +109,13 @@ module _ (all : List Run) (r : Run) (o : Option Run) (rs others : List Run) (ahe
   one_more_joined s some next = lengthens all r s others next (before_run s some)
 
   -- the stretch ends where the next run does not continue it
-  pub ended_at_run : (s : Run) → o ≡ Some s → (IsAdjacent r s → ⊥) → runs_of (flat_map dots_of all) ≡ r ∷ runs_of (flat_map dots_of (with_next o others))
-  ended_at_run s some apart = rw some (ended_before all r s others apart (before_run s some))
+  pub ends_at_run : (s : Run) → o ≡ Some s → (IsAdjacent r s → ⊥) → runs_of (flat_map dots_of all) ≡ r ∷ runs_of (flat_map dots_of (with_next o others))
+  ends_at_run s some apart = rw some (ends_before all r s others apart (before_run s some))
 
   -- the stretch also ends where there is no next run
-  pub ended_at_none : o ≡ None → runs_of (flat_map dots_of all) ≡ r ∷ runs_of (flat_map dots_of (with_next o others))
+  pub ends_at_none : o ≡ None → runs_of (flat_map dots_of all) ≡ r ∷ runs_of (flat_map dots_of (with_next o others))
   unfolding runs_of
-  ended_at_none none = rw none (stretch_first all r [] tt (subst (λ next. IsBegun all r (with_next next others)) none so_far))
+  ends_at_none none = rw none (stretch_first all r [] tt (subst (λ next. IsBegun all r (with_next next others)) none so_far))
 
 -- without a next run there is no stretch
 pub no_run_no_stretch : (o : Option Run) (rs : List Run) → o ≡ None → runs_of (flat_map dots_of (with_next o rs)) ≡ []

@@ -1,7 +1,6 @@
 pub mod BlackBoxes
 pub mod BlackDots
 mod BlackRuns
-mod BlackWeights
 mod BoxOfDots
 mod BoxesInRange
 mod CharactersRead
@@ -13,7 +12,6 @@ mod FontNumbersRead
 pub mod Lengthening
 mod LocatorTexts
 mod LocatorsRead
-mod PaintedBack
 mod PostFound
 mod ReadBack
 mod Shipped

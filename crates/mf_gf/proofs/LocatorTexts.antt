@@ -13,14 +13,14 @@ use Rattle.mf_gf.specs.Numbers.{code_count}
 use Rattle.mf_gf.specs.Spellings.{Holds}
 
 -- before the first code
-pub no_code_held : (s : Spelling) (text : List ℕ) (items : List (Option Locator)) → Holds s text → Holds s (text ++ flat_map locator_if (take 0 items))
-no_code_held s text items held = subst (Holds s) (sym (append-nil text)) held
+pub holds_no_code : (s : Spelling) (text : List ℕ) (items : List (Option Locator)) → Holds s text → Holds s (text ++ flat_map locator_if (take 0 items))
+holds_no_code s text items held = subst (Holds s) (sym (append-nil text)) held
 
 -- after one more code
-pub next_code_held : (s : Spelling) (text : List ℕ) (items : List (Option Locator)) (code : ℕ) (d : Option Locator) → code < length items
+pub holds_next_code : (s : Spelling) (text : List ℕ) (items : List (Option Locator)) (code : ℕ) (d : Option Locator) → code < length items
     → Holds s (text ++ flat_map locator_if (take code items) ++ locator_if (slice_index_or items code d))
     → Holds s (text ++ flat_map locator_if (take (code + 1) items))
-next_code_held s text items code d within held =
+holds_next_code s text items code d within held =
     let before = flat_map locator_if (take code items) in
     let last = slice_index_or items code d in
     let all : flat_map locator_if (take (code + 1) items) ≡ before ++ locator_if last =

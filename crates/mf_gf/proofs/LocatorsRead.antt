@@ -142,15 +142,15 @@ lasts_rise shipped code (suc n) =
 abbrev has_code : ℕ → Locator → Bool
 has_code code l = l.code == code
 
-found_here : (code : ℕ) (s : Shipment) (last : Option Shipment) (others : List Locator) → last ≡ Some s
+has_code-here : (code : ℕ) (s : Shipment) (last : Option Shipment) (others : List Locator) → last ≡ Some s
     → s.character.code ≡ code → list_any (has_code code) (with_last last others) ≡ true
-found_here code s None others is same = absurd (cc)
-found_here code s (Some t) others is same = grind (arith, ints, eq-eqb)
+has_code-here code s None others is same = absurd (cc)
+has_code-here code s (Some t) others is same = grind (arith, ints, eq-eqb)
 
-found_later : (code : ℕ) (last : Option Shipment) (others : List Locator) → list_any (has_code code) others ≡ true
+has_code-later : (code : ℕ) (last : Option Shipment) (others : List Locator) → list_any (has_code code) others ≡ true
     → list_any (has_code code) (with_last last others) ≡ true
-found_later code None others later = later
-found_later code (Some t) others later = or_right (t.character.code == code) (list_any (has_code code) others) later
+has_code-later code None others later = later
+has_code-later code (Some t) others later = or_right (t.character.code == code) (list_any (has_code code) others) later
 
 pub lasts_have : (shipped : List Shipment) (code : ℕ) (s : Shipment) (first n : ℕ) → last_shipment code shipped ≡ Some s
     → first ≤ code → code < first + n → list_any (has_code code) (lasts_from first n shipped) ≡ true
@@ -158,8 +158,8 @@ unfolding lasts_from
 lasts_have shipped code s first zero is least most = absurd (omega (arith, least, most))
 lasts_have shipped code s first (suc n) is least most =
     ⊎_elim
-    (λ same. found_here code s (last_shipment first shipped) (lasts_from (first + 1) n shipped)
+    (λ same. has_code-here code s (last_shipment first shipped) (lasts_from (first + 1) n shipped)
     (ap (λ c. last_shipment c shipped) same ∙ is) (last_shipment-code code s shipped is))
-    (λ further. found_later code (last_shipment first shipped) (lasts_from (first + 1) n shipped)
+    (λ further. has_code-later code (last_shipment first shipped) (lasts_from (first + 1) n shipped)
     (lasts_have shipped code s (first + 1) n is (omega (arith, further)) (omega (arith, most))))
     (eq-or-lt_of_le least)

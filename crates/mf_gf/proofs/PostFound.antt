@@ -18,34 +18,34 @@ use Rattle.mf_gf.proofs.LocatorsRead.{FitsFields, lasts_from, within-reads}
 use Rattle.mf_gf.proofs.Shipped.{bytes_after_post, bytes_to_ending, file_of-ending, file_of-parts}
 
 -- the reader passes over the padding
-padding_passed : (count : ℕ) (rest : List ℕ) → post_place_back (reverse (replicate count gf.padding_byte) ++ rest) ≡ post_place_back rest
+post_place_back-padding : (count : ℕ) (rest : List ℕ) → post_place_back (reverse (replicate count gf.padding_byte) ++ rest) ≡ post_place_back rest
 unfolding post_place_back
-padding_passed zero rest = refl
-padding_passed (suc count) rest = grind (arith, ints, reverse-cons, append_assoc, padding_passed count (gf.padding_byte ∷ rest))
+post_place_back-padding zero rest = refl
+post_place_back-padding (suc count) rest = grind (arith, ints, reverse-cons, append_assoc, post_place_back-padding count (gf.padding_byte ∷ rest))
 
 -- before the padding come the place of post and the identification byte
-place_found : (before : List ℕ) (place count : ℕ) → place ≤ greatest_word
+post_place-ending : (before : List ℕ) (place count : ℕ) → place ≤ greatest_word
     → post_place (before ++ ((gf.post_post ∷ []) ++ word (pos place) ++ (gf.id_byte ∷ []) ++ replicate count gf.padding_byte)) ≡ Some place
 unfolding post_place_back
-place_found before place count short =
+post_place-ending before place count short =
     let named = (gf.post_post ∷ []) ++ word (pos place) ++ (gf.id_byte ∷ []) in
     ap post_place_back (reverse-append before (named ++ replicate count gf.padding_byte))
     ∙ ap (λ back. post_place_back (back ++ reverse before)) (reverse-append named (replicate count gf.padding_byte))
     ∙ ap post_place_back (append_assoc (reverse (replicate count gf.padding_byte)) (reverse named) (reverse before))
-    ∙ padding_passed count (reverse named ++ reverse before)
+    ∙ post_place_back-padding count (reverse named ++ reverse before)
     ∙ ap (λ n. Some n) (big_number-reads_back 4 place [] (omega (arith, short)))
 
-pub post_is_found : (words : FontWords) (comment : List ℕ) (cs : List Character) → length (bytes_so_far comment cs) ≤ greatest_word
+pub post_place-file : (words : FontWords) (comment : List ℕ) (cs : List Character) → length (bytes_so_far comment cs) ≤ greatest_word
     → post_place (file_of words comment cs) ≡ Some (length (bytes_so_far comment cs))
-post_is_found words comment cs short =
+post_place-file words comment cs short =
     let before = bytes_to_ending words comment cs in
-    ap post_place (file_of-ending words comment cs) ∙ place_found before _ (padding (length before + gf.ending_size)) short
+    ap post_place (file_of-ending words comment cs) ∙ post_place-ending before _ (padding (length before + gf.ending_size)) short
 
 -- what a reader finds after post
-pub locators_found : (words : FontWords) (comment : List ℕ) (cs : List Character) → length (bytes_so_far comment cs) ≤ greatest_word
+pub locators_of-file : (words : FontWords) (comment : List ℕ) (cs : List Character) → length (bytes_so_far comment cs) ≤ greatest_word
     → ((code : ℕ) (s : Shipment) → last_shipment code (shipments comment cs) ≡ Some s → FitsFields (locator_of s))
     → locators_of (file_of words comment cs) ≡ Some (lasts_from 0 code_count (shipments comment cs))
-locators_found words comment cs short fits =
+locators_of-file words comment cs short fits =
     let characters = bytes_so_far comment cs in
     let place = length characters in
     let numbers = post_text words (box_of_all cs) place in
@@ -56,7 +56,7 @@ locators_found words comment cs short fits =
     let rest : drop (place + 37) file ≡ after =
     ap (drop (place + 37)) (file_of-parts words comment cs ∙ sym (append_assoc characters numbers after))
     ∙ ap (λ n. drop n ((characters ++ numbers) ++ after)) (sym (length-append characters numbers)) ∙ drop-append_seam (characters ++ numbers) after in
-    ap (option_and_then (λ at. locators_after at file)) (post_is_found words comment cs short)
+    ap (option_and_then (λ at. locators_after at file)) (post_place-file words comment cs short)
     ∙ cond-true (slice_index file place == 248) (locators_within (code_count + 1) (drop (place + 37) file)) None (eq-eqb _ _ opcode)
     ∙ ap (locators_within (code_count + 1)) rest
     ∙ within-reads (shipments comment cs) fits place (length (bytes_to_ending words comment cs)) 0 code_count (code_count + 1) (omega arith)

@@ -67,9 +67,9 @@ spells_both before after ss ts first second = record {
 }
 
 -- the same with the end of the character after them
-pub strokes-spelled : (bytes : List ℕ) (commands : List Stroke) → Spells bytes commands → strokes (bytes ++ gf.eoc ∷ []) ≡ Some commands
+pub strokes-eoc : (bytes : List ℕ) (commands : List Stroke) → Spells bytes commands → strokes (bytes ++ gf.eoc ∷ []) ≡ Some commands
 unfolding strokes_within read_stroke
-strokes-spelled bytes commands spells =
+strokes-eoc bytes commands spells =
     let left = length bytes - length commands in
     spells.read (length (bytes ++ gf.eoc ∷ [])) (suc left) (gf.eoc ∷ []) (omega (arith, spells.few, length-append bytes (gf.eoc ∷ [])))
     ∙ ap (λ all. Some all) (append-nil commands)

@@ -15,11 +15,11 @@ use Rattle.mf_gf.specs.Keeping.{IsRefusedAs, IsSameFile, Keeps, bounds_of, table
 use Rattle.mf_gf.specs.Spellings.{Holds}
 use Rattle.mf_gf.proofs.LocatorTexts.{table_text-is}
 
-pub tail_held : (s : Spelling) (words : FontWords) (b : CharacterBox) (place : ℕ) (bytes locators : List ℕ) → place ≡ length bytes
+pub holds_tail : (s : Spelling) (words : FontWords) (b : CharacterBox) (place : ℕ) (bytes locators : List ℕ) → place ≡ length bytes
     → Holds s (post_text words b place ++ locators ++ ending place (place + length (post_text words b place ++ locators)))
     → Holds s (tail_of words b bytes locators)
 unfolding tail_of
-tail_held s words b place bytes locators is held =
+holds_tail s words b place bytes locators is held =
     let numbers = post_text words b (length bytes) in
     subst (λ n. Holds s (numbers ++ locators ++ ending (length bytes) n))
     (sym (ap length (append_assoc bytes numbers locators) ∙ length-append bytes (numbers ++ locators)))

@@ -27,7 +27,7 @@ pub fn head_read_back()
 {}
 
 /// The black pixels of a picture are a set of pixels of the field: exactly those of positive weight.
-#[tactic(auto, using(crate::proofs::BlackWeights::black_at))]
+#[tactic(auto, using(crate::proofs::BlackDots::black_at))]
 pub fn black_pixels_are_a_set()
     ensures set { (ds : List Dot) → IsPicture ds → IsPixelSet (black ds) }
     ensures which { (ds : List Dot) (x y : ℤ) → IsPicture ds → (weight_at (black ds) x y ≡ pos 1) ↔ (pos 0 <ℤ weight_at ds x y) }

@@ -44,7 +44,7 @@ impl Locators {
     }
 
     /// Spells all locators, codes rising.
-    #[tactic(auto, using(crate::proofs::LocatorTexts::next_code_held, crate::proofs::LocatorTexts::no_code_held))]
+    #[tactic(auto, using(crate::proofs::LocatorTexts::holds_next_code, crate::proofs::LocatorTexts::holds_no_code))]
     pub(crate) fn spell(&self, out: &mut Spelling)
         ensures held { (text : List ℕ) → Holds out.old text → Holds out.new (text ++ table_text self.now) }
         ensures room { out.new.room ≡ out.old.room }

@@ -12,7 +12,7 @@ use Rattle.mf_gf.specs.Spelling.{pointer}
 use Rattle.mf_gf.proofs.CharactersRead.{AllStand, all_before, character_of, has_last, stand_from, characters_with}
 use Rattle.mf_gf.proofs.CharactersRead.{has_last-shipped, last_is_first, last_stands, leads_back, of_code}
 use Rattle.mf_gf.proofs.LocatorsRead.{FitsFields, IsLastFrom, lasts_are_last, lasts_from, lasts_have, lasts_rise}
-use Rattle.mf_gf.proofs.PostFound.{locators_found}
+use Rattle.mf_gf.proofs.PostFound.{locators_of-file}
 use Rattle.mf_gf.proofs.Shipped.{file-begins}
 use Rattle.mf_gf.proofs.laws.characters_are_read_back.Goals as goal
 
@@ -86,7 +86,7 @@ returns c = λ words comment cs shippable.
     let shipped = shipments comment cs in
     record {
       locators = lasts_from 0 code_count shipped;
-      read = locators_found words comment cs shippable.short (readable words comment cs shippable);
+      read = locators_of-file words comment cs shippable.short (readable words comment cs shippable);
       rise = lasts_rise shipped 0 code_count;
       codes = λ code. (shipped_is_found words comment cs shippable code, found_is_shipped words comment cs shippable code);
       lead = All-weaker (IsLastFrom shipped 0) (LeadsToAll (file_of words comment cs) cs)

@@ -1,4 +1,4 @@
-use Rattle.mf_gf.proofs.PaintedBack.{paint-spell}
+use Rattle.mf_gf.proofs.CharactersRead.{paint-spell}
 use Rattle.mf_gf.proofs.laws.painted_back.Goals as goal
 
 pub returns : goal.returns

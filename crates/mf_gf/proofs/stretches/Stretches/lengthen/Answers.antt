@@ -1,6 +1,6 @@
 use Rattle.std.proofs.Common.{◌≡◌, ◌+ℤ◌, to_z, of_z, w32, ap, arith}
 use Rattle.std.proofs.lemmas.Int.{ints}
-use Rattle.mf_gf.proofs.Lengthening.{IsAdjacent, both_are_runs, one_more_joined, ended_at_run, ended_at_none, order_ahead}
+use Rattle.mf_gf.proofs.Lengthening.{IsAdjacent, both_are_runs, one_more_joined, ends_at_run, ends_at_none, order_ahead}
 use Rattle.mf_gf.proofs.stretches.Stretches.lengthen.Goals as goal
 use Rattle.mf_gf.proofs.stretches.Stretches.lengthen.Goals.{then-run-stretch-via-then-run-stretch, then-run-stretch-via-else-run-stretch+then-run-stretch-2}
 
@@ -23,7 +23,7 @@ returns-then-run-stretch-clause-order c = order_ahead _ _ _ _ _ c.next_black-sel
 pub returns-then-run-stretch-clause-stretch : goal.returns-then-run-stretch-clause-stretch
 returns-then-run-stretch-clause-stretch c =
     let (first, next) = both_are_runs _ _ _ _ _ c.next_black-self.ensures.next c.loop-self.invariant _ c.in-Some.is in
-    ended_at_run _ _ _ _ _ c.next_black-self.ensures.next c.loop-self.invariant _ c.in-Some.is (λ follows.
+    ends_at_run _ _ _ _ _ c.next_black-self.ensures.next c.loop-self.invariant _ c.in-Some.is (λ follows.
     let column : c.in-Some.run'.x ≡ to_z w32 (of_z w32 c.loop-self.stretch.x) +ℤ to_z w32 c.loop-self.stretch.len =
     omega (arith, ints, follows.column, first) in
     elim c.then-run-stretch.branch [
@@ -32,4 +32,4 @@ returns-then-run-stretch-clause-stretch c =
     ])
 
 pub returns-in_default-clause-stretch : goal.returns-in_default-clause-stretch
-returns-in_default-clause-stretch c = ended_at_none _ _ _ _ _ c.next_black-self.ensures.next c.loop-self.invariant c.in_default.is
+returns-in_default-clause-stretch c = ends_at_none _ _ _ _ _ c.next_black-self.ensures.next c.loop-self.invariant c.in_default.is
