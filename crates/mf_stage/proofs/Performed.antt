@@ -3,7 +3,7 @@ use Rattle.std.proofs.Common.{◌≡◌, ◌↔◌, ℕ, List, Option, Some, Res
 use Rattle.std.specs.Io.KnownBytes.{Appends}
 use Rattle.mf_live.specs.Entries.{Entry, picture_at, revision_at}
 use Rattle.mf_rows.specs.Dots.{Dot}
-use Rattle.mf_session.proofs.WithoutContour.{read_as}
+use Rattle.mf_session.proofs.WithoutContour.{reads_as}
 use Rattle.mf_session.specs.Answers.{Answers}
 use Rattle.mf_session.specs.Sessions.{HasAnswered, limits}
 use Rattle.mf_session.specs.States.{Answer, Limits, State, answer_with}
@@ -38,7 +38,7 @@ published-all limits s line a (inr refused) given = absurd (given_or_refused lin
 -- a line is read as the command to publish exactly where it gives that command
 pub read_to_publish : (line : List ℕ) (read : Result Command TextFault) → IfOk read (Gives line) → IfErr read (IsRefused line)
     → (read ≡ Ok Publish) ↔ Gives line Publish
-read_to_publish line read given refused = (λ is. rw is at given, read_as line read Publish tt given refused)
+read_to_publish line read given refused = (λ is. rw is at given, reads_as line read Publish tt given refused)
 
 module _ (before after : Stage) (s : State) (line text : List ℕ) (held holds : Option (List ℕ)) (given : Gives line Publish)
     (answered : HasAnswered (session_of after) text (Answers (limits (session_of before)) s line)) (out : Appends held holds text) where
