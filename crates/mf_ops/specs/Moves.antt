@@ -49,7 +49,7 @@ pub record HasPlace (f p q : ℤ) : Type 0 where
   pub start : int_min (p *ℤ f) ((p +ℤ pos 1) *ℤ f) ≤ℤ q
   pub end : (q +ℤ pos 1) ≤ℤ int_max (p *ℤ f) ((p +ℤ pos 1) *ℤ f)
 
--- the weights f after one, two or three quarter turns
+-- the weights f after one, two or three turns by 90 degrees counterclockwise
 abbrev pub turn_by : Quarter → (ℤ → ℤ → ℤ) → ℤ → ℤ → ℤ
 turn_by Once f = quarter_turn f
 turn_by Twice f = quarter_turn (quarter_turn f)
