@@ -12,10 +12,10 @@ use Rattle.mf_text.specs.declared.path.Path as paths
 use Rattle.mf_text.specs.declared.token.Mark.TheVariants as mark
 use Rattle.mf_text.specs.declared.token.Word.TheVariants as word
 use Rattle.mf_text.specs.declared.tokens.Tokens.{Tokens}
-use Rattle.mf_text.specs.Grammar.{Line, Path, path_value, Code, Name, Current, Register, Pair, pair_value}
+use Rattle.mf_text.specs.Grammar.{Line, Path, path_value, Code, Name, Current, Register, Pair, pair_value, name_token}
 use Rattle.mf_text.specs.Reads.{HasPoints, PassesPath, PassesPhrase, TakesToken, TakesValue, ahead, remaining_tokens, next_value}
 use Rattle.mf_text.specs.Rests.{Kind, Of, This, Codes, Rest, Take, OrTake, Corners, One, Or, CodeNumber}
-use Rattle.mf_text.specs.Rests.{Ends, rest_of_corner, path, follow, from, is_code_number, name_token, step, value}
+use Rattle.mf_text.specs.Rests.{Ends, rest_of_corner, path, follow, from, is_code_number, step, value}
 use Rattle.mf_text.specs.Token.{Ahead, PlacedToken, Token, column_of, letter_in, name_in, this_in, value_in}
 use Rattle.mf_text.specs.Token as token
 use Rattle.mf_text.proofs.Rests.{name_is_this, name_of, this_only}

@@ -5,7 +5,7 @@ use Rattle.mf_rows.specs.declared.sign.Sign.{Sign}
 use Rattle.mf_rows.specs.declared.sign.Sign.TheVariants.{Plus, Minus}
 use Rattle.mf_text.specs.Token as token
 use Rattle.mf_text.specs.Grammar.{Form, AddContour, AddPicture, CullKeeping, CullDropping, Clear, Move, ShowTotal}
-use Rattle.mf_text.specs.Grammar.{ShowPicture, ShowProof, ShipOut, Shifted, spell_name, spell_source, spell_signed}
+use Rattle.mf_text.specs.Grammar.{ShowPicture, ShowProof, ShipOut, Shifted, name_token, spell_source, spell_signed}
 use Rattle.mf_text.specs.Grammar.{spell_form, Name, Current, Register, Source, Null, Named}
 use Rattle.mf_text.specs.Lines.{Gives}
 use Rattle.mf_text.specs.Meaning.{Meaning, Is, If, Turns, Means, meaning, Command}
@@ -41,21 +41,13 @@ of_first : (ts us : List Token) → AreLetters (ts ++ us) → AreLetters ts
 of_first [] us all = tt
 of_first (t ∷ ts) us all = (all.0, of_first ts us all.1)
 
-of_second : (ts us : List Token) → AreLetters (ts ++ us) → AreLetters us
-of_second [] us all = all
-of_second (t ∷ ts) us all = of_second ts us all.1
-
-is_name : (name : Name) → AreLetters (spell_name name) → IsName name
-is_name Current all = tt
-is_name (Register letter) all = all.0
-
--- a name, with two phrases after it
-first_name : (name : Name) (ts us : List Token) → AreLetters (spell_name name ++ ts ++ us) → IsName name
-first_name name ts us all = is_name name (of_first _ ts (of_first _ us all))
+is_name : (name : Name) → IsLetter (name_token name) → IsName name
+is_name Current letter = tt
+is_name (Register n) letter = letter
 
 is_source : (source : Source) → AreLetters (spell_source source) → IsSource source
 is_source Null all = tt
-is_source (Named name) all = is_name name all
+is_source (Named name) all = is_name name all.0
 
 is_signed_source : (sign : Sign) (source : Source) → AreLetters (spell_signed sign source) → IsSource source
 is_signed_source Plus source all = is_source source all
@@ -73,13 +65,13 @@ names_of_meaning (If value rest) given all p = names_of_meaning rest given all p
 names_of_meaning (Turns name angle) given all p = rw p.2 all
 
 form_names : (form : Form) → AreLetters (spell_form form) → AreNamed (meaning form)
-form_names (AddContour name path weight) all = first_name name _ _ (of_first _ _ all.1)
-form_names (AddPicture name sign source) all = let called = all.1 in (first_name name _ _ called, is_signed_source sign source (of_second _ _ called))
-form_names (CullKeeping name range weight) all = first_name name _ _ (of_first _ _ all.1)
-form_names (CullDropping name range weight) all = first_name name _ _ (of_first _ _ all.1)
-form_names (Clear name) all = first_name name _ _ all
-form_names (Move name (Shifted by)) all = first_name name _ _ (of_first _ _ all)
-form_names (Move name other) all = first_name name _ _ (of_first _ _ all)
+form_names (AddContour name path weight) all = is_name name all.1.0
+form_names (AddPicture name sign source) all = (is_name name all.1.0, is_signed_source sign source all.1.1.1)
+form_names (CullKeeping name range weight) all = is_name name all.1.0
+form_names (CullDropping name range weight) all = is_name name all.1.0
+form_names (Clear name) all = is_name name all.0
+form_names (Move name (Shifted by)) all = is_name name all.0
+form_names (Move name other) all = is_name name all.0
 form_names (ShowTotal source) all = is_source source all.1.1
 form_names (ShowPicture source) all = is_source source all.1
 form_names (ShowProof source) all = is_source source all.1

@@ -9,12 +9,12 @@ use Rattle.mf_rows.specs.declared.sign.Sign.TheVariants.{Plus, Minus}
 use Rattle.mf_text.specs.declared.token.Mark.TheVariants as mark
 use Rattle.mf_text.specs.Token as token
 use Rattle.mf_text.specs.declared.token.Word.TheVariants as word
-use Rattle.mf_text.specs.Grammar.{Line, Path, Code, Name, Current, Register, Source, Null, Named, Int, Pair, Form, Nothing, AddContour}
+use Rattle.mf_text.specs.Grammar.{Line, Path, Code, Name, Current, Register, Source, Null, Named, Int, Pair, Form, Nothing, AddContour, name_token}
 use Rattle.mf_text.specs.Grammar.{AddPicture, CullKeeping, CullDropping, Clear, Move, ShowTotal, ShowPicture, ShowProof, ShipOut}
 use Rattle.mf_text.specs.Grammar.{SetCheck, PublishAll, Shifted, Scaled, XScaled, YScaled, Rotated, Transform}
 use Rattle.mf_text.specs.Rests.{Kind, Of, This, Names, Numbers, Codes, Rest, Ends, Take, OrTake, Corners, One, Or, character_code, CodeNumber}
 use Rattle.mf_text.specs.Rests.{rest_of_corner, ends, if_kind, rest_of_pair, int, is_code_number, path, source, step, value, Token, code_of, int_of}
-use Rattle.mf_text.specs.Rests.{line, line_end, name_token, assignment, int_then_end, source_then_end, transform, weight_then_end, name_in, this_in}
+use Rattle.mf_text.specs.Rests.{line, line_end, assignment, int_then_end, source_then_end, transform, weight_then_end, name_in, this_in}
 use Rattle.mf_text.proofs.ReadInts.{some_code, code_of-is, int_of-is, short_int}
 use Rattle.mf_text.proofs.TokenTexts.{same_token, token_is}
 

@@ -15,7 +15,7 @@ use Rattle.mf_text.specs.Grammar.{Line, Path, spell_form, spell_weight, spell_in
 use Rattle.mf_text.specs.Grammar.{spell_path, spell_line, Code, Name, Current, Register, Source, Null, Named, Int, Pair}
 use Rattle.mf_text.specs.Rests.{Kind, Of, This, Names, Codes, Rest, Ends, Take, OrTake, Corners, One, Or, CodeNumber, ends, if_kind}
 use Rattle.mf_text.specs.Rests.{character_code, int, is_code_number, pair, path, rest_of_corner, rest_of_pair, source, step, assignment, line, line_end}
-use Rattle.mf_text.specs.Rests.{name_token, transform, weight_then_end, Token}
+use Rattle.mf_text.specs.Rests.{transform, weight_then_end, Token}
 use Rattle.mf_text.specs.Syntax.{is_negative_code}
 use Rattle.mf_text.proofs.Rests.{HasSign, token_of, value_is, is_code_number_at, reads}
 
@@ -57,12 +57,8 @@ sound_one this = record { by = this.by }
 sound_or : {past : List Token} {u : Token} {this other : Rest} → Sound (past ++ u ∷ []) this → Sound past other → Sound past (Or u this other)
 sound_or this other = record { by = (this.by, other.by) }
 
-name_tokens : (past : List Token) (name : Name) → past ++ spell_name name ≡ past ++ name_token name ∷ []
-name_tokens past Current = refl
-name_tokens past (Register letter) = refl
-
 sound_name : {past : List Token} {next : Name → Rest} → ((name : Name) → Sound (past ++ spell_name name) (next name)) → Sound past (Take Names next)
-sound_name {past} each = record { by = λ name _. (sound_at (name_tokens past name) (each name)).by }
+sound_name each = record { by = λ name _. (each name).by }
 
 sound_or_name : {past : List Token} {next : Name → Rest} {other : Rest} → ((name : Name) → Sound (past ++ spell_name name) (next name))
     → Sound past other → Sound past (OrTake Names next other)
@@ -169,7 +165,7 @@ sound_transform : (name : Name) → Sound ((spell_name name ++ token.Mark mark.B
 sound_transform name = grind (arith, ints, sound_or, sound_pair, sound_end, append_assoc, sound_int, sound_one)
 
 sound_assignment : (name : Name) → Sound (spell_name name) (assignment name)
-sound_assignment name = sound_one (sound_or (sound_end (Clear name) refl) (sound_one (sound_at (name_tokens _ name) (sound_transform name))))
+sound_assignment name = sound_one (sound_or (sound_end (Clear name) refl) (sound_one (sound_transform name)))
 
 -- a source is one token
 source_token : (s : Source) → (t : Token)

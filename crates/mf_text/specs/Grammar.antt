@@ -35,9 +35,13 @@ abbrev pub spell_pair : Pair → List Token
 spell_pair p = spell_mark mark.Open ++ spell_int p.across ++ spell_mark mark.Comma ++ spell_int p.up ++ spell_mark mark.Close
 
 -- name: `currentpicture`, or one letter
+abbrev pub name_token : Name → Token
+name_token Current = token.Word word.CurrentPicture
+name_token (Register letter) = token.Letter letter
+
+-- a name is one token
 abbrev pub spell_name : Name → List Token
-spell_name Current = spell_word word.CurrentPicture
-spell_name (Register letter) = token.Letter letter ∷ []
+spell_name name = name_token name ∷ []
 
 -- source: name, or `nullpicture`
 abbrev pub spell_source : Source → List Token

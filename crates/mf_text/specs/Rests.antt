@@ -7,7 +7,7 @@ use Rattle.mf_text.specs.declared.token.Word.TheVariants as word
 use Rattle.mf_text.specs.declared.code.Code.{Code}
 use Rattle.mf_text.specs.Grammar.{Form, Nothing, AddContour, AddPicture, CullKeeping, CullDropping, Clear, Move, ShowTotal}
 use Rattle.mf_text.specs.Grammar.{ShowPicture, ShowProof, ShipOut, SetCheck, PublishAll, Shifted, Scaled, XScaled, YScaled}
-use Rattle.mf_text.specs.Grammar.{Rotated, Path, Line, Name, Current, Register, Source, Null, Named, Int, Pair}
+use Rattle.mf_text.specs.Grammar.{Rotated, Path, Line, Name, Source, Null, Named, Int, Pair, name_token}
 unfoldable pub use Rattle.mf_text.specs.Ints.{int_of, is_code, where_true}
 pub use Rattle.mf_text.specs.Token.{Ahead, Token, PlacedToken, name_in, this_in, value_in}
 use Rattle.mf_text.specs.Token as token
@@ -132,11 +132,6 @@ shipout =
 -- after `turningcheck`
 abbrev pub turning_check : Rest
 turning_check = One (token.Mark mark.Becomes) (int_then_end SetCheck)
-
--- the token of a name
-abbrev pub name_token : Name → Token
-name_token Current = token.Word word.CurrentPicture
-name_token (Register letter) = token.Letter letter
 
 -- after name `:=` name, where `shifted` does not come: another transform
 abbrev pub scale_or_turn : Name → Rest

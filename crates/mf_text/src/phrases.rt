@@ -1,7 +1,7 @@
 //! Phrases of lines, each passed by a function of its own. A fault is the column, in bytes from 1, at which the line goes
 //! wrong.
 ghost use Rattle.std.specs.Prelude.{◌≡◌, Ok, IfOk};
-ghost use Rattle.mf_text.specs.Grammar.{Line};
+ghost use Rattle.mf_text.specs.Grammar.{Line, name_token};
 ghost use Rattle.mf_text.specs.Reads.{Closes, LeavesNoMore, PassesPhrase, PassesPath, TakesValue, ahead, then_end, then_from, then_value};
 ghost use Rattle.mf_text.specs.Rests as rests;
 ghost use Rattle.mf_text.specs.Rests.{CodeNumber, Codes, Ends, Names, Numbers, OrTake, Rest, Take, from, value};
@@ -74,7 +74,7 @@ impl Tokens<'_> {
     /// Passes this name, which must come next.
     #[tactic(auto, using(crate::proofs::Reading::takes_same_name))]
     pub fn pass_name(&mut self, name: Name) -> Result<(), SyntaxFault>
-        ensures { (this : Rest) → from (rests.One (rests.name_token name) this) (ahead self.old) ≡ then_from (λ _. this) (ahead self.new) result }
+        ensures { (this : Rest) → from (rests.One (name_token name) this) (ahead self.old) ≡ then_from (λ _. this) (ahead self.new) result }
     {
         let mut after = *self;
         if after.takes_name() == Some(name) {
