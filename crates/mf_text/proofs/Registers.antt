@@ -5,7 +5,7 @@ use Rattle.mf_rows.specs.declared.sign.Sign.{Sign}
 use Rattle.mf_rows.specs.declared.sign.Sign.TheVariants.{Plus, Minus}
 use Rattle.mf_text.specs.Token as token
 use Rattle.mf_text.specs.Grammar.{Form, AddContour, AddPicture, CullKeeping, CullDropping, Clear, Move, ShowTotal}
-use Rattle.mf_text.specs.Grammar.{ShowPicture, ShowProof, ShipOut, Shifted, name_token, spell_source, spell_signed}
+use Rattle.mf_text.specs.Grammar.{ShowPicture, ShowProof, ShipOut, Shifted, name_token, source_token, spell_signed}
 use Rattle.mf_text.specs.Grammar.{spell_form, Name, Current, Register, Source, Null, Named}
 use Rattle.mf_text.specs.Lines.{Gives}
 use Rattle.mf_text.specs.Meaning.{Meaning, Is, If, Turns, Means, meaning, Command}
@@ -45,13 +45,13 @@ is_name : (name : Name) → IsLetter (name_token name) → IsName name
 is_name Current letter = tt
 is_name (Register n) letter = letter
 
-is_source : (source : Source) → AreLetters (spell_source source) → IsSource source
-is_source Null all = tt
-is_source (Named name) all = is_name name all.0
+is_source : (source : Source) → IsLetter (source_token source) → IsSource source
+is_source Null letter = tt
+is_source (Named name) letter = is_name name letter
 
 is_signed_source : (sign : Sign) (source : Source) → AreLetters (spell_signed sign source) → IsSource source
-is_signed_source Plus source all = is_source source all
-is_signed_source Minus source all = is_source source all.1
+is_signed_source Plus source all = is_source source all.0
+is_signed_source Minus source all = is_source source all.1.0
 
 -- the registers that the command of a meaning names are letters
 abbrev AreNamed : Meaning → Type 0
@@ -72,10 +72,10 @@ form_names (CullDropping name range weight) all = is_name name all.1.0
 form_names (Clear name) all = is_name name all.0
 form_names (Move name (Shifted by)) all = is_name name all.0
 form_names (Move name other) all = is_name name all.0
-form_names (ShowTotal source) all = is_source source all.1.1
-form_names (ShowPicture source) all = is_source source all.1
-form_names (ShowProof source) all = is_source source all.1
-form_names (ShipOut source code dx width) all = is_source source (of_first _ _ (of_first _ _ (of_first _ _ (of_first _ _ (of_first _ _ (of_first _ _ all.1))))))
+form_names (ShowTotal source) all = is_source source all.1.1.0
+form_names (ShowPicture source) all = is_source source all.1.0
+form_names (ShowProof source) all = is_source source all.1.0
+form_names (ShipOut source code dx width) all = is_source source all.1.0
 form_names form all = tt
 
 -- ---- the command of a line of bytes

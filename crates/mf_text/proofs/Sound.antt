@@ -11,8 +11,8 @@ use Rattle.mf_text.specs.Token as token
 use Rattle.mf_text.specs.declared.token.Word.TheVariants as word
 use Rattle.mf_text.specs.Grammar.{Form, Nothing, AddContour, AddPicture, CullKeeping, CullDropping, Clear, ShowTotal}
 use Rattle.mf_text.specs.Grammar.{ShowPicture, ShowProof, ShipOut, SetCheck, PublishAll}
-use Rattle.mf_text.specs.Grammar.{Line, Path, spell_form, spell_weight, spell_int, spell_pair, spell_name, spell_source, spell_corner}
-use Rattle.mf_text.specs.Grammar.{spell_path, spell_line, Code, Name, Current, Register, Source, Null, Named, Int, Pair}
+use Rattle.mf_text.specs.Grammar.{Line, Path, spell_form, spell_weight, spell_int, spell_pair, spell_name, spell_source, spell_corner, source_token}
+use Rattle.mf_text.specs.Grammar.{spell_path, spell_line, Code, Name, Source, Null, Named, Int, Pair}
 use Rattle.mf_text.specs.Rests.{Kind, Of, This, Names, Codes, Rest, Ends, Take, OrTake, Corners, One, Or, CodeNumber, ends, if_kind}
 use Rattle.mf_text.specs.Rests.{character_code, int, is_code_number, pair, path, rest_of_corner, rest_of_pair, source, step, assignment, line, line_end}
 use Rattle.mf_text.specs.Rests.{transform, weight_then_end, Token}
@@ -167,13 +167,6 @@ sound_transform name = grind (arith, ints, sound_or, sound_pair, sound_end, appe
 sound_assignment : (name : Name) → Sound (spell_name name) (assignment name)
 sound_assignment name = sound_one (sound_or (sound_end (Clear name) refl) (sound_one (sound_transform name)))
 
--- a source is one token
-source_token : (s : Source) → (t : Token)
-    × (token.Word word.Shipout ∷ [] ++ spell_source s ++ token.Word word.Code ∷ [] ++ token.Mark mark.Minus ∷ [] ≡ to_number t)
-source_token Null = (token.Word word.NullPicture, refl)
-source_token (Named Current) = (token.Word word.CurrentPicture, refl)
-source_token (Named (Register letter)) = (token.Letter letter, refl)
-
 sound_line : Sound [] line
 sound_line =
     sound_or (sound_name (λ name. sound_or (sound_path (λ p. sound_weight (AddContour name p) (λ w. refl)))
@@ -183,7 +176,7 @@ sound_line =
     (sound_one (sound_pair (λ range. sound_weight (CullDropping name range) (λ w. refl))))))
     (sound_or (sound_or (sound_source (λ s. sound_end (ShowTotal s) refl)) (sound_source (λ s. sound_end (ShowPicture s) refl)))
     (sound_or (sound_source (λ s. sound_end (ShowProof s) refl))
-    (sound_or (sound_source (λ s. sound_one (sound_code (source_token s) (λ code. sound_one (sound_int (λ dx. sound_one
+    (sound_or (sound_source (λ s. sound_one (sound_code (source_token s, refl) (λ code. sound_one (sound_int (λ dx. sound_one
     (sound_int (λ width. sound_end (ShipOut s code dx width) refl))))))))
     (sound_or (sound_one (sound_int (λ n. sound_end (SetCheck n) refl)))
     (sound_or (sound_end PublishAll refl) (sound_or_name sound_assignment (sound_end Nothing refl))))))))

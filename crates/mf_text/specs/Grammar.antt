@@ -44,9 +44,13 @@ abbrev pub spell_name : Name → List Token
 spell_name name = name_token name ∷ []
 
 -- source: name, or `nullpicture`
+abbrev pub source_token : Source → Token
+source_token Null = token.Word word.NullPicture
+source_token (Named name) = name_token name
+
+-- a source is one token
 abbrev pub spell_source : Source → List Token
-spell_source Null = spell_word word.NullPicture
-spell_source (Named name) = spell_name name
+spell_source source = source_token source ∷ []
 
 -- a source, with `-` before it where it is subtracted
 abbrev pub spell_signed : Sign → Source → List Token
