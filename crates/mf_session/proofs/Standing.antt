@@ -1,8 +1,7 @@
 -- The states that sessions represent once commands are performed.
 use Rattle.std.proofs.Common.{◌≡◌, List, [], ℕ, refl, sym, subst, arith}
-use Rattle.mf_gf.specs.declared.file.GfFile.{GfFile}
 use Rattle.mf_gf.specs.Files.{Character}
-use Rattle.mf_gf.specs.Keeping.{IsSameFile, Keeps}
+use Rattle.mf_gf.specs.Keeping.{Keeps}
 use Rattle.mf_text.specs.declared.command.Command.{Command}
 use Rattle.mf_session.specs.declared.session.Session.{Session}
 use Rattle.mf_session.specs.Answers.{AnswersTo}
@@ -31,8 +30,3 @@ HasAnswered-same_file before after command text same answers =
       answer = answers characters;
       stands = record { pictures = refl; check = refl; file = subst (λ file. Keeps file [] characters) (sym same) keeps };
     })
-
--- a file that has not changed keeps what it kept
-pub keeps-same : (before after : GfFile) (comment : List ℕ) (characters : List Character) → IsSameFile before after
-    → Keeps before comment characters → Keeps after comment characters
-keeps-same before after comment characters same keeps = grind (arith, sym)

@@ -1,11 +1,11 @@
-use Rattle.std.proofs.Common.{rules, ◌≡◌, ◌<◌, Err, inl, inr, length, refl, [], ◌∷◌, ◌++◌, codes, decimal, ap, w32, to_z, of_z, arith}
+use Rattle.std.proofs.Common.{rules, ◌≡◌, ◌<◌, Err, inl, inr, length, refl, [], ◌∷◌, ◌++◌, codes, decimal, ap, sym, w32, to_z, of_z, arith}
 use Rattle.std.proofs.lemmas.Int.{ints}
 use Rattle.std.proofs.lemmas.Result.{IfOk-weaker}
 use Rattle.mf_gf.specs.Files.{bytes_so_far}
 use Rattle.mf_gf.specs.Keeping.{Keeps, character, max_bytes_of}
 use Rattle.mf_session.specs.Pictures.{source_picture}
 use Rattle.mf_session.specs.Variables.{pictures}
-use Rattle.mf_session.proofs.Standing.{keeps-same, in_each_state, state_of}
+use Rattle.mf_session.proofs.Standing.{in_each_state, state_of}
 use Rattle.mf_session.proofs.session.Session.ship.Goals as goal
 
 pub returns-in-Ok-clause-answer : goal.returns-in-Ok-clause-answer
@@ -36,6 +36,6 @@ returns-in-Err-FileTooLong-clause-answer c =
     record {
       next = state_of c.args.self.now characters;
       answer = inl (record { too_long = long; is = rw printed refl });
-      stands = record { pictures = refl; check = refl; file = keeps-same _ _ [] characters c.in-Err-FileTooLong.ensures.unchanged kept };
+      stands = record { pictures = refl; check = refl; file = grind (arith, sym, c.in-Err-FileTooLong.ensures.unchanged, kept) };
     }))
     c.refusal_line.ensures
