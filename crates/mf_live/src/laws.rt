@@ -88,6 +88,7 @@ pub fn notice_is_published(notice: &Notice)
 /// Take a look and a notice of one picture: the events that one of them knows are a prefix of those that the other knows, and the
 /// list of the one is a whole prefix of the list of the other. So a look at a picture that was closed shows nothing that its
 /// writer has not published: the notice of the end has all of that.
+#[tactic(auto, using(crate::proofs::Looking::one_lists, std::proofs::lemmas::Bool::cases_lt))]
 pub fn one_history(look: &Look, notice: &Notice)
     requires { viewers.notice_identity notice.now ≡ viewers.look_identity look.now }
     ensures events { IsPrefix (viewers.notice_events notice.now) (viewers.look_events look.now)
