@@ -39,9 +39,9 @@ complete_list w = accepted_list_with (accepted_list w) (published_list w) End
 abbrev pub working_picture : Writer → List Dot
 working_picture w = picture_at (accepted_list w)
 
--- one more operation may be accepted, as far as their number goes
-abbrev pub HasRoom : Writer → Type 0
-HasRoom w = revision_at (accepted_list w) < max_ops w
+-- fewer operations were accepted than may be
+abbrev pub IsBelowLimit : Writer → Type 0
+IsBelowLimit w = revision_at (accepted_list w) < max_ops w
 
 -- the same of a picture whose end mark is set but not published
 abbrev pub closing_identity : Closing → Book

@@ -5,7 +5,7 @@ ghost use Rattle.mf_ops.specs.Step.{IsRefusal, op_fault};
 ghost use Rattle.mf_ops.specs.declared.op.Op.TheVariants.{Clear};
 ghost use Rattle.mf_live.specs.Entries.{accepted_list_with, revision_at, Operation};
 ghost use Rattle.mf_live.specs.Viewers.{notice_identity, told_list};
-ghost use Rattle.mf_live.specs.Writers.{identity, accepted_list, published_list, max_ops, working_picture, HasRoom, IsSameWriter};
+ghost use Rattle.mf_live.specs.Writers.{identity, accepted_list, published_list, max_ops, working_picture, IsBelowLimit, IsSameWriter};
 
 use super::Writer;
 use crate::fault::Fault;
@@ -30,13 +30,13 @@ impl Writer {
         ensures accepted { MatchResult result
             (λ _. accepted_list self.new ≡ accepted_list_with (accepted_list self.old) (published_list self.old) (Operation op))
             (λ _. accepted_list self.new ≡ accepted_list self.old) }
-        ensures allowed { OnOk result (HasRoom self.old × (op_fault (working_picture self.old) op ≡ None)) }
+        ensures allowed { OnOk result (IsBelowLimit self.old × (op_fault (working_picture self.old) op ≡ None)) }
         ensures handed_back { IfErr result (λ refused. refused.0 ≡ op) }
         ensures too_many { (revision_at (accepted_list self.old) ≡ max_ops self.old) ↔ (result ≡ Err (op, Fault.TooManyOperations)) }
-        ensures clears { op ≡ Clear → HasRoom self.old → IsOk result }
-        ensures turning { (fault : CycleFault) → HasRoom self.old → op_fault (working_picture self.old) op ≡ Some (OpFault.Cycle fault)
+        ensures clears { op ≡ Clear → IsBelowLimit self.old → IsOk result }
+        ensures turning { (fault : CycleFault) → IsBelowLimit self.old → op_fault (working_picture self.old) op ≡ Some (OpFault.Cycle fault)
             → result ≡ Err (op, Fault.Refused (OpFault.Cycle fault)) }
-        ensures out_of_field { HasRoom self.old → op_fault (working_picture self.old) op ≡ Some OpFault.OutOfField
+        ensures out_of_field { IsBelowLimit self.old → op_fault (working_picture self.old) op ≡ Some OpFault.OutOfField
             → result ≡ Err (op, Fault.Refused OpFault.OutOfField) }
         ensures refused { IfErr result (λ refused. (fault : OpFault) → refused.1 ≡ Fault.Refused fault → IsRefusal (working_picture self.old) op fault) }
     {
