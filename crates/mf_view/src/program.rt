@@ -82,6 +82,7 @@ pub fn program<S: Wait + Threads + Files + Clock + Sync, R: Read, W: Write + Sen
 }
 
 /// Performs and draws the script as the words ask for it, and writes the font file where they ask for one.
+#[tactic(auto, using(std::proofs::lemmas::Result::err_from_is_err_and))]
 fn watch<S: Wait + Threads + Files + Clock + Sync, R: Read, W: Write + Send, E: Write>(
     rt: &S,
     alloc: Global,

@@ -30,12 +30,6 @@ returns-in-Some-clause-done g c =
       fits = λ characters keeps long. let refused = (c.in_ok-bytes.ensures.too_long characters keeps).0 (rw c.font_words.ensures long) in cc;
     })
 
-pub returns-in_err-showing-clause-fault : goal.returns-in_err-showing-clause-fault
-returns-in_err-showing-clause-fault g c = grind (arith, err_from_is_err_and)
-
-pub returns-in_err-file-clause-fault : goal.returns-in_err-file-clause-fault
-returns-in_err-file-clause-fault g c = grind (arith, err_from_is_err_and)
-
 pub returns-in_err-bytes-clause-fault : goal.returns-in_err-bytes-clause-fault
 returns-in_err-bytes-clause-fault g c =
     let failed = err_from_is_err_and c.from_residual-in_err-bytes.result c.from_residual-in_err-bytes.ensures.1 in
@@ -58,9 +52,3 @@ returns-in-None-clause-done g c = record {
   some = λ characters keeps asked none. false≢true (sym (ap is_some c.in-None.is) ∙ asked);
   fits = λ characters keeps long. let refused = (c.in_ok-bytes.ensures.too_long characters keeps).0 (rw c.font_words.ensures long) in cc;
 }
-
-pub returns-in_err-file-clause-unread : goal.returns-in_err-file-clause-unread
-returns-in_err-file-clause-unread g c = grind (arith, err_from_is_err_and)
-
-pub returns-in_err-bytes-clause-unread : goal.returns-in_err-bytes-clause-unread
-returns-in_err-bytes-clause-unread g c = grind (arith, err_from_is_err_and)
