@@ -31,6 +31,7 @@ use std::thread::Threads;
 /// nothing was read or written; and with `NoLook` where a look was refused. A fault of the script or of its end comes first, then
 /// a look that was refused in a thread, then the faults of the last looks, the lines and the font file. After each fault the
 /// threads are joined.
+#[tactic(auto, using(std::proofs::lemmas::Result::err_from_is_err_and))]
 pub fn perform<S: Wait + Threads, R: Read, W: Write, G: Gate + 'static>(
     rt: &S,
     alloc: Global,

@@ -24,6 +24,7 @@ pub const CHUNK_SIZE: usize = 65_536;
 /// characters that the script has shipped, and no record. Refused with `OutOfMemory`, `FileTooLong`, `ReadFault` or `WriteFault`;
 /// [`RunFault`] says what each means, and what was written by then. Of the script it keeps the bytes of one read, and at most
 /// 65,538 bytes of the line that no line feed has ended yet: enough to know that a line is too long. There is no look to wait for.
+#[tactic(auto, using(std::proofs::lemmas::Result::err_from_is_err_and))]
 pub fn run<S: Wait, R: Read, W: Write>(
     rt: &S,
     alloc: Global,

@@ -2,7 +2,6 @@ use Rattle.std.proofs.Common.{ℕ, List, Option, Err, ap, length, arith}
 use Rattle.std.specs.Io.KnownBytes.{Appends}
 use Rattle.std.proofs.KnownBytes.{Appends-nil}
 use Rattle.std.proofs.lemmas.List.Elements.{All-nil}
-use Rattle.std.proofs.lemmas.Result.{err_from_is_err_and}
 use Rattle.mf_desk.specs.declared.ended_run.EndedRun.{EndedRun}
 use Rattle.mf_desk.specs.declared.outcome.Outcome.{Outcome}
 use Rattle.mf_desk.specs.EndedRuns.{glance}
@@ -23,9 +22,6 @@ returns-in_err-memory-clause-fault g c =
 
 pub returns-in_err-progress-clause-fault : goal.returns-in_err-progress-clause-fault
 returns-in_err-progress-clause-fault g c = grind (arith, IfErr-raised, TellsOfRun-unstarted)
-
-pub returns-in_err-progress-clause-too_small : goal.returns-in_err-progress-clause-too_small
-returns-in_err-progress-clause-too_small g c = grind (arith, err_from_is_err_and)
 
 pub returns-in_err-ended-clause-fault : goal.returns-in_err-ended-clause-fault
 returns-in_err-ended-clause-fault g c =
