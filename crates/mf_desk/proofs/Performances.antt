@@ -64,11 +64,11 @@ module _ (settings : Settings) (viewers : ℕ) where
           is = ap (λ more. over.0 ++ more) (is ∙ ap (λ L. viewer_lines n (glance_at L)) over.2.published);
         }
 
-    pub out-more : (text : List ℕ) → Appends holds later text → Appends held later (over.0 ++ text)
-    out-more text out = Appends-trans held holds later over.0 text over.1 out
+    pub Appends-lines : (text : List ℕ) → Appends holds later text → Appends held later (over.0 ++ text)
+    Appends-lines text out = Appends-trans held holds later over.0 text over.1 out
 
-    kept : (file : GfFile) → file ≡ run.file → Keeps file [] over.2.script.last.characters
-    kept file same = subst (λ f. Keeps f [] over.2.script.last.characters) (sym same) over.2.file
+    Keeps-same : (file : GfFile) → file ≡ run.file → Keeps file [] over.2.script.last.characters
+    Keeps-same file same = subst (λ f. Keeps f [] over.2.script.last.characters) (sym same) over.2.file
 
     -- the font file is not made
     pub TellsOfEnd-unfinished : (left : Option (List ℕ)) (file : GfFile) (fault : RunFault) → Appends holds later (viewer_lines viewers (glance run))
@@ -82,9 +82,9 @@ module _ (settings : Settings) (viewers : ℕ) where
         (λ long.
         let is_long =
         subst (λ n. IsLongFile n settings.font [] over.2.script.last.characters) (ap max_bytes_of same ∙ over.2.max_bytes_is)
-        (too_long long over.2.script.last.characters (kept file same)) in
-        rw long (text, out-more _ out, (all, is_long)))
-        (λ wanting. rw wanting (text, out-more _ out, record { shown = viewers; few = omega arith; complete = all }))
+        (too_long long over.2.script.last.characters (Keeps-same file same)) in
+        rw long (text, Appends-lines _ out, (all, is_long)))
+        (λ wanting. rw wanting (text, Appends-lines _ out, record { shown = viewers; few = omega arith; complete = all }))
 
     -- the run ends well
     pub IsPerformance-over : (unread left : Option (List ℕ)) (looks : ℕ) (outcome : Outcome) (file : GfFile) → file ≡ run.file
@@ -94,11 +94,11 @@ module _ (settings : Settings) (viewers : ℕ) where
         → All (λ v. HasSeen (ended_published_list run.ended) looks v.items) outcome.seen.items
         → IsPerformance (task settings viewers looks) outcome (streams unread left held later) read
     IsPerformance-over unread left looks outcome file same finished out count seen =
-        let (fits, font) = finished over.2.script.last.characters (kept file same) in
+        let (fits, font) = finished over.2.script.last.characters (Keeps-same file same) in
         record {
           text = over.0 ++ viewer_lines viewers (glance run);
           complete = complete viewers _ refl;
-          out = out-more _ out;
+          out = Appends-lines _ out;
           fits = subst (λ n. IsLongFile n settings.font [] over.2.script.last.characters → ⊥) (ap max_bytes_of same ∙ over.2.max_bytes_is) fits;
           font = font;
           count = count;

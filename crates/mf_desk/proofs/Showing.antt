@@ -14,7 +14,7 @@ use Rattle.mf_desk.specs.Performer.{longest_text}
 use Rattle.mf_desk.specs.Streams.{Gets}
 use Rattle.mf_desk.specs.ViewerFaults.{run_fault_of_sheet}
 use Rattle.mf_watch.specs.Watchers.{glance_at}
-use Rattle.mf_desk.proofs.Performances.{complete, out-more}
+use Rattle.mf_desk.proofs.Performances.{complete, Appends-lines}
 use Rattle.mf_desk.proofs.ViewerLines.{lines-nobody, lines-more}
 
 -- at first no line has gone out
@@ -52,28 +52,28 @@ module _ (l : LastLooks) (now : EndedRun) (is : HasShown l now) where
 
       -- after the transcript, these lines have gone out
       out_lines : Appends first l.holds (over.0 ++ lines)
-      out_lines = out-more settings viewers first l.held l.holds read l.run over lines is.out
+      out_lines = Appends-lines settings viewers first l.held l.holds read l.run over lines is.out
 
     -- an allocation fails after these lines
-    pub breaks-after : l.viewers ≤ viewers → BreaksLooks (looks l.holds) OutOfMemory
-    breaks-after few settings first left read over =
+    pub BreaksLooks-after : l.viewers ≤ viewers → BreaksLooks (looks l.holds) OutOfMemory
+    BreaksLooks-after few settings first left read over =
         (over.0 ++ lines, out_lines settings first read over, shown_text settings first read over l.viewers lines few refl)
 
     -- the last look of the next viewer fails
-    pub breaks-look : (fault : SheetFault) → l.viewers < viewers → BreaksLooks (looks l.holds) (run_fault_of_sheet fault)
-    breaks-look sheet.NoLook few = λ settings first left read over.
+    pub BreaksLooks-look : (fault : SheetFault) → l.viewers < viewers → BreaksLooks (looks l.holds) (run_fault_of_sheet fault)
+    BreaksLooks-look sheet.NoLook few = λ settings first left read over.
         (over.0 ++ lines, out_lines settings first read over, (shown_text settings first read over l.viewers lines (omega arith) refl, few))
-    breaks-look sheet.OutOfMemory few = breaks-after (omega arith)
+    BreaksLooks-look sheet.OutOfMemory few = BreaksLooks-after (omega arith)
 
     -- the writer fails after these lines and some more bytes, with which and maybe others they are the lines of some viewers
-    breaks-cut : (next count : ℕ) (rest more : List ℕ) (later : Option (List ℕ)) → next ≤ viewers → Appends l.holds later more
+    BreaksLooks-cut : (next count : ℕ) (rest more : List ℕ) (later : Option (List ℕ)) → next ≤ viewers → Appends l.holds later more
         → count ≡ now.written + length more → lines ++ (more ++ rest) ≡ viewer_lines next (glance l.run)
         → BreaksLooks (looks later) (WriteFault count)
-    breaks-cut next count rest more later few out counted are settings first left read over =
+    BreaksLooks-cut next count rest more later few out counted are settings first left read over =
         let gone = lines ++ more in
         let all = append_assoc lines more rest ∙ are in (
           over.0 ++ gone,
-          out-more settings viewers first l.held later read l.run over gone (Appends-trans l.held l.holds later lines more is.out out),
+          Appends-lines settings viewers first l.held later read l.run over gone (Appends-trans l.held l.holds later lines more is.out out),
           (
             omega (arith, counted, is.counted, over.2.counted, length-append over.0 gone, length-append lines more),
             rest,
@@ -82,13 +82,14 @@ module _ (l : LastLooks) (now : EndedRun) (is : HasShown l now) where
         )
 
     -- the writer fails in the next line
-    pub breaks-line : (later : Option (List ℕ)) (count : ℕ) (more rest line : List ℕ) → l.viewers < viewers → more ++ rest ≡ line
+    pub BreaksLooks-line : (later : Option (List ℕ)) (count : ℕ) (more rest line : List ℕ) → l.viewers < viewers → more ++ rest ≡ line
         → line ≡ viewer_line l.viewers (glance now) → Appends l.holds later more → count ≡ now.written + length more
         → BreaksLooks (looks later) (WriteFault count)
-    breaks-line later count more rest line few all due out counted =
-        breaks-cut (l.viewers + 1) count rest more later (omega arith) out counted (with_due (more ++ rest) (all ∙ due))
+    BreaksLooks-line later count more rest line few all due out counted =
+        BreaksLooks-cut (l.viewers + 1) count rest more later (omega arith) out counted (with_due (more ++ rest) (all ∙ due))
 
     -- flushing these lines fails
-    pub breaks-unflushed : (later : Option (List ℕ)) → l.viewers ≤ viewers → Keeps l.holds later → BreaksLooks (looks later) (WriteFault now.written)
-    breaks-unflushed later few same =
-        breaks-cut l.viewers now.written [] [] later few (Appends-kept l.holds l.holds later [] (Appends-nil l.holds) same) (omega arith) (append-nil lines)
+    pub BreaksLooks-unflushed : (later : Option (List ℕ)) → l.viewers ≤ viewers → Keeps l.holds later → BreaksLooks (looks later) (WriteFault now.written)
+    BreaksLooks-unflushed later few same =
+        BreaksLooks-cut l.viewers now.written [] [] later few (Appends-kept l.holds l.holds later [] (Appends-nil l.holds) same) (omega arith)
+        (append-nil lines)

@@ -95,8 +95,8 @@ module _ (held holds : Option (List ℕ)) (read : List ℕ) (run : Progress) (af
       }
 
   -- one more line has been performed than a line feed has ended
-  performed-more : (line : List ℕ) → Prolongs line (ended_lines read ++ line ∷ [])
-  performed-more line a answer =
+  Prolongs-next : (line : List ℕ) → Prolongs line (ended_lines read ++ line ∷ [])
+  Prolongs-next line a answer =
       Perform-append bounds start (ended_lines read) (line ∷ []) answer_so_far a so_far.performed (Perform-one bounds so_far.last line a answer)
 
   -- an answer to this line is one to the complete line that a line feed ends
@@ -104,23 +104,23 @@ module _ (held holds : Option (List ℕ)) (read : List ℕ) (run : Progress) (af
   StandsForEnded line = (a : Answer) → Answers bounds so_far.last line a → Answers bounds so_far.last (strip_carriage_return (unended_line read)) a
 
   -- the line that a line feed ends has been performed
-  performed-ended : (line : List ℕ) → StandsForEnded line → Prolongs line (ended_lines (read ++ 10 ∷ []))
-  performed-ended line whole a answer =
+  Prolongs-ended : (line : List ℕ) → StandsForEnded line → Prolongs line (ended_lines (read ++ 10 ∷ []))
+  Prolongs-ended line whole a answer =
       subst (λ ls. Perform bounds start ls (answers_in_turn answer_so_far a)) (sym (ended_lines-line_feed read))
-      (performed-more (strip_carriage_return (unended_line read)) a (whole a answer))
+      (Prolongs-next (strip_carriage_return (unended_line read)) a (whole a answer))
 
   -- a line feed is read, and its line has been performed
   pub IsAfter-ended : (later : Option (List ℕ)) (line : List ℕ) (new : Progress) → StandsForEnded line
       → Gets holds later (IsWritten run.performer line new.performer)
       → limits new.performer.session ≡ bounds → new.line ≡ [] → IsAfter held (read ++ 10 ∷ []) new later
   IsAfter-ended later line new whole written same empty = record {
-    lines = HasCounted-more later (ended_lines (read ++ 10 ∷ [])) line new.performer (performed-ended line whole) written same;
+    lines = HasCounted-more later (ended_lines (read ++ 10 ∷ [])) line new.performer (Prolongs-ended line whole) written same;
     line = empty ∙ ap (take MAX_KEPT) (sym (unended_line-line_feed read));
   }
 
   -- the line that was kept may be cut
-  pub kept-ended : StandsForEnded (strip_carriage_return run.line)
-  kept-ended a answer =
+  pub StandsForEnded-kept : StandsForEnded (strip_carriage_return run.line)
+  StandsForEnded-kept a answer =
       Answers-stripped bounds so_far.last (unended_line read) a
       (subst (λ line. Answers bounds so_far.last (strip_carriage_return line) a) after.line answer)
 
@@ -165,24 +165,24 @@ module _ (held holds : Option (List ℕ)) (read : List ℕ) (run : Progress) (af
       let (others, before) = ended_lines-front read (10 ∷ more) in
       let (following, with_line) = ended_lines-front (read ++ 10 ∷ []) more in
       Breaks-text fault left later (read ++ 10 ∷ [] ++ more) line others (ended_lines (read ++ 10 ∷ [])) following
-      (inl (ap ended_lines (append_assoc read (10 ∷ []) more) ∙ before)) (inl with_line) (performed-ended line whole) broken
+      (inl (ap ended_lines (append_assoc read (10 ∷ []) more) ∙ before)) (inl with_line) (Prolongs-ended line whole) broken
 
   -- there are bytes after the last line feed
   unended_line-some : eqb (length run.line) 0 ≡ false → eqb (length (unended_line read)) 0 ≡ false
   unended_line-some some = grind (arith, ne_eqb, eqb-false)
 
   -- the last line, which no line feed ends, has been performed
-  performed-last : eqb (length run.line) 0 ≡ false → Prolongs run.line (lines read)
-  performed-last some a answer =
+  Prolongs-last : eqb (length run.line) 0 ≡ false → Prolongs run.line (lines read)
+  Prolongs-last some a answer =
       subst (λ ls. Perform bounds start ls (answers_in_turn answer_so_far a)) (sym (lines-last read (unended_line-some some)))
-      (performed-more (unended_line read) a
+      (Prolongs-next (unended_line read) a
       (Answers-kept bounds so_far.last (unended_line read) a (subst (λ line. Answers bounds so_far.last line a) after.line answer)))
 
   pub Breaks-last : (fault : RunFault) (left later : Option (List ℕ)) → IsAtEnd left → eqb (length run.line) 0 ≡ false
       → BreaksLine run.line fault later → Gets held later (MakesPassage (Breaks bounds fault) left read)
   Breaks-last fault left later all_read some =
       Breaks-text fault left later read run.line (unended_line read ∷ []) (lines read) []
-      (inr (all_read, lines-last read (unended_line-some some))) (inr (all_read, sym (append-nil _))) (performed-last some)
+      (inr (all_read, lines-last read (unended_line-some some))) (inr (all_read, sym (append-nil _))) (Prolongs-last some)
 
   -- there is no byte after the last line feed
   pub unended_line-none : eqb (length run.line) 0 ≡ true → unended_line read ≡ []
@@ -191,7 +191,7 @@ module _ (held holds : Option (List ℕ)) (read : List ℕ) (run : Progress) (af
   -- the last line ends with the script
   pub HasCounted-last : (later : Option (List ℕ)) (new : Performer) → eqb (length run.line) 0 ≡ false → limits new.session ≡ bounds
       → Gets holds later (IsWritten run.performer run.line new) → HasCounted held (lines read) new later
-  HasCounted-last later new some same written = HasCounted-more later (lines read) run.line new (performed-last some) written same
+  HasCounted-last later new some same written = HasCounted-more later (lines read) run.line new (Prolongs-last some) written same
 
 -- an allocation fails before anything is read
 pub Breaks-nothing : (l : Limits) (left held : Option (List ℕ)) → Gets held held (MakesPassage (Breaks l OutOfMemory) left [])
@@ -206,8 +206,8 @@ module _ (held holds : Option (List ℕ)) (read bytes : List ℕ) (old : Progres
   abbrev after_bytes : IsAfter held (read ++ bytes) with_bytes holds
   after_bytes = IsAfter-unbroken held holds read old after bytes with_bytes unbroken refl refl
 
-  whole_line : StandsForEnded held holds (read ++ bytes) with_bytes after_bytes (strip_carriage_return bytes)
-  whole_line a answer =
+  StandsForEnded-whole : StandsForEnded held holds (read ++ bytes) with_bytes after_bytes (strip_carriage_return bytes)
+  StandsForEnded-whole a answer =
       let whole : unended_line (read ++ bytes) ≡ bytes =
       unended_line-unbroken read bytes unbroken ∙ ap (λ line. line ++ bytes) (unended_line-none held holds read old after none) in
       subst (λ line. Answers (limits old.performer.session) after.lines.done.last (strip_carriage_return line) a) (sym whole) answer
@@ -217,14 +217,14 @@ module _ (held holds : Option (List ℕ)) (read bytes : List ℕ) (old : Progres
       → limits new.performer.session ≡ limits old.performer.session → new.line ≡ [] → IsAfter held (read ++ (bytes ++ 10 ∷ [])) new later
   IsAfter-whole later new written same empty =
       subst (λ all. IsAfter held all new later) (append_assoc read bytes (10 ∷ []))
-      (IsAfter-ended held holds (read ++ bytes) with_bytes after_bytes later (strip_carriage_return bytes) new whole_line written same empty)
+      (IsAfter-ended held holds (read ++ bytes) with_bytes after_bytes later (strip_carriage_return bytes) new StandsForEnded-whole written same empty)
 
   pub Breaks-whole : (fault : RunFault) (left later : Option (List ℕ)) (more : List ℕ)
       → Gets holds later (BreaksOff (IsLineText old.performer (strip_carriage_return bytes)) old.performer.written fault)
       → Gets held later (MakesPassage (Breaks (limits old.performer.session) fault) left (read ++ (bytes ++ 10 ∷ []) ++ more))
   Breaks-whole fault left later more broken =
       subst (λ front. Gets held later (MakesPassage (Breaks (limits old.performer.session) fault) left (front ++ more))) (append_assoc read bytes (10 ∷ []))
-      (Breaks-ended held holds (read ++ bytes) with_bytes after_bytes fault left later more (strip_carriage_return bytes) whole_line broken)
+      (Breaks-ended held holds (read ++ bytes) with_bytes after_bytes fault left later more (strip_carriage_return bytes) StandsForEnded-whole broken)
 
 -- the writer is flushed
 pub HasCounted-flushed : (held holds later : Option (List ℕ)) (ls : List (List ℕ)) (performer : Performer) → Keeps holds later

@@ -14,23 +14,23 @@ use Rattle.mf_desk.proofs.performance.perform_beside_viewers.Goals as goal
 pub returns-in_err-ended-clause-fault : goal.returns-in_err-ended-clause-fault
 returns-in_err-ended-clause-fault g c = grind (arith, IfErr-raised)
 
-joined : (g : _) (c : After-join-joined g) (looks : ℕ) (Q : Watcher → Type 0)
+watchers-all : (g : _) (c : After-join-joined g) (looks : ℕ) (Q : Watcher → Type 0)
     → AreStarted (identity c.args.progress.performer.session) looks c.args.watching
     → ((w : Watcher) → IsWatcher (identity c.args.progress.performer.session) looks 1 w → Q w)
     → IfOk c.join-joined.result (λ watchers. All Q watchers.items)
-joined g c looks Q started each =
+watchers-all g c looks Q started each =
     IfOk-weaker c.join-joined.result _ _ (λ watchers watched. All-weaker _ _ each watchers.items (watched _ _ started)) c.join-joined.ensures.watchers
 
 pub show-shown-requires-clause-identities : goal.show-shown-requires-clause-identities
 show-shown-requires-clause-identities g c =
     let (looks, started) = c.requires.started in
-    joined g (goal.at.show-shown-requires-clause-identities g c).After-join-joined looks _ started
+    watchers-all g (goal.at.show-shown-requires-clause-identities g c).After-join-joined looks _ started
     (λ w is. is.identity_is ∙ sym c.in_ok-ended.ensures.identity)
 
 pub show-shown-requires-clause-rooms : goal.show-shown-requires-clause-rooms
 show-shown-requires-clause-rooms g c =
     let (looks, started) = c.requires.started in
-    joined g (goal.at.show-shown-requires-clause-rooms g c).After-join-joined looks _ started (λ w is. is.room)
+    watchers-all g (goal.at.show-shown-requires-clause-rooms g c).After-join-joined looks _ started (λ w is. is.room)
 
 pub returns-in_err-seen-clause-fault : goal.returns-in_err-seen-clause-fault
 returns-in_err-seen-clause-fault g c =
@@ -55,7 +55,7 @@ returns-clause-performance g c looks started =
     let path = goal.at.returns-clause-performance g c in
     let (read, consumed, over) = rw c.requires.limits at c.in_ok-ended.ensures.over in
     let count = c.in_ok-seen.ensures.count viewers c.join-joined.ensures.count in
-    let records = joined g path.After-join-joined looks (IsRecord looks) started (λ w is. is.record_is) in
+    let records = watchers-all g path.After-join-joined looks (IsRecord looks) started (λ w is. is.record_is) in
     let outcome : Outcome = record { gf = c.in_ok-gf.gf; seen = c.in_ok-seen.seen } in (
       read,
       consumed,

@@ -3,7 +3,7 @@ use Rattle.std.proofs.lemmas.Result.{IfErr-weaker, IfOk-weaker}
 use Rattle.mf_live.specs.declared.sheet.SheetFault.TheVariants.{NoLook}
 use Rattle.mf_watch.specs.Watchers.{IsRecord}
 use Rattle.mf_desk.specs.EndedRuns.{BreaksLooks, last_looks}
-use Rattle.mf_desk.proofs.Showing.{HasShown-start, breaks-look}
+use Rattle.mf_desk.proofs.Showing.{HasShown-start, BreaksLooks-look}
 use Rattle.mf_desk.proofs.ended_run.EndedRun.show.Goals as goal
 
 pub returns-in-Ok-clause-seen : goal.returns-in-Ok-clause-seen
@@ -21,5 +21,5 @@ returns-in-Ok-clause-fault g c =
 
 pub returns-in-Err-clause-fault : goal.returns-in-Err-clause-fault
 returns-in-Err-clause-fault g c = λ viewers joined some.
-    breaks-look _ c.args.self.now (HasShown-start c.args.self.now (g.W.Write.contents c.args.writer.now)) viewers NoLook
+    BreaksLooks-look _ c.args.self.now (HasShown-start c.args.self.now (g.W.Write.contents c.args.writer.now)) viewers NoLook
     (subst (λ r. IfErr r (λ _. 0 < viewers)) c.in-Err.is some)

@@ -5,13 +5,13 @@ use Rattle.mf_live.specs.Writers.{ended_identity}
 use Rattle.mf_watch.specs.Watchers.{HasRoomFor, IsRecord, identity}
 use Rattle.mf_desk.specs.EndedRuns.{HasSeenLast}
 use Rattle.mf_base.proofs.Faults.{IfErr-raised}
-use Rattle.mf_desk.proofs.Showing.{HasShown-start, breaks-after, breaks-unflushed}
+use Rattle.mf_desk.proofs.Showing.{HasShown-start, BreaksLooks-after, BreaksLooks-unflushed}
 use Rattle.mf_desk.proofs.ended_run.EndedRun.show_all.Goals as goal
 
 pub returns-in_err-seen-clause-fault : goal.returns-in_err-seen-clause-fault
 returns-in_err-seen-clause-fault g c =
     IfErr-raised c.from_residual.result _ c.from_residual.ensures.1
-    (breaks-after _ c.args.self.now (HasShown-start c.args.self.now (g.W.Write.contents c.args.writer.now))
+    (BreaksLooks-after _ c.args.self.now (HasShown-start c.args.self.now (g.W.Write.contents c.args.writer.now))
     (length c.args.watchers.items) (omega arith))
 
 pub loop-watcher-init : goal.loop-watcher-init
@@ -54,8 +54,8 @@ pub returns-in_err-flush-clause-fault : goal.returns-in_err-flush-clause-fault
 returns-in_err-flush-clause-fault g c =
     let was = c.loop-watcher.invariant in
     IfErr-raised c.from_residual-in_err-flush.result _ c.from_residual-in_err-flush.ensures.1
-    (rw c.in_err-flush.ensures.fault (breaks-unflushed _ c.loop-watcher.self was.shown (length c.args.watchers.items) (g.W.Write.contents c.flush.new.writer)
-    (omega (arith, was.count, ap length c.into_iter-watcher-iterator.ensures.into_iter_gives.0)) c.flush.ensures.kept))
+    (rw c.in_err-flush.ensures.fault (BreaksLooks-unflushed _ c.loop-watcher.self was.shown (length c.args.watchers.items)
+    (g.W.Write.contents c.flush.new.writer) (omega (arith, was.count, ap length c.into_iter-watcher-iterator.ensures.into_iter_gives.0)) c.flush.ensures.kept))
 
 pub returns-clause-seen : goal.returns-clause-seen
 returns-clause-seen g c = λ looks records.

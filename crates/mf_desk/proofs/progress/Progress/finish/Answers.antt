@@ -24,20 +24,21 @@ returns-in_err-perform-clause-fault g c =
     Breaks-last held _ read c.args.self.now after c.in_err-perform.field-0.0 left _ all_read (sym (c.if-is_empty.ensures)) broken)
 
 -- the last line has been performed, and its text written
-performed : (g : _) (c : In_ok-perform g) (held : Option (List ℕ)) (read : List ℕ) → IsAfter held read c.args.self.now (g.W.Write.contents c.args.writer.now)
+HasCounted-performed : (g : _) (c : In_ok-perform g) (held : Option (List ℕ)) (read : List ℕ)
+    → IsAfter held read c.args.self.now (g.W.Write.contents c.args.writer.now)
     → HasCounted held (lines read) c.perform.new.self (g.W.Write.contents c.perform.new.writer)
-performed g c held read after =
+HasCounted-performed g c held read after =
     HasCounted-last held _ read c.args.self.now after _ c.perform.new.self (sym c.if-is_empty.ensures) c.perform.ensures.limits
     (rw c.at_end.ensures at c.in_ok-perform.ensures.written)
 
 pub returns-clause-done : goal.returns-clause-done
 returns-clause-done g c =
-    let done = performed g (goal.at.returns-clause-done g c).In_ok-perform in
+    let done = HasCounted-performed g (goal.at.returns-clause-done g c).In_ok-perform in
     always c.flush.result (λ held read after. HasCounted-flushed held _ _ _ c.perform.new.self c.flush.ensures.kept (done held read after))
 
 pub returns-clause-fault : goal.returns-clause-fault
 returns-clause-fault g c =
-    let done = performed g (goal.at.returns-clause-fault g c).In_ok-perform in
+    let done = HasCounted-performed g (goal.at.returns-clause-fault g c).In_ok-perform in
     IfErr-weaker c.flush.result _ _ (λ fault is held left read all_read after.
     Breaks-flush _ held left _ _ read (lines read) c.perform.new.self (inr (all_read, sym (append-nil _))) c.perform.ensures.limits c.flush.ensures.kept
     (done held read after) fault is) c.flush.ensures.fault
