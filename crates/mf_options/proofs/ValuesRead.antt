@@ -53,10 +53,10 @@ head_of P how (v ∷ vs) t all e = (v, sym (ap (λ o. unwrap_or o t) e), All-get
 abbrev IsAccepted : ValueParser → Text → Type 0
 IsAccepted q t = (raw : Text) × (t ≡ read_as (reading_of q) raw) × (any_case : Bool) × Accepts any_case q raw
 
-accepted-value : (q : ValueParser) (t : Text) → IsAccepted q t → IsValueOf q t
-accepted-value (parser.Signed (pos low) (pos high)) t got = subst (IsNumberIn low high) (sym got.1) (in_range low high got.0 got.3)
-accepted-value parser.Bool t got = subst IsFlagText (sym got.1) (grind (arith, bytes_eq-Decides, got.3))
-accepted-value _ t got = tt
+IsValueOf-accepted : (q : ValueParser) (t : Text) → IsAccepted q t → IsValueOf q t
+IsValueOf-accepted (parser.Signed (pos low) (pos high)) t got = subst (IsNumberIn low high) (sym got.1) (in_range low high got.0 got.3)
+IsValueOf-accepted parser.Bool t got = subst IsFlagText (sym got.1) (grind (arith, bytes_eq-Decides, got.3))
+IsValueOf-accepted _ t got = tt
 
 module _ (c : Command) (m : ArgMatches) (p : IsParsedFrom c m) (plain : (shape_of c).is_plain ≡ true) (simple : all_simple (shape_of c).rules ≡ true) where
   no_groups : groups_of p.built ≡ []
@@ -87,8 +87,8 @@ module _ (c : Command) (m : ArgMatches) (p : IsParsedFrom c m) (plain : (shape_o
               ]
         ]
 
-    named : id ≡ [] → ⊥
-    named empty = grind (arith, (parts_of (shape_of c).rules id q ok).3)
+    id-some : id ≡ [] → ⊥
+    id-some empty = grind (arith, (parts_of (shape_of c).rules id q ok).3)
 
     of_value : (how : Reading) → how ≡ reading_of q → (t : Text)
         → (v : Bor Text) × (t ≡ read_as how v.now) × PassesArg p.built id v.now → IsAccepted q t
@@ -110,7 +110,7 @@ module _ (c : Command) (m : ArgMatches) (p : IsParsedFrom c m) (plain : (shape_o
         let e = got.0 in
         let key : e.0.now ≡ id = (bytes_eq-Decides e.0.now id).0 got.2 in
         let single : e.1.is_group ≡ true → ⊥ = λ group. elim (got.3.3 group) [
-          | inl unnamed ↦ named (sym key ∙ unnamed)
+          | inl unnamed ↦ id-some (sym key ∙ unnamed)
           | inr some ↦
               let bad : 0 < 0 = rw no_groups at some in
               absurd (omega arith)
@@ -127,8 +127,8 @@ module _ (c : Command) (m : ArgMatches) (p : IsParsedFrom c m) (plain : (shape_o
         (head_of (λ v. PassesArg p.built id v.now) x.reading x.vals.items t all first)
 
     -- the text of an option was accepted by its parser
-    accepted : (t : Text) → one_text (found_of m) id ≡ Some t → IsAccepted q t
-    accepted t text = go (matched_of (found_of m) id) refl text
+    IsAccepted-text : (t : Text) → one_text (found_of m) id ≡ Some t → IsAccepted q t
+    IsAccepted-text t text = go (matched_of (found_of m) id) refl text
       where
         go : (o : Option MatchedArg) → matched_of (found_of m) id ≡ o → one_text (found_of m) id ≡ Some t → IsAccepted q t
         go None e first =
@@ -143,7 +143,7 @@ module _ (c : Command) (m : ArgMatches) (p : IsParsedFrom c m) (plain : (shape_o
       where
         go : (o : Option Text) → one_text (found_of m) id ≡ o → IfSome o (IsValueOf q)
         go None e = tt
-        go (Some t) e = accepted-value q t (accepted t e)
+        go (Some t) e = IsValueOf-accepted q t (IsAccepted-text t e)
 
 -- the values of a parse are values of their options
 pub are_values : (c : Command) (m : ArgMatches) → IsParsedFrom c m → is_simple_and_free (app_of c) ≡ true
