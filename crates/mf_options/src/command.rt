@@ -64,7 +64,7 @@ pub fn with_flag<'a>(
 /// What clap finds in the words, of which the first is the program's name. Each number is in the range of its option, and each flag
 /// is on or off. Words in which clap finds a fault are refused: with `BadWords`, which comes nowhere else, or with `OutOfMemory`.
 /// That comes where an allocation fails, also for words without a fault. Requires a command of plain options.
-#[tactic(auto, using(crate::proofs::ValuesRead::are_values, crate::proofs::Faults::has_fault))]
+#[tactic(auto, using(crate::proofs::ValuesRead::are_values, crate::proofs::Faults::has_fault, clap::proofs::WalkLemmas::both))]
 pub fn find_matches<'a>(
     command: Command<'a>,
     words: &'a [String],
