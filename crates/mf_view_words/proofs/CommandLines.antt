@@ -8,9 +8,9 @@ use Rattle.mf_view_words.specs.CommandLine.{mfview, rules}
 use Rattle.mf_view_words.specs.Ranges.{greatest_columns, greatest_design_size, greatest_pause, greatest_resolution, greatest_rows}
 use Rattle.mf_view_words.specs.Values.{HasReadableValues}
 
-pub mfview-plain : is_simple_and_free mfview ≡ true
+pub mfview_is_plain : is_simple_and_free mfview ≡ true
 unfolding mfview
-mfview-plain = refl
+mfview_is_plain = refl
 
 pub readable : (app : App) (found : List Row) → app ≡ mfview → AreValuesOf app.top.rules found → HasReadableValues found
 unfolding mfview

@@ -49,6 +49,7 @@ pub enum Request {
 /// Reads the words of the command line. The first word is the program's name, whatever it is. `--help` comes before `--version`,
 /// and both before everything else. Refused with `BadWords` only where the rest has a word that is not an option, an option twice
 /// or without its value, a number out of its range, or `--pgm` without `--plates`; and with `OutOfMemory` where an allocation fails.
+#[tactic(auto, using(crate::proofs::CommandLines::mfview_is_plain))]
 pub fn read_words(alloc: Global, words: Vec<String>) -> Result<Request, WordsFault>
     ensures accepted { OnOk result (IsCommandLine (texts_of words)) }
     ensures refused { IsErrOf result WordsFault.BadWords → ¬ IsCommandLine (texts_of words) }

@@ -1,10 +1,6 @@
-use Rattle.std.proofs.Common.{◌∙◌, ap}
-use Rattle.clap.specs.Words.{app_of, found_of, is_simple_and_free, rows_of}
-use Rattle.mf_view_words.proofs.CommandLines.{mfview-plain, readable}
+use Rattle.clap.specs.Words.{app_of, found_of, rows_of}
+use Rattle.mf_view_words.proofs.CommandLines.{readable}
 use Rattle.mf_view_words.proofs.words.read_words.Goals as goal
-
-pub find_matches-requires : goal.find_matches-requires
-find_matches-requires c = record { plain = ap is_simple_and_free c.in_ok-command.ensures ∙ mfview-plain }
 
 pub words_in-requires : goal.words_in-requires
 words_in-requires c = record {
