@@ -2,7 +2,7 @@
 use Rattle.std.specs.Prelude.{◌≡◌, ℕ, List, ◌++◌, Option}
 use Rattle.logbook.specs.Pages.{Book}
 use Rattle.mf_live.specs.Entries.{Entry, picture_at, revision_at}
-use Rattle.mf_live.specs.Sheets.{HasLearnt, HasLooked, HasLookedAt}
+use Rattle.mf_live.specs.Sheets.{HasLearnt, HasLooked, HasLookedLast}
 use Rattle.mf_live.specs.Viewers as viewers
 use Rattle.mf_live.specs.declared.viewer.Viewer.{Viewer}
 use Rattle.mf_rows.specs.Dots.{Dot}
@@ -59,10 +59,6 @@ drawing_of easel L = drawing (manner_of easel) (revision_of easel) (revision_at 
 abbrev pub IsNotDrawn : Viewer → Viewer → EaselFault → Type 0
 IsNotDrawn before after NoLook = viewers.SeesTheSame before after
 IsNotDrawn before after _ = HasLooked before after
-
--- the viewer has looked at the complete list, of which everything that it had seen before is a whole prefix
-abbrev pub HasLookedLast : Viewer → List Entry → Viewer → Type 0
-HasLookedLast before whole after = viewers.Extends before whole × HasLookedAt whole after
 
 -- where the last picture is not drawn, the viewer has only learnt of the complete list, or something failed after it had looked
 abbrev pub IsLastNotDrawn : Viewer → List Entry → Viewer → EaselFault → Type 0

@@ -50,8 +50,12 @@ pub record HasLookedAt (whole : List Entry) (after : Viewer) : Type 0 where
   pub seen : seen_list after ≡ whole
   pub published : IsPublished (looked_at_events after) whole
 
+-- a viewer has looked at the complete list, of which everything that it had seen before is a whole prefix
+abbrev pub HasLookedLast : Viewer → List Entry → Viewer → Type 0
+HasLookedLast before whole after = Extends before whole × HasLookedAt whole after
+
 -- where there is no sheet of the complete list, the viewer has only learnt of the list, or an allocation failed after it had
--- looked at the list, of which everything that it had seen before is a whole prefix
+-- looked at it
 abbrev pub IsLastNotTaken : Viewer → List Entry → Viewer → SheetFault → Type 0
 IsLastNotTaken before whole after NoLook = HasLearnt before whole after
-IsLastNotTaken before whole after OutOfMemory = Extends before whole × HasLookedAt whole after
+IsLastNotTaken before whole after OutOfMemory = HasLookedLast before whole after

@@ -5,7 +5,7 @@ use Rattle.std.proofs.KnownBytes.{Appends-nil, Appends-trans}
 use Rattle.std.proofs.lemmas.List.{append-nil, nil_from_length}
 use Rattle.std.proofs.lemmas.List.Elements.{All-cons, All-head, All-nil, All-weaker}
 use Rattle.mf_base.specs.Messages.{GetsFront, Receipt, receipt, receipt_of}
-use Rattle.mf_easel.specs.Easels.{HasLookedLast, HasSameManner, Manner, drawing, drawing_of, looked_at_list, manner_of, revision_of, viewer_of}
+use Rattle.mf_easel.specs.Easels.{HasSameManner, Manner, drawing, drawing_of, looked_at_list, manner_of, revision_of, viewer_of}
 use Rattle.mf_easel.specs.Screens.{GetsFrame, GetsNoMore, IsAbove, new_revision, screen_of}
 use Rattle.mf_easel.specs.declared.easel.Easel.{Easel}
 use Rattle.mf_easel.specs.declared.fault.EaselFault.{EaselFault}
@@ -13,7 +13,7 @@ use Rattle.mf_easel.specs.declared.fault.EaselFault.TheVariants.{NoLook, OutOfMe
 use Rattle.mf_ops.specs.Operations.{revision_after}
 use Rattle.mf_live.specs.Entries.{Entry, picture_at, revision_at}
 use Rattle.mf_live.specs.Prefixes.{IsWholePrefix}
-use Rattle.mf_live.specs.Sheets.{HasLooked}
+use Rattle.mf_live.specs.Sheets.{HasLooked, HasLookedLast}
 use Rattle.mf_live.proofs.EntryLists.{operations-append, revision_at-append}
 use Rattle.mf_live.proofs.WholePrefixes.{whole-self, whole-trans}
 use Rattle.mf_view.proofs.Messages.{message-after}

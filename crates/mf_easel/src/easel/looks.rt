@@ -1,9 +1,9 @@
 //! Looking and drawing.
 ghost use Rattle.std.specs.Prelude.{◌≡◌, ◌⊎◌, Err, None, Some, true, IfErr, IfOk, IfSome, MatchResult, OnOk};
 ghost use Rattle.mf_live.specs.Entries.{is_closed, picture_at, revision_at};
-ghost use Rattle.mf_live.specs.Sheets.{HasLooked, sheet_picture, sheet_revision};
+ghost use Rattle.mf_live.specs.Sheets.{HasLooked, HasLookedLast, sheet_picture, sheet_revision};
 ghost use Rattle.mf_live.specs.Viewers as viewers;
-ghost use Rattle.mf_easel.specs.Easels.{HasLookedLast, HasSameManner, IsLastNotDrawn, IsNotDrawn, drawing, drawing_of};
+ghost use Rattle.mf_easel.specs.Easels.{HasSameManner, IsLastNotDrawn, IsNotDrawn, drawing, drawing_of};
 ghost use Rattle.mf_easel.specs.Easels.{identity, looked_at_list, manner, manner_of, revision_of, viewer_of};
 ghost use Rattle.mf_easel.specs.Screens.{GetsFrame, GetsNoMore, IsAbove, cursor_to_last_frame, new_revision, screen_of};
 

@@ -4,7 +4,7 @@ use Rattle.mf_live.specs.declared.sheet.SheetFault.{SheetFault}
 use Rattle.mf_live.specs.declared.sheet.SheetFault.TheVariants.{NoLook, OutOfMemory as NoMemory}
 use Rattle.mf_live.specs.declared.viewer.Viewer.{Viewer}
 use Rattle.mf_live.specs.Entries.{Entry, is_closed, picture_at, revision_at}
-use Rattle.mf_live.specs.Sheets.{HasLearnt, HasLooked, HasLookedAt, IsLastNotTaken, IsNotTaken}
+use Rattle.mf_live.specs.Sheets.{HasLearnt, HasLooked, HasLookedLast, IsLastNotTaken, IsNotTaken}
 use Rattle.mf_live.specs.Viewers.{Extends, IsPublished, looked_at_events, looked_at_list, told_list}
 use Rattle.mf_live.proofs.Looking.{HasLearnt-same, whole-closed}
 use Rattle.mf_live.proofs.laws.last_sheet.Goals.{After-learn}
@@ -12,7 +12,7 @@ use Rattle.mf_live.proofs.laws.last_sheet.Goals as goal
 
 module _ (first second after : Viewer) (told : List Entry) (learns : HasLearnt first told second) (closed : is_closed told ≡ true) where
   -- a viewer that has learnt of the end, and then looked, has looked at the complete list
-  looks_at_last : HasLooked second after → Extends first told × HasLookedAt told after
+  looks_at_last : HasLooked second after → HasLookedLast first told after
   looks_at_last look =
       let both = learns.keeps (looked_at_list after) look.extends in
       let is = whole-closed told (looked_at_list after) both.1 look.ends closed in (
