@@ -55,11 +55,6 @@ sum_over_field-crossing e from to =
 abbrev remainder : Point → ℤ
 remainder p = greatest_length *ℤ p.y -ℤ p.x *ℤ p.y
 
-shoelace-upright : (x y y' : ℤ)
-    → x *ℤ y' -ℤ x *ℤ y ≡ pos 2 *ℤ ((greatest_coordinate -ℤ x) *ℤ (y -ℤ y')) +ℤ ((greatest_length *ℤ y' -ℤ x *ℤ y') -ℤ (greatest_length *ℤ y -ℤ x *ℤ y))
-shoelace-upright x y y' =
-    omega (arith, ints, mul-sub (greatest_coordinate -ℤ x) y y', sub-mul greatest_coordinate x y, sub-mul greatest_coordinate x y')
-
 -- a segment's part of the shoelace sum is twice its area_beside plus a difference between its ends
 shoelace-area_beside : (e : Segment) → IsRectilinear e
     → e.from.x *ℤ e.to.y -ℤ e.to.x *ℤ e.from.y ≡ pos 2 *ℤ area_beside e +ℤ (remainder e.to -ℤ remainder e.from)
@@ -69,7 +64,9 @@ shoelace-area_beside e (inl level) =
     rw same_height (let flat = mul-self (greatest_coordinate -ℤ e.from.x) e.from.y in omega (arith, ints))
 shoelace-area_beside e (inr upright) =
     let same_column : e.to.x ≡ e.from.x = let run = upright.0 in omega (arith, ints) in
-    rw same_column (shoelace-upright e.from.x e.from.y e.to.y)
+    let x = e.from.x in
+    let parts = mul-sub (greatest_coordinate -ℤ x) e.from.y e.to.y in
+    rw same_column (omega (arith, ints, parts, sub-mul greatest_coordinate x e.from.y, sub-mul greatest_coordinate x e.to.y))
 
 -- round a cycle, the differences add up to 0
 shoelace-strips : (ps : List Point) → IsRectilinearCycle ps

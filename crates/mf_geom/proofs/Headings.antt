@@ -46,25 +46,17 @@ bend d = pos 4 *ℤ jump d +ℤ d
 same_side : (a b : ℤ) → a ≢ pos 0 → b ≢ pos 0 → ((a *ℤ b) <ℤ pos 0 → ⊥) → side (int_lt (pos 0) a) *ℤ side (int_lt (pos 0) b) ≢ negsuc 0
 same_side a b a_apart b_apart onward opposite = grind (arith, ints, signum-product)
 
-cross-level : (a c : ℤ) → a ≢ pos 0 → c ≢ pos 0 → ((a *ℤ c +ℤ pos 0 *ℤ pos 0) <ℤ pos 0 → ⊥)
-    → int_signum (a *ℤ pos 0 -ℤ pos 0 *ℤ c) ≡ bend (heading c (pos 0) -ℤ heading a (pos 0))
-cross-level a c a_apart c_apart onward = grind (arith, ints, same_side)
-
-cross-upright : (b d : ℤ) → b ≢ pos 0 → d ≢ pos 0 → ((pos 0 *ℤ pos 0 +ℤ b *ℤ d) <ℤ pos 0 → ⊥)
-    → int_signum (pos 0 *ℤ d -ℤ b *ℤ pos 0) ≡ bend (heading (pos 0) d -ℤ heading (pos 0) b)
-cross-upright b d b_apart d_apart onward = grind (arith, ints, same_side)
-
 -- the turn from one rectilinear segment to the next is the difference of their headings, except for the jump between right
 -- and down
 cross-bend : (a b c d : ℤ) → ((a ≢ pos 0) × (b ≡ pos 0)) ⊎ ((a ≡ pos 0) × (b ≢ pos 0))
     → ((c ≢ pos 0) × (d ≡ pos 0)) ⊎ ((c ≡ pos 0) × (d ≢ pos 0)) → ((a *ℤ c +ℤ b *ℤ d) <ℤ pos 0 → ⊥)
     → int_signum (a *ℤ d -ℤ b *ℤ c) ≡ bend (heading c d -ℤ heading a b)
 cross-bend a b c d (inl from) (inl to) onward =
-    rw (from.1, to.1) (cross-level a c from.0 to.0 (λ less. onward (rw (from.1, to.1) less)))
+    let kept = rw (from.1, to.1) at onward in rw (from.1, to.1) (grind (arith, ints, same_side a c from.0 to.0))
 cross-bend a b c d (inl from) (inr to) onward = rw (from.1, to.0) (grind (arith, ints, signum-product a d from.0 to.1))
 cross-bend a b c d (inr from) (inl to) onward = rw (from.0, to.1) (grind (arith, ints, signum-product b c from.1 to.0))
 cross-bend a b c d (inr from) (inr to) onward =
-    rw (from.0, to.0) (cross-upright b d from.1 to.1 (λ less. onward (rw (from.0, to.0) less)))
+    let kept = rw (from.0, to.0) at onward in rw (from.0, to.0) (grind (arith, ints, same_side b d from.1 to.1))
 
 -- the heading of a segment
 abbrev heading_of : Segment → ℤ

@@ -17,14 +17,14 @@ use Rattle.mf_geom.proofs.FirstPlaces.{first-first_place, first_place-first, fir
 
 -- ---- what the tests mean
 
-beyond : (ps : List Point) (k : ℕ) → ¬ IsInRange (point_at ps k) ↔ is_out_of_range (point_at ps k) ≡ true
-beyond ps k = (is_out_of_range-true _, λ passes range. both_ways _ (is_out_of_range-false _ range) passes)
+out_of_range-test : (ps : List Point) (k : ℕ) → ¬ IsInRange (point_at ps k) ↔ is_out_of_range (point_at ps k) ≡ true
+out_of_range-test ps k = (is_out_of_range-true _, λ passes range. both_ways _ (is_out_of_range-false _ range) passes)
 
-slanted : (ps : List Point) (k : ℕ) → ¬ IsRectilinear (segment_at ps k) ↔ is_not_rectilinear (segment_at ps k) ≡ true
-slanted ps k = (is_not_rectilinear-true _, λ passes straight. both_ways _ (is_not_rectilinear-false _ straight) passes)
+not_rectilinear-test : (ps : List Point) (k : ℕ) → ¬ IsRectilinear (segment_at ps k) ↔ is_not_rectilinear (segment_at ps k) ≡ true
+not_rectilinear-test ps k = (is_not_rectilinear-true _, λ passes straight. both_ways _ (is_not_rectilinear-false _ straight) passes)
 
-back : (ps : List Point) (k : ℕ) → IsReversal (segment_into ps k) (segment_at ps k) ↔ is_reversal (segment_into ps k) (segment_at ps k) ≡ true
-back ps k = (is_reversal-true _ _, IsReversal-from_true _ _)
+reversal-test : (ps : List Point) (k : ℕ) → IsReversal (segment_into ps k) (segment_at ps k) ↔ is_reversal (segment_into ps k) (segment_at ps k) ≡ true
+reversal-test ps k = (is_reversal-true _ _, IsReversal-from_true _ _)
 
 -- ---- what is declared is computed
 
@@ -33,16 +33,16 @@ unfolding IsFault
 fault-computed ps TooFewPoints few = let is = form_fault-few ps few in rw is refl
 fault-computed ps TooManyPoints many = let is = form_fault-many ps many in rw is refl
 fault-computed ps (PointOutOfRange i) (sized, first) =
-    let found : first_out_of_range ps ≡ Some i = first_place-first _ _ i (beyond ps) first in
+    let found : first_out_of_range ps ≡ Some i = first_place-first _ _ i (out_of_range-test ps) first in
     let is = form_fault-sized ps sized in
     rw (is, found) refl
 fault-computed ps (NotRectilinear i) (range, first) =
-    let found : first_not_rectilinear ps ≡ Some i = first_place-first _ _ i (slanted ps) first in
+    let found : first_not_rectilinear ps ≡ Some i = first_place-first _ _ i (not_rectilinear-test ps) first in
     let is : form_fault ps ≡ option_map NotRectilinear (first_not_rectilinear ps) =
     grind (arith, ints, first_place-none, is_out_of_range-false, form_fault-sized) in
     rw (is, found) refl
 fault-computed ps (Backtracks i) (cycle, first) =
-    let found : first_reversal ps ≡ Some i = first_place-first _ _ i (back ps) first in
+    let found : first_reversal ps ≡ Some i = first_place-first _ _ i (reversal-test ps) first in
     let none = no_form_fault ps cycle in
     rw (none, found) refl
 fault-computed ps TurningZero (never, zero_turns) = grind (arith, ints, no_form_fault, turning_fault-onward)
@@ -58,7 +58,7 @@ unfolding IsFault
 declared-vertices ps fault None none cycle is = grind (arith, ints, cases_Bool, same_fault, never_reverses, sym)
 declared-vertices ps fault (Some i) some cycle is =
     let same : fault ≡ Backtracks i = same_fault _ _ is in
-    rw same (cycle, first-first_place _ _ i (back ps) (sym some))
+    rw same (cycle, first-first_place _ _ i (reversal-test ps) (sym some))
 
 declared-segments : (ps : List Point) (fault : CycleFault) (found : Option ℕ) → found ≡ first_not_rectilinear ps → StaysInRange ps
     → option_or (option_map NotRectilinear found) (turning_fault ps) ≡ Some fault → IsFault ps fault
@@ -66,7 +66,7 @@ unfolding IsFault
 declared-segments ps fault None none range is = declared-vertices ps fault (first_reversal ps) refl (is_cycle-straight ps range (sym none)) is
 declared-segments ps fault (Some i) some range is =
     let same : fault ≡ NotRectilinear i = same_fault _ _ is in
-    rw same (range, first-first_place _ _ i (slanted ps) (sym some))
+    rw same (range, first-first_place _ _ i (not_rectilinear-test ps) (sym some))
 
 declared-points : (ps : List Point) (fault : CycleFault) (found : Option ℕ) → found ≡ first_out_of_range ps → HasLawfulLength ps
     → option_or (option_or (option_map PointOutOfRange found) (option_map NotRectilinear (first_not_rectilinear ps))) (turning_fault ps) ≡ Some fault
@@ -75,7 +75,7 @@ unfolding IsFault
 declared-points ps fault None none sized is = declared-segments ps fault (first_not_rectilinear ps) refl (stays_in_range ps None sized none) is
 declared-points ps fault (Some i) some sized is =
     let same : fault ≡ PointOutOfRange i = same_fault _ _ is in
-    rw same (sized, first-first_place _ _ i (beyond ps) (sym some))
+    rw same (sized, first-first_place _ _ i (out_of_range-test ps) (sym some))
 
 pub fault-declared : (ps : List Point) (fault : CycleFault) → option_or (form_fault ps) (turning_fault ps) ≡ Some fault → IsFault ps fault
 unfolding IsFault
