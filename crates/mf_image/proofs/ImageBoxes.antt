@@ -1,17 +1,15 @@
 -- The boxes of images.
-use Rattle.std.proofs.Common.{◌≡◌, ◌+◌, ◌+ℤ◌, to_z, of_z, w32, ℕ, ℤ, ◌≤◌, pos, ◌≤ℤ◌, List, [], ◌∷◌, sym, ⊎_elim, arith}
+use Rattle.std.proofs.Common.{◌≡◌, to_z, of_z, w32, ℤ, List, [], ◌∷◌, sym, ⊎_elim, arith}
 use Rattle.std.proofs.lemmas.Int.{ints}
-use Rattle.mf_geom.specs.Coordinates.{field_size, least_coordinate, last_in_field}
 use Rattle.mf_rows.specs.declared.bounds.Box4.{Box4}
 use Rattle.mf_rows.specs.Bounds.{IsLeastBox}
 use Rattle.mf_rows.specs.Dots.{Dot, IsPicture}
 use Rattle.mf_rows.proofs.BoxesJoined.{box_of_some}
 use Rattle.mf_rows.specs.Boxes.{IsBoxOfField, box_of_dots}
-use Rattle.mf_show.specs.Grid.{extent}
 use Rattle.mf_rows.proofs.BoxesOfDots.{least_box_of_dots, least_box_of_field, same_least_box}
 use Rattle.mf_image.specs.declared.svg_image.ViewBox.{ViewBox}
 use Rattle.mf_image.specs.Boxes.{IsImageBox, IsTooLargeForImage, image_box, origin}
-use Rattle.mf_image.specs.Svg.{IsImageNumber, HasImageNumbers, view_box_of}
+use Rattle.mf_image.specs.Svg.{HasImageNumbers, view_box_of}
 
 least_is_image_box : (ds : List Dot) (b : Box4) → IsLeastBox ds b → b ≡ image_box ds
 unfolding image_box
@@ -32,15 +30,6 @@ blank_fits ds blank large = ⊎_elim (λ wide. omega (arith, wide)) (λ high. om
 
 -- ---- the numbers of a view box
 
-pub extent_in_field : (first last : ℤ) → least_coordinate ≤ℤ first → last ≤ℤ last_in_field → first ≤ℤ last → extent first last ≤ field_size
-extent_in_field first last left right order = omega (arith, ints)
-
-pub margin_stays : (n : ℕ) → n ≤ field_size → to_z w32 (of_z w32 (to_z w32 n +ℤ pos 2)) ≡ pos (n + 2)
-margin_stays n small = omega (arith, ints)
-
-pub side_stays : (n : ℕ) → n ≤ field_size → to_z w32 n ≡ pos n
-side_stays n small = omega (arith, ints)
-
 pub view_box_numbers : (b : Box4) → IsBoxOfField b → HasImageNumbers (view_box_of b)
 view_box_numbers b field = omega (arith, ints, field)
 
@@ -48,8 +37,5 @@ view_box_numbers b field = omega (arith, ints, field)
 abbrev StaysItself : ℤ → Type 0
 StaysItself z = to_z w32 (of_z w32 z) ≡ z
 
-number_stays : (z : ℤ) → IsImageNumber z → StaysItself z
-number_stays z small = omega (arith, ints, small.least, small.greatest)
-
 pub numbers_stay : (v : ViewBox) → HasImageNumbers v → StaysItself v.left × StaysItself v.top × StaysItself v.width × StaysItself v.height
-numbers_stay v small = (number_stays v.left small.left, number_stays v.top small.top, number_stays v.width small.width, number_stays v.height small.height)
+numbers_stay v has = (omega (arith, ints, has.left), omega (arith, ints, has.top), omega (arith, ints, has.width), omega (arith, ints, has.height))

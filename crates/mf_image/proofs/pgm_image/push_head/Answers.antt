@@ -1,9 +1,8 @@
-use Rattle.std.proofs.Common.{◌≡◌, to_z, of_z, w32, arith}
+use Rattle.std.proofs.Common.{◌≡◌, pos, to_z, of_z, w32, arith}
 use Rattle.std.proofs.lemmas.Int.{ints}
 use Rattle.std.proofs.lemmas.List.{append_assoc}
 use Rattle.std.proofs.lemmas.Result.{IfOk-equal}
 use Rattle.mf_show.specs.Grid.{extent}
-use Rattle.mf_image.proofs.ImageBoxes.{extent_in_field, side_stays}
 use Rattle.mf_image.proofs.pgm_image.push_head.Goals as goal
 
 pub returns : goal.returns
@@ -13,7 +12,7 @@ returns c =
     let top : to_z w32 (of_z w32 b.max_y) ≡ b.max_y = omega (arith, ints) in
     let columns : c.extent-columns.result ≡ extent b.min_x b.max_x = omega (arith, ints, c.extent-columns.ensures) in
     let rows : c.extent-rows.result ≡ extent b.min_y b.max_y = omega (arith, ints, c.extent-rows.ensures) in
-    let width = side_stays _ (extent_in_field b.min_x b.max_x c.requires.left c.requires.right c.requires.columns) in
-    let height = side_stays _ (extent_in_field b.min_y b.max_y c.requires.bottom c.requires.top c.requires.rows) in
+    let width : to_z w32 (extent b.min_x b.max_x) ≡ pos (extent b.min_x b.max_x) = omega (arith, ints, c.requires) in
+    let height : to_z w32 (extent b.min_y b.max_y) ≡ pos (extent b.min_y b.max_y) = omega (arith, ints, c.requires) in
     IfOk-equal _ _ _ _ c.push_number-4.ensures
     (grind (arith, ints, append_assoc))

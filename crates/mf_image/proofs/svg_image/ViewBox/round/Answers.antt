@@ -1,7 +1,7 @@
 use Rattle.std.proofs.Common.{◌≡◌, pos, ◌+ℤ◌, ◌-ℤ◌, ◌+◌, to_z, of_z, w32, neg_ℤ, arith}
 use Rattle.std.proofs.lemmas.Int.{ints}
 use Rattle.mf_show.specs.Grid.{extent}
-use Rattle.mf_image.proofs.ImageBoxes.{extent_in_field, margin_stays, view_box_numbers}
+use Rattle.mf_image.proofs.ImageBoxes.{view_box_numbers}
 use Rattle.mf_image.proofs.svg_image.ViewBox.round.Goals as goal
 
 pub returns-clause-value : goal.returns-clause-value
@@ -12,8 +12,10 @@ returns-clause-value c =
     let left : to_z w32 (of_z w32 (to_z w32 (of_z w32 b.min_x) -ℤ pos 1)) ≡ b.min_x -ℤ pos 1 = omega (arith, ints) in
     let top : to_z w32 (of_z w32 (pos 0 -ℤ to_z w32 (of_z w32 (to_z w32 (of_z w32 b.max_y) +ℤ pos 2)))) ≡ neg_ℤ (b.max_y +ℤ pos 2) = omega (arith, ints) in
     let width : to_z w32 (of_z w32 (to_z w32 c.extent.result +ℤ pos 2)) ≡ pos (extent b.min_x b.max_x + 2) =
-    rw columns (margin_stays _ (extent_in_field b.min_x b.max_x c.requires.left c.requires.right c.requires.columns)) in
-    grind (arith, ints, extent_in_field b.min_y b.max_y c.requires.bottom c.requires.top c.requires.rows, margin_stays)
+    rw columns (omega (arith, ints, c.requires)) in
+    let height : to_z w32 (of_z w32 (to_z w32 c.extent-2.result +ℤ pos 2)) ≡ pos (extent b.min_y b.max_y + 2) =
+    rw rows (omega (arith, ints, c.requires)) in
+    grind (arith, ints)
 
 pub returns-clause-numbers : goal.returns-clause-numbers
 returns-clause-numbers c = rw (returns-clause-value c) (view_box_numbers c.args.bounds.now c.requires)
