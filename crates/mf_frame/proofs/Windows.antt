@@ -117,9 +117,6 @@ pub record IsFitting (canvas : Size) (w : Window) : Type 0 where
 pub fitting_parts : (canvas : Size) (w : Window) → fits_on canvas w ≡ true → IsFitting canvas w
 fitting_parts canvas w test = grind (arith, ints, and_parts, leb-true)
 
-fitting_from : (canvas : Size) (w : Window) → IsFitting canvas w → fits_on canvas w ≡ true
-fitting_from canvas w fitting = grind (arith, ints, and_from, le-leb)
-
 -- at the greatest scale each window fits
 fits_at_greatest : (canvas : Size) (b : Box4) → IsSize canvas → IsBoxOfField b → fits_on canvas (window_at b greatest_coordinate) ≡ true
 unfolding window_at
@@ -130,7 +127,9 @@ fits_at_greatest canvas b size box =
     let high = cell_at_greatest b.max_y (omega (arith, ints, box.rows, box.bottom)) box.top in
     let bottom = line-within (cell_of greatest_coordinate b.min_y) in
     let top = line-within (cell_of greatest_coordinate b.max_y) in
-    fitting_from canvas (window_at b greatest_coordinate) (omega (arith, ints, left.0, right.1, size.enough, low.0, high.1, bottom.1, top.0))
+    let fitting : IsFitting canvas (window_at b greatest_coordinate) =
+    omega (arith, ints, left.0, right.1, size.enough, low.0, high.1, bottom.1, top.0) in
+    and_from _ _ (le-leb _ _ fitting.columns) (le-leb _ _ fitting.lines)
 
 pub first-found : (canvas : Size) (b : Box4) (s : ℤ) (n : ℕ) → fits_on canvas (window_at b s) ≡ true → first_fitting canvas b s (suc n) ≡ s
 unfolding first_fitting
