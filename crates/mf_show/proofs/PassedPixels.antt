@@ -67,8 +67,7 @@ pub one_more_passed : (low : ℤ) (ds : List Dot) (o p : Option Run) (r : Run) (
     → AreAhead low ds (with_next o rs) → AreAhead low ds (with_next p others)
 one_more_passed low ds o p r rs others some end next so_far =
     let all = subst (AreAhead low ds) (with_next-some o r rs some) so_far in
-    let later = ahead_later low low low ds (r ∷ rs) rs (omega (arith, ints)) (omega (arith, ints)) (runs-rest r rs all.order) (same_after r rs low end) all in
-    subst (AreAhead low ds) (next_taken p rs others next) later
+    grind (arith, ints, ahead_later, runs-rest r rs all.order, same_after r rs low end, next_taken)
 
 pub fewer_ahead : (o p : Option Run) (r : Run) (rs others : List Run) → o ≡ Some r
     → MatchOption p ((rs ≡ []) × (others ≡ [])) (λ s. rs ≡ s ∷ others) → length (with_next p others) < length (with_next o rs)
