@@ -1,6 +1,7 @@
 //! Which pictures are equal.
 
 use super::chance::Chance;
+use super::generated::push_runs;
 use super::slow::{SlowPicture, both_forms};
 use super::{assert_equality, block, copy_of, make_run, picture_of};
 use crate::tests::assertions::{assert_holds, assert_same};
@@ -147,24 +148,13 @@ fn blank_pictures_equal_only_each_other(rt: HostRuntime) {
     assert_runs_equal(&rt, 3, &[], &opposite, false);
 }
 
-/// Adds up to two random short runs in a row.
-fn push_few_runs(chance: &mut Chance, runs: &mut Vec<Run>, y: i32) -> Result<(), OutOfMemory> {
-    let mut x = 0i32;
-    for _ in 0..chance.below(3) {
-        x = x.wrapping_add(chance.below(2) as i32);
-        let len = 1 + chance.below(2);
-        runs.push(make_run(y, x, len, chance.one_of(&[1, -1])))?;
-        x = x.wrapping_add(len as i32);
-    }
-    Ok(())
-}
-
 /// Up to two short runs in each of two rows: so few that their pictures are often equal, even where the runs differ.
 fn few_random_runs(alloc: Global, seed: u32) -> Result<Vec<Run>, OutOfMemory> {
     let mut chance = Chance::new(seed);
     let mut runs = Vec::new(alloc);
-    push_few_runs(&mut chance, &mut runs, 1)?;
-    push_few_runs(&mut chance, &mut runs, 0)?;
+    for y in [1, 0] {
+        push_runs(&mut chance, &mut runs, (0, y), (3, 2, 2), &[1, -1])?;
+    }
     Ok(runs)
 }
 

@@ -1,4 +1,5 @@
 //! Pictures of random runs, compared with their slow forms.
+ghost use Rattle.std.specs.Prelude.{◌<◌, ◌^◌, length};
 
 use super::chance::Chance;
 use super::slow::{SlowPicture, both_forms};
@@ -53,17 +54,25 @@ pub(crate) fn forms_of_weights<R: Abort + AllocGlobal>(
     both_forms(rt, &runs.expect(rt, "there is room for the runs"))
 }
 
-/// Adds random runs with these weights in a row, with gaps of up to two columns.
-fn push_runs(
+/// Adds random runs with these weights in a row, from the pixel `start` on. There are fewer than `bounds.0`, each after a gap of
+/// fewer than `bounds.1` columns, and each has up to `bounds.2` pixels.
+pub(crate) fn push_runs(
     chance: &mut Chance,
     runs: &mut Vec<Run>,
-    (start, y): (i32, i32),
-    weights: &[i32; 5],
-) -> Result<(), OutOfMemory> {
-    let mut x = start;
-    for _ in 0..chance.below(7) {
-        x = x.wrapping_add(chance.below(3) as i32);
-        let len = 1 + chance.below(4);
+    start: (i32, i32),
+    bounds: (u32, u32, u32),
+    weights: &[i32],
+) -> Result<(), OutOfMemory>
+    requires least { (0 < bounds.0) × (0 < bounds.1) × (0 < bounds.2) }
+    requires most { (bounds.1 < 10) × (bounds.2 < 10) }
+    requires some { 0 < length weights.now }
+    requires few { length weights.now < 2 ^ 32 }
+{
+    let (mut x, y) = start;
+    let (count, gap, most) = bounds;
+    for _ in 0..chance.below(count) {
+        x = x.wrapping_add(chance.below(gap) as i32);
+        let len = 1 + chance.below(most);
         runs.push(make_run(y, x, len, chance.one_of(weights)))?;
         x = x.wrapping_add(len as i32);
     }
@@ -81,7 +90,7 @@ fn random_runs(
     let mut chance = Chance::new(seed.wrapping_add(start.abs_diff(FIELD_START)));
     let mut runs = Vec::new(alloc);
     for y in ROWS {
-        push_runs(&mut chance, &mut runs, (start, y), weights)?;
+        push_runs(&mut chance, &mut runs, (start, y), (7, 3, 4), weights)?;
     }
     Ok(runs)
 }

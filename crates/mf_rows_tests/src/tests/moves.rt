@@ -4,7 +4,7 @@ ghost use Rattle.mf_edges.specs.Axes.{IsStretch};
 ghost use Rattle.mf_rows.specs.Moves.{PixelsStayInside};
 
 use super::chance::Chance;
-use super::generated::{ROWS, STARTS, random_picture};
+use super::generated::{ROWS, STARTS, push_runs, random_picture};
 use super::slow::{SlowPicture, both_forms};
 use super::{
     assert_equality, assert_total, assert_weights, copy_of, expect_picture, make_run, picture_of,
@@ -169,28 +169,13 @@ fn an_l_is_turned(rt: HostRuntime) {
     );
 }
 
-/// Adds up to two random runs in a row.
-fn push_runs_in_the_middle(
-    chance: &mut Chance,
-    runs: &mut Vec<Run>,
-    y: i32,
-) -> Result<(), OutOfMemory> {
-    let mut x = -SIDE;
-    for _ in 0..chance.below(3) {
-        x = x.wrapping_add(chance.below(5) as i32);
-        let len = 1 + chance.below(4);
-        runs.push(make_run(y, x, len, chance.one_of(&[1, -1, 2, 32767])))?;
-        x = x.wrapping_add(len as i32);
-    }
-    Ok(())
-}
-
 /// Random runs on all sides of the point (0, 0), and at a border between bands: up to two in each row.
 fn runs_near_the_middle(alloc: Global, seed: u32) -> Result<Vec<Run>, OutOfMemory> {
     let mut chance = Chance::new(seed);
     let mut runs = Vec::new(alloc);
     for y in (-SIDE..SIDE).rev() {
-        push_runs_in_the_middle(&mut chance, &mut runs, y)?;
+        let weights = [1, -1, 2, 32767];
+        push_runs(&mut chance, &mut runs, (-SIDE, y), (3, 5, 4), &weights)?;
     }
     Ok(runs)
 }
