@@ -34,8 +34,8 @@ black-dots_of [] = refl
 black-dots_of (r ∷ rs) = grind (arith, ints, cond_both, black-equal_dots, black-skip, black-dots_of rs)
 
 -- the black pixels are those of the black runs
-pub black-black_runs : (ds : List Dot) → flat_map dots_of (black_runs (runs_of ds)) ≡ black ds
-black-black_runs ds = sym (black-dots_of (runs_of ds)) ∙ ap black (dots_of-runs_of ds)
+pub black_runs_dots : (ds : List Dot) → flat_map dots_of (black_runs (runs_of ds)) ≡ black ds
+black_runs_dots ds = sym (black-dots_of (runs_of ds)) ∙ ap black (dots_of-runs_of ds)
 
 -- ---- black pixels are in reading order
 

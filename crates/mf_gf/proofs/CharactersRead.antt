@@ -39,9 +39,9 @@ head-spell code p ds rest fits p_fits set =
     ∙ head-begin code p b (all ++ gf.eoc ∷ [] ++ rest) fits p_fits (box_in_range ds set.picture)
 
 -- painting the bytes of a character gives its pixels
-pub paint-spell : (code : ℕ) (p : ℤ) (ds : List Dot) → IsPixelSet ds → pixels_of_character (spell code p ds) ≡ Some ds
+pub pixels_of_spell : (code : ℕ) (p : ℤ) (ds : List Dot) → IsPixelSet ds → pixels_of_character (spell code p ds) ≡ Some ds
 unfolding spell
-paint-spell code p ds set =
+pixels_of_spell code p ds set =
     let b = box_of_pixels ds in
     let all = stretches_text b.min_m b.max_n b.min_m (runs_of ds) in
     let inside = box_round_dots ds set.picture in
@@ -67,7 +67,7 @@ is_at file s p stands fits =
       head = ap head_of stands.there ∙ head-spell c.code p c.black stands.rest shippable.code fits shippable.black;
       count = length bytes;
       painted = ap (λ it. pixels_of_character (take (length bytes) it)) stands.there ∙ ap pixels_of_character (take-append_seam bytes stands.rest)
-          ∙ paint-spell c.code p c.black shippable.black;
+          ∙ pixels_of_spell c.code p c.black shippable.black;
     }
 
 -- ---- all of them

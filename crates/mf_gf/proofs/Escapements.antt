@@ -7,9 +7,9 @@ use Rattle.std.proofs.lemmas.Option.{cond_some}
 use Rattle.mf_gf.specs.Files.{IsShortDx, short_dx}
 use Rattle.mf_gf.specs.Format.{unity}
 
-pub short_dx-is : (dx : ℤ) (pixels : ℕ) → short_dx dx ≡ Some pixels → IsShortDx dx pixels
-short_dx-is (pos n) pixels short = grind (arith, ints, cond_some, and_parts)
-short_dx-is (negsuc n) pixels short = absurd (cc)
+pub short_dx_is : (dx : ℤ) (pixels : ℕ) → short_dx dx ≡ Some pixels → IsShortDx dx pixels
+short_dx_is (pos n) pixels short = grind (arith, ints, cond_some, and_parts)
+short_dx_is (negsuc n) pixels short = absurd (cc)
 
 -- an escapement that is not negative passes the test of whole pixels if nothing is left over
 passes_whole : (n : ℕ) → n % unity ≡ 0 → int_eq (pos (n % unity)) (pos 0) ≡ true

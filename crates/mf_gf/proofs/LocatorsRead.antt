@@ -12,7 +12,7 @@ use Rattle.mf_gf.specs.Files.{Shipment, ending, last_shipment, locator_head, loc
 use Rattle.mf_gf.specs.Numbers.{IsWord, greatest_word, word}
 use Rattle.mf_gf.specs.Pointers.{Item, locators_within, read_item}
 use Rattle.mf_gf.proofs.BoxOfDots.{word-reads_back}
-use Rattle.mf_gf.proofs.Escapements.{short_dx-is}
+use Rattle.mf_gf.proofs.Escapements.{short_dx_is}
 
 -- what a test decides, shown for both of its values
 pub split : (P : Bool → Type 0) (test : Bool) → (test ≡ true → P true) → (test ≡ false → P false) → P test
@@ -34,7 +34,7 @@ read_as l rest = Some (record { locator = Some l; rest = rest })
 head_reads : (l : Locator) (rest : List ℕ) (short : Option ℕ) → FitsFields l → short_dx l.dx ≡ short
     → read_item (locator_head l.code l.dx short ++ (word l.width ++ (word (pos l.place) ++ rest))) ≡ read_as l rest
 unfolding read_item
-head_reads l rest (Some pixels) fits short = grind (arith, ints, sym, short_dx-is, word-reads_back)
+head_reads l rest (Some pixels) fits short = grind (arith, ints, sym, short_dx_is, word-reads_back)
 head_reads l rest None fits short =
     let dx = word-reads_back l.dx (word (pos 0) ++ word l.width ++ word (pos l.place) ++ rest) fits.dx in
     let width = word-reads_back l.width (word (pos l.place) ++ rest) fits.width in

@@ -2,27 +2,15 @@
 use Rattle.std.proofs.Common.{◌≡◌, ◌≢◌, ◌&&◌, if◌then◌else◌, ℕ, ◌-◌, ◌<◌, ◌≤◌, ℤ, [], ◌∷◌, ◌++◌, arith}
 use Rattle.std.specs.Prelude.{◌==◌, nat_le}
 use Rattle.std.specs.Ordering.{int_eq}
-use Rattle.std.proofs.lemmas.Bool.{cond-true, cond-false, le-leb, lt-leb, leb-true, eq-eqb, ne_eqb, eqb-true, and_from, and_parts, false_from_ne_true}
+use Rattle.std.proofs.lemmas.Bool.{cond-true, cond-false, le-leb, leb-true, eq-eqb, eqb-true, and_from, and_parts, false_from_ne_true}
 use Rattle.std.proofs.lemmas.Bool.Decides.{Decides-int_eq}
 use Rattle.mf_rows.specs.declared.run.Run.{Run}
 use Rattle.mf_gf.specs.Format as gf
 use Rattle.mf_gf.specs.Spelling.{approach, distance, new_row, paint, skip, with_parameter}
 
-pub paint_short : (n : ℕ) → n ≤ gf.most_painted → paint n ≡ n ∷ []
+paint_short : (n : ℕ) → n ≤ gf.most_painted → paint n ≡ n ∷ []
 unfolding paint
 paint_short n short = cond-true _ (n ∷ []) (with_parameter gf.paint1 n) (le-leb n gf.most_painted short)
-
-pub paint_long : (n : ℕ) → gf.most_painted < n → paint n ≡ with_parameter gf.paint1 n
-unfolding paint
-paint_long n long = cond-false _ (n ∷ []) (with_parameter gf.paint1 n) (lt-leb n gf.most_painted long)
-
-pub skip_none : (n : ℕ) → n ≡ 0 → skip n ≡ gf.skip0 ∷ []
-unfolding skip
-skip_none n none = cond-true _ (gf.skip0 ∷ []) (with_parameter gf.skip1 n) (eq-eqb n 0 none)
-
-pub skip_some : (n : ℕ) → n ≢ 0 → skip n ≡ with_parameter gf.skip1 n
-unfolding skip
-skip_some n some = cond-false _ (gf.skip0 ∷ []) (with_parameter gf.skip1 n) (ne_eqb n 0 some)
 
 module _ (left row column : ℤ) (r : Run) where
   pub stroke_near : r.y ≡ row → distance r.x column ≤ gf.most_painted → r.len ≤ gf.most_painted

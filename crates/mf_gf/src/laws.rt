@@ -15,6 +15,7 @@ ghost use Rattle.mf_rows.specs.Dots.{Dot, IsPicture, weight_at};
 
 /// Painting the bytes of a character gives back exactly its pixels, for every finite set of pixels of the field, every code and
 /// every p.
+#[tactic(auto, using(crate::proofs::CharactersRead::pixels_of_spell))]
 pub fn painted_back()
     ensures { (code : ℕ) (p : ℤ) (ds : List Dot) → code < code_count → IsPixelSet ds → pixels_of_character (spell code p ds) ≡ Some ds }
 {}
@@ -39,6 +40,7 @@ pub fn box_is_least()
 {}
 
 /// An escapement is written in one byte exactly where it is 65536 times that byte.
+#[tactic(auto, using(crate::proofs::Escapements::short_dx_is, crate::proofs::Escapements::is_short_dx))]
 pub fn short_escapements()
     ensures { (dx : ℤ) (pixels : ℕ) → (short_dx dx ≡ Some pixels) ↔ IsShortDx dx pixels }
 {}

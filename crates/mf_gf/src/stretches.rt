@@ -19,6 +19,7 @@ pub(crate) struct Stretches<'a> {
 
 impl<'a> Stretches<'a> {
     /// An iterator over the stretches of a picture.
+    #[tactic(auto, using(crate::proofs::BlackDots::black_runs_dots))]
     pub(crate) fn over(picture: &'a Picture) -> Stretches<'a>
         ensures order { AreBlackRuns (black_runs_ahead result) }
         ensures stretches { stretches_ahead result ≡ runs_of (black picture.now) }

@@ -25,7 +25,7 @@ const NEW_ROW_0: u8 = 74;
 impl Spelling {
     /// Appends a command that paints `length` pixels. Most stretches have at most 63, so only their command is inlined.
     #[inline(always)]
-    #[tactic(auto, using(crate::proofs::StrokeTexts::paint_short, crate::proofs::StrokeTexts::paint_long, crate::proofs::Writing::write_same))]
+    #[tactic(auto, unfolding(crate::specs::Spelling::paint))]
     pub(crate) fn paint(&mut self, length: u32)
         requires { length ≤ greatest_halfword }
         ensures held { (text : List ℕ) → Holds self.old text → Holds self.new (text ++ paint length) }
@@ -39,7 +39,7 @@ impl Spelling {
     }
 
     /// Appends a command that skips `rows` blank rows.
-    #[tactic(auto, using(crate::proofs::StrokeTexts::skip_none, crate::proofs::StrokeTexts::skip_some, crate::proofs::Writing::write_same))]
+    #[tactic(auto, unfolding(crate::specs::Spelling::skip))]
     pub(crate) fn skip(&mut self, rows: u32)
         requires { rows ≤ greatest_halfword }
         ensures held { (text : List ℕ) → Holds self.old text → Holds self.new (text ++ skip rows) }

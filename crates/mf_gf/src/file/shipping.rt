@@ -35,6 +35,7 @@ impl GfFile {
     /// A file with this comment and no characters, of at most `max_bytes` bytes. A greater `max_bytes` than 2,147,483,647 counts
     /// as that number. Refused with `FileTooLong` exactly where the preamble with the comment has more bytes than that, else with
     /// `CommentTooLong` exactly where the comment has more than 255 bytes, and with `OutOfMemory` where an allocation fails.
+    #[tactic(auto, unfolding(crate::specs::Files::with_characters))]
     pub fn new(alloc: Global, comment: &[u8], max_bytes: u32) -> Result<GfFile, GfFault>
         ensures kept { IfOk result (λ file. Keeps file comment.now []) }
         ensures max_bytes { IfOk result (λ file. max_bytes_of file ≡ min max_bytes greatest_word) }
