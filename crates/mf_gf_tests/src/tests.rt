@@ -29,6 +29,11 @@ const MAX_BYTES: u32 = 16_777_216;
 /// A rectangle of 3 by 2 pixels. Its character has 11 bytes, and a file of it alone, without a comment, has 72.
 const RECT: &[(i32, i32, u32)] = &[(1, 0, 3), (0, 0, 3)];
 
+/// Thirty pixels of row 9, from column -7 on. Their box is not in that of the rectangle.
+const FAR: &[(i32, i32, u32)] = &[(9, -7, 30)];
+
+const UNIT: &[(i32, i32, u32)] = &[(0, 0, 1)];
+
 /// Adds a run, which must fit after the ones before it.
 fn push(rt: &impl Abort, builder: &mut RowBuilder, run: Run) {
     assert!(rt; builder.fits(&run), "{run:?}");

@@ -2,8 +2,8 @@
 
 use super::files::{Part, assert_bytes, assert_parts};
 use super::{
-    MAX_BYTES, RECT, assert_count, assert_length, finish, gf_file, picture, ship, ship_rectangle,
-    with_rectangle,
+    FAR, MAX_BYTES, RECT, UNIT, assert_count, assert_length, finish, gf_file, picture, ship,
+    ship_rectangle, with_rectangle,
 };
 use mf_gf::GfFile;
 use std::alloc::Global;
@@ -81,11 +81,6 @@ fn numbers_of_the_last(rt: HostRuntime) {
     ship(&rt, &mut file, 65, (0, 1), &rect);
     assert_parts(&rt, &finish(&rt, file), last_numbers());
 }
-
-/// Thirty pixels of row 9, from column -7 on.
-const FAR: &[(i32, i32, u32)] = &[(9, -7, 30)];
-
-const UNIT: &[(i32, i32, u32)] = &[(0, 0, 1)];
 
 /// The box of the postamble is around both characters with a code: columns -7 to 23, and rows 0 to 9.
 const PARTS_OF_BOTH: &[Part] = &[

@@ -1,16 +1,14 @@
 //! The bytes of complete files.
 
 use super::{
-    MAX_BYTES, RECT, assert_count, assert_length, assert_part, finish, finish_with, gf_file,
-    picture, ship, with_rectangle,
+    MAX_BYTES, NO_WORDS, RECT, UNIT, assert_count, assert_length, assert_part, finish, finish_with,
+    gf_file, picture, ship, with_rectangle,
 };
 use crate::tests::assertions::assert_same;
 use mf_gf::{FontWords, GfBytes, GfFault, GfFile};
 use mf_rows::Picture;
 use std::alloc::Global;
 use std::process::Abort;
-
-const UNIT: &[(i32, i32, u32)] = &[(0, 0, 1)];
 
 // Functions return the tables of bytes, so that the prover checks the tests without them.
 
@@ -48,15 +46,9 @@ fn one_character(rt: HostRuntime) {
 
 /// A font with a comment and one character.
 fn font(alloc: Global, picture: &Picture) -> Result<GfBytes, GfFault> {
-    let mut file = GfFile::new(alloc, b"a comment", 16_777_216)?;
+    let mut file = GfFile::new(alloc, b"a comment", MAX_BYTES)?;
     file.ship(65, 327_680, 0, picture)?;
-    let words = FontWords {
-        ds: 0,
-        cs: 0,
-        hppp: 0,
-        vppp: 0,
-    };
-    file.finish(words).map_err(|(_, fault)| fault)
+    file.finish(NO_WORDS).map_err(|(_, fault)| fault)
 }
 
 #[test]

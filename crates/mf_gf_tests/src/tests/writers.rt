@@ -54,10 +54,15 @@ fn assert_cuts(rt: &impl Abort, alloc: Global, file: &GfBytes, at_once: usize) {
     }
 }
 
+/// The file of the rectangle, 72 bytes.
+fn rectangle_bytes(rt: &impl Abort, alloc: Global) -> GfBytes {
+    finish(rt, with_rectangle(rt, alloc, MAX_BYTES))
+}
+
 #[test]
 fn files_are_written(rt: HostRuntime) {
     let alloc = rt.alloc();
-    let file = finish(&rt, with_rectangle(&rt, alloc, MAX_BYTES));
+    let file = rectangle_bytes(&rt, alloc);
     assert_written_to_memory(&rt, alloc, &file);
     assert_cuts(&rt, alloc, &file, 1);
     assert_cuts(&rt, alloc, &file, 7);
@@ -104,11 +109,6 @@ fn assert_asked_no_more(
     assert_same(rt, written, Err(fault), (failure, "after", sent));
     assert_same(rt, writer.bytes(), part(rt, file.bytes(), 0, sent), failure);
     assert_same(rt, writer.calls_after(), 0, "calls after the failure");
-}
-
-/// The file of the rectangle, 72 bytes.
-fn rectangle_bytes(rt: &impl Abort, alloc: Global) -> GfBytes {
-    finish(rt, with_rectangle(rt, alloc, MAX_BYTES))
 }
 
 #[test]

@@ -5,7 +5,8 @@ use crate::tests::assertions::assert_same;
 use crate::tests::files::{assert_bytes, one};
 use crate::tests::refusals::{assert_end_refused, long_rows};
 use crate::tests::{
-    MAX_BYTES, RECT, assert_count, finish, gf_file, picture, ship, ship_rectangle, with_rectangle,
+    FAR, MAX_BYTES, RECT, assert_count, finish, gf_file, picture, ship, ship_rectangle,
+    with_rectangle,
 };
 use mf_gf::{GfFault, GfFile};
 use mf_rows::Picture;
@@ -80,9 +81,6 @@ fn a_first_character_is_shipped(rt: HostRuntime) {
     assert_count(&rt, &file, 1);
     assert_bytes(&rt, alloc, &finish(&rt, file), one());
 }
-
-/// Thirty pixels of row 9, from column -7 on. Their box is not in that of the rectangle.
-const FAR: &[(i32, i32, u32)] = &[(9, -7, 30)];
 
 /// The pixels `FAR` as a character, with another code than the rectangle and with the same code.
 const OTHER: Character = Character {
