@@ -1,14 +1,12 @@
 -- Rows that are added or subtracted: the negated ones are as lawful as the others, and at the same heights.
-use Rattle.std.proofs.Common.{◌≡◌, ◌≢◌, ℤ, pos, neg_ℤ, ◌+ℤ◌, ◌-ℤ◌, ◌<ℤ◌, List, [], ◌∷◌, ◌++◌, length, get_or, refl, ap, ◌∙◌, arith}
+use Rattle.std.proofs.Common.{◌≡◌, ◌≢◌, ℤ, pos, neg_ℤ, ◌+ℤ◌, ◌-ℤ◌, ◌<ℤ◌, List, [], ◌∷◌, ◌++◌, length, refl, ap, ◌∙◌, arith}
 use Rattle.std.specs.List.{All}
 use Rattle.std.proofs.lemmas.Int.{ints, by_lt_z}
 use Rattle.std.proofs.lemmas.List.{map-append}
 use Rattle.std.proofs.lemmas.List.Elements.{All-map}
-use Rattle.mf_geom.specs.Coordinates.{least_coordinate, last_in_field}
+use Rattle.mf_geom.specs.Coordinates.{last_in_field}
 use Rattle.mf_edges.specs.declared.edge.Edge.{Edge}
 use Rattle.mf_edges.specs.Edges.{weight_in, AreEdgesFrom, AreEdges}
-use Rattle.mf_edges.specs.Merging.{IsChange}
-use Rattle.mf_edges.proofs.EdgesAt.{step_at_edge}
 use Rattle.mf_edges.proofs.EdgesLemmas.{weight_in-left, weight_in-right}
 use Rattle.mf_rows.specs.declared.sign.Sign.{Sign}
 use Rattle.mf_rows.specs.declared.sign.Sign.TheVariants.{Plus, Minus}
@@ -41,14 +39,6 @@ edges-negated es edges = grind (arith, ints, edges_from-negated, weight_in-negat
 some-negated : (es : List Edge) → es ≢ [] → negated_edges es ≢ []
 some-negated [] some = λ none. some none
 some-negated (e ∷ es) some = λ none. absurd (omega (arith, ap length none))
-
--- an edge changes one lawful weight to another, so it can be negated
-pub are_changes : (es : List Edge) → AreEdges es → All (λ e. IsChange e.weight) es
-are_changes es edges k d inside =
-    let step = step_at_edge least_coordinate es k d edges.sorted inside in
-    let upper = edges.lawful (get_or es k d).x in
-    let lower = edges.lawful ((get_or es k d).x -ℤ pos 1) in
-    record { least = omega (arith, ints, step, upper, lower); greatest = omega (arith, ints, step, upper, lower) }
 
 -- ---- rows
 
