@@ -185,6 +185,7 @@ impl OpenRow {
     }
 
     /// Whether the row ends before a run.
+    #[tactic(auto, using(std::proofs::lemmas::Int::ints))]
     fn ends_before(&self, run: &Run) -> bool
         requires { AreEdges self.now.edges.items }
         ensures { IsTrue result ↔ EndsBefore (open_row self.now) run.now }

@@ -45,6 +45,7 @@ pub(crate) fn sum_of_groups(
 }
 
 /// The sum of the groups at one place, or their difference.
+#[tactic(auto, using(crate::proofs::GroupsLemmas::sum_of_none))]
 pub(crate) fn sum_of_two(
     alloc: Global,
     left: Option<&Arc<Group>>,
@@ -66,6 +67,7 @@ pub(crate) fn sum_of_two(
 }
 
 /// The sum of the group at a place, where there is one, and of what is added to it, which is mostly nothing.
+#[tactic(auto, using(crate::proofs::GroupsLemmas::sum_with_none))]
 pub(crate) fn sum_with(
     alloc: Global,
     group: Option<&Arc<Group>>,

@@ -47,6 +47,7 @@ impl NewEdges {
     }
 
     /// No edges. Allocates nothing.
+    #[tactic(auto, using(crate::proofs::RowListLemmas::none_in_reach))]
     pub(crate) fn none(alloc: Global) -> NewEdges
         ensures { kept_edges result.kept ≡ [] }
     {
