@@ -19,6 +19,7 @@ use std::sync::Arc;
 
 /// Adds rows to groups. Groups and bands that no row reaches stay as they are. Refused with `WeightTooLarge` where a weight would exceed
 /// 32767 in absolute value, and with `OutOfMemory` where an allocation fails; a refusal leaves all rows as they were.
+#[tactic(auto, using(std::proofs::lemmas::Int::ints))]
 pub(crate) fn add_rows(
     alloc: Global,
     groups: &mut Vec<Option<Arc<Group>>>,
