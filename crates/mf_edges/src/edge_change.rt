@@ -44,6 +44,7 @@ pub(crate) fn mapped_edges(
 
 /// The edges of a row after its columns are reflected: column x becomes column -x - 1, so an edge at x moves to -x and
 /// changes its sign.
+#[tactic(auto, using(crate::proofs::EdgeChanges::opposite_none))]
 pub(crate) fn mirrored_edges(alloc: Global, edges: &[Edge]) -> Result<Vec<Edge>, OutOfMemory>
     requires { AreEdges edges.now }
     ensures { IfOk result (λ mirrored. AreChanged Mirror edges.now mirrored.items) }

@@ -26,6 +26,7 @@ pub struct Choice {
 
 impl WeightMap {
     /// The weight that a weight becomes.
+    #[tactic(auto, using(std::proofs::lemmas::Int::ints))]
     pub(crate) fn apply(&self, weight: i32) -> i32
         requires map { IsWeightMap self.now }
         requires weight { IsLawfulWeight weight }

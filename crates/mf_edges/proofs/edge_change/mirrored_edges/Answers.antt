@@ -1,10 +1,7 @@
 use Rattle.std.proofs.Common.{◌≡◌, pos, neg_ℤ, ◌-ℤ◌, to_z, of_z, w32, arith}
 use Rattle.std.proofs.lemmas.Int.{ints}
-use Rattle.mf_edges.proofs.EdgeChanges.{opposite_none, last_edge, last_weight, opposite_more, opposite_all}
+use Rattle.mf_edges.proofs.EdgeChanges.{last_edge, last_weight, opposite_more, opposite_all}
 use Rattle.mf_edges.proofs.edge_change.mirrored_edges.Goals as goal
-
-pub loop-edge-init : goal.loop-edge-init
-loop-edge-init c = grind (arith, ints, opposite_none)
 
 pub overflow_sub-edge : goal.overflow_sub-edge
 overflow_sub-edge c =
