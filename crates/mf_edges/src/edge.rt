@@ -56,6 +56,7 @@ pub fn total_of_edges(edges: &[Edge]) -> i64
 /// The least reach of edges: the greatest absolute value of the weights between them, 0 where there are no edges. Requires edges as
 /// `weight_at_column` does, but the weights between them may be sums of two lawful weights, in -65534..=65534. So they are the edges
 /// of a row exactly where their reach is at most 32767.
+#[tactic(auto, using(crate::proofs::ReachesLemmas::reach_all))]
 pub fn reach_of(edges: &[Edge]) -> i32
     requires { AreChanges edges.now }
     ensures { IsLeastReach result edges.now }
@@ -76,6 +77,7 @@ pub fn reach_of(edges: &[Edge]) -> i32
 /// -4095..=4095; and a weight in -32767..=32767. The edges stay sorted, at most one a column, in -4095..=4095, none of weight
 /// 0. The weights between them may then exceed 32767 in absolute value, but the next call requires that they do not. The
 /// list gets at most one edge more, and its capacity never shrinks.
+#[tactic(auto, using(crate::proofs::AddedEdges::nothing_added))]
 pub fn add_edge(edges: &mut Vec<Edge>, x: i32, weight: i32) -> Result<(), OutOfMemory>
     requires edges { AreOpenEdges edges.old.items }
     requires column { IsCoordinate x }
@@ -101,6 +103,7 @@ pub fn add_edge(edges: &mut Vec<Edge>, x: i32, weight: i32) -> Result<(), OutOfM
 }
 
 /// Adds a weight to an edge, and removes the edge where the two cancel.
+#[tactic(auto, using(std::proofs::lemmas::Int::ints, crate::proofs::AddedEdges::edge_is_small))]
 fn change_edge(edges: &mut Vec<Edge>, at: usize, weight: i32)
     requires edges { AreOpenEdges edges.old.items }
     requires weight { IsLawfulWeight weight }

@@ -8,6 +8,7 @@ ghost use Rattle.mf_edges.specs.Edges.{AreEdges, weight_in};
 ghost use Rattle.mf_edges.specs.Totals.{edges_total};
 
 /// The total weight of a row, which is defined and computed edge by edge, is the sum of the weights of all columns of the field.
+#[tactic(auto, using(crate::proofs::ColumnTotals::sum_of_columns))]
 pub fn total_is_the_sum_over_the_columns()
     ensures { (es : List Edge) → AreEdges es →
         edges_total es ≡ sum_below field_size (λ i. weight_in es (least_coordinate +ℤ pos i)) }

@@ -6,7 +6,7 @@ use Rattle.std.proofs.lemmas.List.Sorted.{answers_always}
 use Rattle.std.proofs.lemmas.Result.{err_from_is_err_and}
 use Rattle.mf_edges.specs.declared.edge.Edge.{Edge}
 use Rattle.mf_edges.specs.Sums.{HaveWeights, with_edge_in}
-use Rattle.mf_edges.proofs.AddedEdges.{found_column, inserted_sorted, inserted_weights, none_there, nothing_added}
+use Rattle.mf_edges.proofs.AddedEdges.{found_column, inserted_sorted, inserted_weights, none_there}
 use Rattle.mf_edges.proofs.edge.add_edge.Goals as goal
 
 -- the closure answers an edge's column, and the slice holds the edges
@@ -34,9 +34,6 @@ returns-in_ok-insert-in-Err-clause-sorted c =
 
 pub returns-in_ok-insert-in-Err-clause-weights : goal.returns-in_ok-insert-in-Err-clause-weights
 returns-in_ok-insert-in-Err-clause-weights c = grind (arith, ints, to_z-of_z, inserted_weights)
-
-pub returns-else-weight-ne0-clause-weights : goal.returns-else-weight-ne0-clause-weights
-returns-else-weight-ne0-clause-weights c = grind (arith, ints, nothing_added)
 
 pub returns-in_err-insert-in-Err-clause-absent : goal.returns-in_err-insert-in-Err-clause-absent
 returns-in_err-insert-in-Err-clause-absent c =

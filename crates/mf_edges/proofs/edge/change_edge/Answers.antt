@@ -3,9 +3,6 @@ use Rattle.std.proofs.lemmas.Int.{ints}
 use Rattle.mf_edges.proofs.AddedEdges.{edge_is_small, removed_sorted, removed_weights, changed_sorted, changed_weights}
 use Rattle.mf_edges.proofs.edge.change_edge.Goals as goal
 
-pub overflow_add-changed : goal.overflow_add-changed
-overflow_add-changed c = grind (arith, ints, edge_is_small)
-
 pub returns-then-changed-eq0-clause-sorted : goal.returns-then-changed-eq0-clause-sorted
 returns-then-changed-eq0-clause-sorted c = rw c.remove.ensures.items (removed_sorted c.args.edges.now.items c.args.at c.requires.edges)
 

@@ -1,7 +1,7 @@
 use Rattle.std.proofs.Common.{◌≡◌, pos, ◌+ℤ◌, get_or, nat_abs, to_z, of_z, w32, arith}
 use Rattle.std.proofs.lemmas.Int.{ints}
 use Rattle.mf_edges.specs.declared.edge.Edge.{Edge}
-use Rattle.mf_edges.proofs.ReachesLemmas.{changes_at, reach_more, reach_none, reach_all}
+use Rattle.mf_edges.proofs.ReachesLemmas.{changes_at, reach_more, reach_none}
 use Rattle.mf_edges.proofs.edge.reach_of.Goals as goal
 
 pub loop-edge-init : goal.loop-edge-init
@@ -33,6 +33,3 @@ loop-edge-preserved c =
     let here = grown.here in
     let next_is : to_z w32 (of_z w32 c.max-reach.result) ≡ c.max-reach.result = omega (arith, ints) in
     rw (change_is, weight_is, next_is) grown
-
-pub returns : goal.returns
-returns c = reach_all c.args.edges.now _ _ _ c.loop-edge.invariant c.loop-edge-test.false
