@@ -15,7 +15,7 @@ use Rattle.mf_rows.proofs.EdgeRowsLemmas.{weight_in_rows-append, weight_in_rows-
 use Rattle.mf_rows.proofs.EdgeRowsLemmas.{weight_in_rows-none, weight_in_rows-above, rows_from-append}
 use Rattle.mf_rows.proofs.RowSums.{by_same}
 
--- rows have no weight below the height down to which they reach
+-- rows down to a row have no weight below it
 pub below_bottom : (bottom : ℤ) (rs : List EdgeRow) (x y : ℤ) → AreDownTo bottom rs → y <ℤ bottom → weight_in_rows rs x y ≡ pos 0
 below_bottom bottom rs x y down lt =
     weight_in_rows-above rs x y (All-weaker (λ r. bottom ≤ℤ r.y) (λ r. y <ℤ r.y) (λ r le. omega (arith, ints, le, lt)) rs down.from)

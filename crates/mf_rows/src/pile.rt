@@ -104,6 +104,7 @@ impl Pile {
 
     /// Whether there are no groups, as in a picture to which nothing was added.
     #[inline(always)]
+    #[tactic(auto, using(std::proofs::lemmas::List::nil_from_length, crate::proofs::PilesLemmas::pile_alone, crate::proofs::PilesLemmas::none_are_groups))]
     pub(crate) fn has_no_groups(&self) -> bool
         ensures { IsTrue result → self.now ≡ [] }
     {

@@ -16,6 +16,7 @@ use mf_edges::{Edge, RowChange, changed_edges};
 use std::alloc::Global;
 
 /// The rows after a change, without those that become blank. Neighbours with the same edges are worked out once.
+#[tactic(auto, using(std::proofs::lemmas::List::drop_all, crate::proofs::RowChangesLemmas::change_all))]
 pub(crate) fn changed_rows(
     alloc: Global,
     rows: &[Row<'_>],

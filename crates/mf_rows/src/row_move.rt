@@ -16,6 +16,7 @@ use mf_edges::Stretch;
 use std::alloc::Global;
 
 /// The reflected rows: row y becomes row -y - 1.
+#[tactic(auto, using(std::proofs::lemmas::List::nil_from_length, crate::proofs::RowMoves::mirror_none, crate::proofs::RowMoves::mirror_all))]
 pub(crate) fn mirrored_rows(alloc: Global, rows: &[Row<'_>]) -> Result<RowWriter, OutOfMemory>
     requires { AreRows (edge_rows rows.now) }
     ensures rows { IfOk result (λ mirrored. AreRows mirrored) }
@@ -29,6 +30,7 @@ pub(crate) fn mirrored_rows(alloc: Global, rows: &[Row<'_>]) -> Result<RowWriter
 }
 
 /// The rows after a stretch. Each becomes as many rows as the factor says, which share its edges.
+#[tactic(auto, using(std::proofs::lemmas::List::drop_all, crate::proofs::RowStretches::stretch_all))]
 pub(crate) fn stretched_rows(
     alloc: Global,
     rows: &[Row<'_>],

@@ -15,6 +15,7 @@ use std::alloc::Global;
 
 /// The rows of the sum of two lists. Refused with `WeightTooLarge` where a weight would exceed 32767 in absolute value, and
 /// with `OutOfMemory` where an allocation fails.
+#[tactic(auto, using(crate::proofs::RowSums::sum_none, crate::proofs::RowSumSteps::sum_all_weights))]
 pub(crate) fn sum_of_rows(
     alloc: Global,
     left: RowSlice<'_>,

@@ -120,6 +120,7 @@ impl RowWriter {
     }
 
     /// The bands of all rows.
+    #[tactic(auto, using(crate::proofs::WrittenBands::all_finished))]
     pub(crate) fn finish(self) -> Result<Vec<Arc<Band>>, OutOfMemory>
         ensures rows { IfOk result (λ bands. rows_of_bands bands.items ≡ self) }
         ensures rising { AreRows self → IfOk result (λ bands. HaveRisingNumbers bands.items) }

@@ -57,6 +57,7 @@ fn edges_of(rows: RowSlice<'_>) -> (usize, usize)
 }
 
 /// Appends the heads of rows whose edges were copied: those from place `from` on are among these, from place `to` on.
+#[tactic(auto, using(crate::proofs::CopiesLemmas::moved_all))]
 fn push_relocated(
     heads: &mut Vec<Head>,
     edges: &[Edge],

@@ -1,13 +1,12 @@
 use Rattle.std.proofs.Common.{◌≡◌, ◌++◌, to_z, of_z, w32, sym, ap, ◌∙◌, arith}
 use Rattle.std.proofs.lemmas.Int.{ints}
-use Rattle.std.proofs.lemmas.List.{drop_all}
 use Rattle.std.proofs.lemmas.List.Elements.{All-head}
 use Rattle.mf_edges.specs.Edges.{weight_in}
 use Rattle.mf_rows.specs.Bands.{edge_row}
 use Rattle.mf_rows.specs.BlankRows.{unless_blank}
 use Rattle.mf_rows.specs.KeptEdges.{kept_edges}
 use Rattle.mf_edges.specs.RowChanges.{AreChanged, EdgesAllowChange, image_in}
-use Rattle.mf_rows.proofs.RowChangesLemmas.{next_rows, same_edges, made_none, change_more, change_all, image_of_blank}
+use Rattle.mf_rows.proofs.RowChangesLemmas.{next_rows, same_edges, made_none, change_more, image_of_blank}
 use Rattle.mf_rows.proofs.row_change.changed_rows.Goals.{then-ne+in_ok-changed_edges+in_ok-image, else-ne}
 use Rattle.mf_rows.proofs.row_change.changed_rows.Goals as goal
 
@@ -47,6 +46,3 @@ loop-row-preserved c =
           (change_more c.args.change.now _ _ _ (edge_row row) _ c.requires.change next (rw done.0 at done.1));
       image = done.1;
     }
-
-pub returns : goal.returns
-returns c = grind (arith, ints, drop_all, change_all)

@@ -1,12 +1,8 @@
 use Rattle.std.proofs.Common.{arith}
 use Rattle.std.proofs.lemmas.Int.{ints}
-use Rattle.std.proofs.lemmas.List.{nil_from_length}
-use Rattle.mf_rows.proofs.RowMoves.{last_rows, mirror_none, mirror_last, mirror_more, mirror_all}
+use Rattle.mf_rows.proofs.RowMoves.{last_rows, mirror_last, mirror_more}
 use Rattle.mf_rows.proofs.TurnChanges.{opposite_is}
 use Rattle.mf_rows.proofs.row_move.mirrored_rows.Goals as goal
-
-pub loop-row-init : goal.loop-row-init
-loop-row-init c = grind (arith, ints, mirror_none)
 
 pub push-requires : goal.push-requires
 push-requires c =
@@ -17,6 +13,3 @@ pub loop-row-preserved : goal.loop-row-preserved
 loop-row-preserved c =
     let so_far = rw (last_rows _ _ _ c.in-Some.ensures.steps) at c.loop-row.invariant in
     rw (c.in_ok-push.ensures, opposite_is (mirror_last _ _ so_far)) (mirror_more _ _ so_far)
-
-pub returns : goal.returns
-returns c = grind (arith, ints, nil_from_length, mirror_all)

@@ -1,8 +1,7 @@
-use Rattle.std.proofs.lemmas.List.{drop_all}
 use Rattle.std.proofs.lemmas.List.Elements.{All-head}
 use Rattle.mf_edges.specs.Axes.{PlaceStaysInside}
 use Rattle.mf_rows.proofs.RowChangesLemmas.{next_rows, made_none}
-use Rattle.mf_rows.proofs.RowStretches.{stretch_more, stretch_all}
+use Rattle.mf_rows.proofs.RowStretches.{stretch_more}
 use Rattle.mf_rows.proofs.row_move.stretched_rows.Goals as goal
 use Rattle.std.proofs.Common.{arith}
 
@@ -21,6 +20,3 @@ push_stretched-requires c =
 
 pub loop-row-preserved : goal.loop-row-preserved
 loop-row-preserved c = grind (arith, next_rows, stretch_more)
-
-pub returns : goal.returns
-returns c = grind (arith, drop_all, stretch_all)

@@ -2,12 +2,9 @@ use Rattle.std.proofs.Common.{◌≡◌, to_z, of_z, w32, refl, rules, arith}
 use Rattle.std.proofs.lemmas.Int.{to_z-of_z}
 use Rattle.std.proofs.lemmas.Result.{err_from_is_err_and}
 use Rattle.mf_rows.specs.Bands.{edge_row}
-use Rattle.mf_rows.proofs.RowSums.{sum_none, rows_left, rest_from, added_split, sum_with_above}
+use Rattle.mf_rows.proofs.RowSums.{rows_left, rest_from, added_split, sum_with_above}
 use Rattle.mf_rows.proofs.RowSumSteps.{sum_more, sum_all_rows, sum_all_weights, unlawful_somewhere, stay_within}
 use Rattle.mf_rows.proofs.row_sum.sum_of_rows.Goals as goal
-
-pub loop-added-init : goal.loop-added-init
-loop-added-init c = grind (arith, sum_none)
 
 pub split_above-requires : goal.split_above-requires
 split_above-requires c = rows_left c.loop-added.invariant
@@ -49,9 +46,6 @@ pub returns-clause-rows : goal.returns-clause-rows
 returns-clause-rows c =
     let all = rw (c.in_default.ensures.none refl) at c.loop-added.invariant in
     rw c.in_ok-push_rows-2.ensures (sum_all_rows all)
-
-pub returns-clause-weights : goal.returns-clause-weights
-returns-clause-weights c = grind (arith, sum_all_weights)
 
 pub returns-clause-within : goal.returns-clause-within
 returns-clause-within c = grind (arith, stay_within, sum_all_rows, sum_all_weights)

@@ -1,6 +1,6 @@
-use Rattle.std.proofs.Common.{◌≡◌, to_z, of_z, w32, rules, arith}
+use Rattle.std.proofs.Common.{◌≡◌, to_z, of_z, w32, rules}
 use Rattle.std.proofs.lemmas.Int.{to_z-of_z}
-use Rattle.mf_rows.proofs.CopiesLemmas.{moved_none, moved_next, moved_all, head_movable}
+use Rattle.mf_rows.proofs.CopiesLemmas.{moved_none, moved_next, head_movable}
 use Rattle.mf_rows.proofs.row_list.copies.push_relocated.Goals as goal
 
 pub loop-head-init : goal.loop-head-init
@@ -26,6 +26,3 @@ returns-in_err-push-clause-heads c = rw c.in_err-push.ensures.items c.loop-head.
 
 pub returns-clause-heads : goal.returns-clause-heads
 returns-clause-heads c = c.loop-head.invariant.heads
-
-pub returns-clause-rows : goal.returns-clause-rows
-returns-clause-rows c = grind (arith, moved_all)
