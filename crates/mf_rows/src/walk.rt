@@ -64,6 +64,7 @@ impl<'a> Walk<'a> {
 
     /// Moves on to the next edge, and answers its column.
     #[inline(always)]
+    #[tactic(auto, using(crate::proofs::EdgeRuns::first_edge_of))]
     fn next_edge(&mut self) -> Option<i32>
         ensures edge { IfSome result (λ x. IsEdgeTaken self.old x self.new) }
         ensures changed { IfSome result (λ _. self.new.weight ≢ self.old.weight) }

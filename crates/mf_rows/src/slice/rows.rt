@@ -154,6 +154,7 @@ impl<'a> RowSlice<'a> {
 }
 
 /// The number of rows above row y, which are the first ones. A sum asks this for row after row, so mostly there are none.
+#[tactic(auto, using(std::proofs::lemmas::Int::ints, crate::proofs::BandsLemmas::none_above_first))]
 fn count_rows_above(rows: RowSlice<'_>, y: i32) -> usize
     requires { AreRows (slice_rows rows) }
     ensures within { result ≤ length rows.entry.heads.now }

@@ -1,8 +1,7 @@
-use Rattle.std.proofs.Common.{◌≡◌, true, false, to_z, of_z, to_z-of_z, w32, subst, arith, rules}
+use Rattle.std.proofs.Common.{◌≡◌, true, false, to_z, of_z, to_z-of_z, w32, subst, rules}
 use Rattle.std.specs.List.Sorted.{IsPartitionPoint}
-use Rattle.std.proofs.lemmas.Int.{ints}
 use Rattle.std.proofs.lemmas.Fn.{always_returns_same}
-use Rattle.mf_rows.proofs.BandsLemmas.{head_stands_above, IsPartitionedBy-head_stands_above, heads_above_split, heads_others_split, none_above_first}
+use Rattle.mf_rows.proofs.BandsLemmas.{head_stands_above, IsPartitionedBy-head_stands_above, heads_above_split, heads_others_split}
 use Rattle.mf_rows.proofs.slice.rows.count_rows_above.Goals as goal
 use Rattle.mf_rows.proofs.slice.rows.count_rows_above.Goals.{After-partition_point}
 
@@ -21,6 +20,3 @@ returns-in_default-clause-above c = heads_above_split c.args.y _ c.args.rows.edg
 
 pub returns-in_default-clause-others : goal.returns-in_default-clause-others
 returns-in_default-clause-others c = heads_others_split c.args.y _ c.args.rows.edges.now c.args.rows.heads.now (split c).1
-
-pub returns-in-Some-clause-others : goal.returns-in-Some-clause-others
-returns-in-Some-clause-others c = grind (arith, ints, none_above_first)

@@ -1,4 +1,4 @@
-use Rattle.std.proofs.Common.{refl, sym, append_assoc, ◌∙◌, arith}
+use Rattle.std.proofs.Common.{refl, sym, append_assoc, ◌∙◌}
 use Rattle.mf_rows.specs.Walk.{runs_of_edges}
 use Rattle.mf_rows.proofs.EdgeRuns.{first_edge_of}
 use Rattle.mf_rows.proofs.walk.Walk.next_edge.Goals as goal
@@ -7,9 +7,6 @@ pub overflow_add-self : goal.overflow_add-self
 overflow_add-self c = (first_edge_of _ _ _ _ c.in_ok-edge.ensures.first c.enter_row.new.self.rest).fits
 
 -- no edge is left
-pub invariant_of-self : goal.invariant_of-self
-invariant_of-self c = grind (arith)
-
 pub invariant_of-self-2 : goal.invariant_of-self-2
 invariant_of-self-2 c =
     let edge = first_edge_of _ _ _ _ c.in_ok-edge.ensures.first c.enter_row.new.self.rest in
@@ -25,6 +22,3 @@ returns-clause-edge c =
       column = rw edge.column edge.left;
       right = rw edge.column edge.right;
     }
-
-pub returns-clause-changed : goal.returns-clause-changed
-returns-clause-changed c = grind (arith, first_edge_of)
