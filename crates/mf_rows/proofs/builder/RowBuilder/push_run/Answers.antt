@@ -6,7 +6,8 @@ use Rattle.mf_rows.proofs.BuildingLemmas.{ArePushed, pushed_after}
 use Rattle.mf_rows.proofs.builder.RowBuilder.push_run.Goals as goal
 use Rattle.mf_rows.proofs.builder.RowBuilder.push_run.Goals.{In_ok-push}
 
-are_pushed : (c : In_ok-push) → ArePushed (open_rows c.self.inside.rows.items) c.args.run (open_rows (c.self.inside.rows.items ++ c.in_ok-with_run.field-0 ∷ []))
+are_pushed : (c : In_ok-push)
+    → ArePushed (open_rows c.self.inside.rows.items) c.args.run (open_rows (c.self.inside.rows.items ++ c.in_ok-with_run.field-0 ∷ []))
 are_pushed c =
     let rows = c.self.inside.rows.items in
     let fits = subst (λ ds. Fits ds c.args.run) (sym c.self.view_is) c.requires in
