@@ -2,7 +2,7 @@
 use Rattle.std.specs.Prelude.{◌≡◌, ◌<◌, ℕ, List, ◌++◌, Option, length, take}
 use Rattle.std.specs.Io.KnownBytes.{Appends}
 
--- what a writer has received: what it held before and holds after it, where this is known
+-- what a writer has received in one call or more: what it held before them and holds after them, where this is known
 pub record Receipt : Type 0 where
   pub held : Option (List ℕ)
   pub holds : Option (List ℕ)

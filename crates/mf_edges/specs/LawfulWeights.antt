@@ -9,7 +9,7 @@ greatest_weight = pos 32767
 abbrev pub least_weight : ℤ
 least_weight = neg_ℤ greatest_weight
 
--- a weight does not exceed a number in absolute value
+-- a number does not exceed a reach in absolute value
 pub record IsInReach (reach w : ℤ) : Type 0 where
   pub least : neg_ℤ reach ≤ℤ w
   pub greatest : w ≤ℤ reach

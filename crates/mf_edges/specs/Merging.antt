@@ -49,7 +49,8 @@ BeginAt x (e ∷ es) = e.x ≡ x
 abbrev pub EndAt : ℤ → List Edge → Type 0
 EndAt x es = All (λ e. e.x ≤ℤ x) es
 
--- the edge at column x has weight w, or there is none and w is 0; the others are the rest, and are fewer where there is one
+-- the edge at column x has weight w, or there is none and w is 0; the others are to the right of it and still to be added, and are
+-- fewer where there is one
 pub record IsSplitAt (es : List Edge) (x w : ℤ) (others : List Edge) : Type 0 where
   pub weights : HaveWeights (with_edge_in others x w) es
   pub difference : IsDifference w

@@ -37,7 +37,7 @@ new_row_0 = 74
 abbrev pub most_new_row : ℕ
 most_new_row = 164
 
--- char_loc is the locator of a character; char_loc0 is shorter
+-- char_loc begins a locator, and char_loc0 a shorter one
 abbrev pub char_loc : ℕ
 char_loc = 245
 

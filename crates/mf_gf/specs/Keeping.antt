@@ -15,7 +15,7 @@ use Rattle.mf_gf.specs.Pixels.{black}
 abbrev pub character : ℕ → ℤ → ℤ → List Dot → Character
 character code dx width ds = record { code = code; dx = dx; width = width; black = black ds }
 
--- the box of all characters, if there is one
+-- the box of all characters, if there are any
 abbrev pub bounds_of : List Character → Option CharacterBox
 bounds_of [] = None
 bounds_of (c ∷ cs) = Some (box_of_all (c ∷ cs))

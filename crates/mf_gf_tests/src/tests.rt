@@ -32,6 +32,7 @@ const RECT: &[(i32, i32, u32)] = &[(1, 0, 3), (0, 0, 3)];
 /// Thirty pixels of row 9, from column -7 on. Their box is not in that of the rectangle.
 const FAR: &[(i32, i32, u32)] = &[(9, -7, 30)];
 
+/// The pixel at the origin.
 const UNIT: &[(i32, i32, u32)] = &[(0, 0, 1)];
 
 /// Adds a run, which must fit after the ones before it.

@@ -69,6 +69,6 @@ next_label_after n (e ∷ es) = next_label_after (e.label + 1) es
 abbrev pub next_label : List Entry → ℕ
 next_label L = next_label_after 0 L
 
--- what is accepted once a change is accepted, too: its label is the one after what is published
+-- what is accepted once this change is accepted, too: it has the label of the next publish
 abbrev pub accepted_list_with : List Entry → List Entry → Change → List Entry
 accepted_list_with accepted published change = accepted ++ entry (next_label published) change ∷ []

@@ -55,7 +55,7 @@ abbrev pub HasLookedLast : Viewer → List Entry → Viewer → Type 0
 HasLookedLast before whole after = Extends before whole × HasLookedAt whole after
 
 -- where there is no sheet of the complete list, the viewer has only learnt of the list, or an allocation failed after it had
--- looked at it
+-- looked at the list
 abbrev pub IsLastNotTaken : Viewer → List Entry → Viewer → SheetFault → Type 0
 IsLastNotTaken before whole after NoLook = HasLearnt before whole after
 IsLastNotTaken before whole after OutOfMemory = HasLookedLast before whole after

@@ -1,5 +1,6 @@
--- Shifts, scales and quarter turns (The METAFONTbook, chapters 13 and 15). They move the unit squares of the pixels with the
--- plane: the new weight of a pixel is the old weight of the pixel whose moved square contains it.
+-- Shifts, scales, turns (The METAFONTbook, chapters 13 and 15) and reflections in the line between columns, or rows, -1 and 0.
+-- They move the unit squares of the pixels with the plane: the new weight of a pixel is the old weight of the pixel whose moved
+-- square contains it.
 use Rattle.std.specs.Prelude.{◌≢◌, ◌&&◌, Bool, ℤ, pos, nat_abs, ◌+ℤ◌, ◌*ℤ◌, ◌≤ℤ◌, int_lt, if◌then◌else◌}
 use Rattle.std.specs.Int.{int_max, int_min}
 use Rattle.mf_geom.specs.Coordinates.{IsCoordinate, is_coordinate}
@@ -35,7 +36,7 @@ scale_by f = record { factor = f; offset = pos 0 }
 abbrev pub on_side : Bool → ℤ → ℤ
 on_side changes p = if changes then opposite p else p
 
--- the weights f after the columns, the rows, or both change sides
+-- the weights f after the columns, the rows, both or neither change sides
 abbrev pub reflection : Bool → Bool → (ℤ → ℤ → ℤ) → ℤ → ℤ → ℤ
 reflection columns rows f = moved_columns (on_side columns) (moved_rows (on_side rows) f)
 

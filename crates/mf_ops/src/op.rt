@@ -39,7 +39,7 @@ pub enum Op {
     /// `p := p xscaled sx`, `yscaled sy`, `scaled s`: stretches each pixel by whole factors. A negative factor also reflects: the
     /// factor -1 takes column x to column -x - 1 (The METAFONTbook, chapter 15).
     Scale(Scale),
-    /// `p := p rotated d` for quarter turns counterclockwise about the point (0, 0): 90 degrees takes the pixel (x, y) to the
+    /// `p := p rotated d` for turns by 90, 180 or 270 degrees counterclockwise about the point (0, 0): 90 degrees takes the pixel (x, y) to the
     /// pixel (-y - 1, x) (The METAFONTbook, chapter 15).
     Quarter(Quarter),
     /// `p := nullpicture`: every weight becomes 0 (The METAFONTbook, chapter 13).

@@ -61,8 +61,8 @@ pub fn turn(alloc: Global, picture: &Picture, quarter: Quarter) -> Result<Pictur
     Ok(turned_picture(alloc, picture, quarter)?)
 }
 
-/// Returns the same picture. To turn by 180 degrees is to reflect the columns and the rows, and to turn by 270 degrees is to turn by
-/// 90 and then by 180.
+/// Returns the picture turned by 90, 180 or 270 degrees. To turn by 180 degrees is to reflect the columns and the rows, and to turn
+/// by 270 degrees is to turn by 90 and then by 180.
 fn turned_picture(
     alloc: Global,
     picture: &Picture,

@@ -62,7 +62,7 @@ strip_rows top bottom es (suc n) low high reach some edges =
 
 -- ---- strips below other rows
 
--- a strip with edges goes below rows that reach down to its top
+-- a strip with edges goes below rows that are down to its top
 pub strip_below : (old : List EdgeRow) (es : List Edge) (bottom top : ℤ) → AreDownTo top old → least_coordinate ≤ℤ bottom → bottom <ℤ top
     → top ≤ℤ greatest_coordinate → es ≢ [] → AreEdges es → HasStrip (strip_between es bottom top) old (old ++ strip bottom es (unsigned_abs (top -ℤ bottom)))
 strip_below old es bottom top down low below in_reach some edges =

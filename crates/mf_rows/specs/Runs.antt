@@ -14,7 +14,7 @@ unfoldable pub dots_of : Run → List Dot
 dots_of r = equal_dots r.y r.x r.weight r.len
 
 -- a dot continues a run to the left: it has the same row and weight, and is in the column before the run (what `IsFollowedBy` says
--- of the dot alone and the run, as a value, since runs are computed)
+-- of a run of this dot alone and r, as a value, since runs are computed)
 unfoldable pub continues : Dot → Run → Bool
 continues d r = int_eq d.y r.y && (int_eq (d.x +ℤ pos 1) r.x && int_eq d.weight r.weight)
 

@@ -16,6 +16,6 @@ dots_ahead w = flat_map dots_of (runs_ahead w)
 pub record AreSameFrom (low : ℤ) (ds es : List Dot) : Type 0 where
   pub same : (x y : ℤ) → low ≤ℤ place x y → weight_at es x y ≡ weight_at ds x y
 
--- a run ends after the pixel (x, y) in reading order: it has the pixel, or begins after it
+-- a run does not end before the pixel (x, y) in reading order: it has the pixel, or begins after it
 pub record IsNotBefore (x y : ℤ) (r : Run) : Type 0 where
   pub end : place x y <ℤ place (r.x +ℤ pos r.len) r.y

@@ -19,7 +19,7 @@ nothing old none r answer = subst (λ ps. AnswersLine (from line (record { token
 
 -- ---- refusals of values
 
--- a line whose values are refused in this way is refused so, and not with `OutOfMemory`
+-- where values are refused with this fault, the line is refused with it, and it is not `OutOfMemory`
 abbrev pub IsOfValues : TextFault → Type 0
 IsOfValues fault = (fault ≢ faults.OutOfMemory) × ((bytes : List ℕ) → IsLineWith bytes (λ form. Refuses (meaning form) fault) → IsRefused bytes fault)
 

@@ -58,11 +58,11 @@ record Wrong (r : Option Rest) (ts : List Token) (k : ℕ) : Type 0 where
   wrong : k < length ts → CanGoOn r (take (suc k) ts) → ⊥
   unended : k ≡ length ts → (l : Line) → reads r ts ≡ Some l → ⊥
 
--- the column that is report_column of the next token
+-- the column that is reported of the next token
 abbrev report_column : Bool → Ahead → ℕ
 report_column is_coded ahead = if is_coded then ahead.past - 1 else column_of ahead.tokens ahead.past
 
--- the tokens that must be this rest go wrong, which is report_column at this column
+-- the tokens that must be this rest go wrong, which is reported at this column
 record Stops (r : Rest) (past : ℕ) (ps : List PlacedToken) (column : ℕ) : Type 0 where
   place : ℕ
   at : Wrong (Some r) (without_columns ps) place
@@ -88,7 +88,7 @@ unfolding follow reads is_code_number_at
 stops r past [] column is = grind (arith, ints, rest_ends, none-some)
 stops r past (t ∷ ps) column is = at_token r past t ps column (step r t.token) refl is (λ s. stops s t.after ps column)
 
--- ---- a number after `code -` is report_column at the `-`
+-- ---- a number after `code -` is reported at the `-`
 
 negative_shows : (ts us : List Token) (l : Line) → is_negative_code ts ≡ true → reads (Some line) (take 4 ts ++ us) ≡ Some l
     → is_code_number_at (Some line) ts 4 ≡ true

@@ -80,7 +80,7 @@ module _ (u : Token) (this : Rest) where
   unfolding follow
   from_or_none other = misses (Or u this other) (This u) (from other) (λ _. refl) (λ p ps past none. rw (none, follow) refl)
 
--- next_value_fewer tokens remain after one
+-- fewer tokens remain after one
 pub next_value_fewer : {A : Type 0} (f : Token → Option A) (a : A) (ps : List PlacedToken) (after : Ahead) → next_value f ps ≡ Some (a, after)
     → length after.tokens < length ps
 next_value_fewer f a ps after is = at_first f a (λ qs on. length on.tokens < length qs) (λ p qs value. omega arith) ps after is

@@ -10,7 +10,7 @@ longest_line = 65536
 abbrev pub most_digits : ℕ
 most_digits = 9
 
--- the least number that has more digits
+-- the least number that has more digits than that
 abbrev pub number_bound : ℕ
 number_bound = 1000000000
 

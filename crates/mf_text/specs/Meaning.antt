@@ -72,7 +72,7 @@ meaning (ShipOut source code dx width) = Is (command.Ship source code.int.magnit
 meaning (SetCheck n) = Is (command.Turning (check_of (int_value n)))
 meaning PublishAll = Is command.Publish
 
--- the value is lawful; an angle is that of a quarter turn or of several
+-- the value is lawful; an angle is 90, 180 or 270 degrees
 abbrev pub IsLawfulValue : Value → Type 0
 IsLawfulValue (Points points) = IsRectilinearCycle points
 IsLawfulValue (AWeight weight) = IsContourWeight weight

@@ -18,7 +18,7 @@ pub record IsLinePrefix (ts : List Token) : Type 0 where
   pub line : IsLine (ts ++ rest)
 
 -- the tokens go wrong at place k, counted from 0: those before it are a prefix of some line, and those up to and including it of none;
--- or at their end, where they are a prefix of some line but not one themselves
+-- or at their end, where they are a prefix of some line but no line themselves
 pub record IsWrongAt (ts : List Token) (k : ℕ) : Type 0 where
   pub within : k ≤ length ts
   pub before : IsLinePrefix (take k ts)

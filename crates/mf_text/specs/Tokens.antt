@@ -109,7 +109,7 @@ Finds f bs (Some found) = (f (first_token bs).token ≡ Some found.0) × (found.
 abbrev pub FindsToken : Token → List ℕ → Option ℕ → Type 0
 FindsToken t bs found = Finds (this_in t) bs (option_map {U = Unit {0} × ℕ} (λ bytes. (tt, bytes)) found)
 
--- a token with its columns, of which this is that of its first byte
+-- a token with its columns, the first of which is this one
 abbrev pub token_at : ℕ → SizedToken → PlacedToken
 token_at column found = record { token = found.token; column = column; after = column + found.bytes }
 

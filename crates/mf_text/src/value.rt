@@ -1,5 +1,5 @@
 //! Commands, made from the values of lines, and the refusals of these values.
-ghost use Rattle.std.specs.Prelude.{◌≡◌, IfOk, IfErr};
+ghost use Rattle.std.specs.Prelude.{◌≡◌, ◌≢◌, IfOk, IfErr};
 ghost use Rattle.mf_ops.specs.ContourWeight.{IsContourWeight};
 ghost use Rattle.mf_text.specs.Grammar as grammar;
 ghost use Rattle.mf_text.specs.Grammar.{path_value, weight_value};
@@ -32,7 +32,8 @@ fn contour_through(
     points: Vec<Point>,
     weight: Option<Int>,
 ) -> Result<Command, TextFault>
-    ensures { (tree : grammar.Path) → points.items ≡ path_value tree → IsAnswerOf (grammar.AddContour name tree weight) result }
+    ensures answer { (tree : grammar.Path) → points.items ≡ path_value tree → IsAnswerOf (grammar.AddContour name tree weight) result }
+    ensures fault { IfErr result (λ fault. fault ≢ TextFault.OutOfMemory) }
 {
     let cycle = match Cycle::new(points) {
         Ok(cycle) => cycle,

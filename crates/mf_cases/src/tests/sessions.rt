@@ -172,7 +172,7 @@ fn have_viewers(rt: HostRuntime) {
     session.discard(&rt);
 }
 
-/// Asserts that a session to which the line is given once it was read prints this text.
+/// Asserts that a session prints this text for a line that its caller has read.
 #[tactic(auto, using(mf_text::proofs::Registers::names_given))]
 fn assert_answer_is<R: Abort + Wait + AllocGlobal>(
     rt: &R,
@@ -189,7 +189,7 @@ fn assert_answer_is<R: Abort + Wait + AllocGlobal>(
 }
 
 /// Lines with no command, lines that are refused when they are read or when they are performed, and lines that are performed.
-const READ_FIRST: &[(&str, &str)] = &[
+const READ_LINES: &[(&str, &str)] = &[
     ("", ""),
     ("% a comment", ""),
     (
@@ -213,14 +213,14 @@ const READ_FIRST: &[(&str, &str)] = &[
 #[test]
 fn answer_to_lines_that_were_read(rt: HostRuntime) {
     let (mut session, _) = open(&rt, rt.alloc(), AMPLE.max_ops);
-    for (line, text) in READ_FIRST {
+    for (line, text) in READ_LINES {
         assert_answer_is(&rt, &mut session, line, text);
     }
     assert_total(&rt, &session, Name::Current, 6);
     session.discard(&rt);
 }
 
-/// Where there was no memory to read a line, a session answers the same, and stays as it was.
+/// Where there was no memory to read a line, a session answers that there is none, and stays as it was.
 #[test]
 fn answer_to_a_line_without_memory(rt: HostRuntime) {
     let alloc = rt.alloc();

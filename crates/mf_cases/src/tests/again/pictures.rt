@@ -267,7 +267,7 @@ fn change_a_picture(rt: HostRuntime) {
     assert_makes(&rt, alloc, &stretching(&rt, -2, -1), REFLECTED);
 }
 
-/// The two rows after one, two and three quarter turns. After one or three, the pixels of a row are in one column.
+/// The two rows after one, two and three turns by 90 degrees. After one or three, the pixels of a row are in one column.
 const ONCE: &[Run] = &[
     run_of!(2, -2, 1, 3),
     run_of!(1, -2, 1, 1),
