@@ -38,12 +38,12 @@ pub fn read_command(alloc: Global, line: &[u8]) -> Result<Command, TextFault>
     if !is_text(line) {
         return Err(TextFault::NotAscii);
     }
-    line_of(alloc, Tokens::new(line))
+    command_of_line(alloc, Tokens::new(line))
 }
 
 /// The command of a line. Asks for the seven words that a command may begin with, one after another, and then for a name.
 #[tactic(auto, using(crate::proofs::LineAnswers::nothing))]
-fn line_of(alloc: Global, tokens: Tokens<'_>) -> Result<Command, TextFault>
+fn command_of_line(alloc: Global, tokens: Tokens<'_>) -> Result<Command, TextFault>
     ensures { AnswersLine (from rests.line (ahead tokens.entry)) result }
 {
     let mut tokens = tokens;

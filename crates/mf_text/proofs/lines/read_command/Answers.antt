@@ -6,5 +6,5 @@ use Rattle.mf_text.proofs.lines.read_command.Goals as goal
 pub returns : goal.returns
 returns c =
     let text : IsText c.args.line.now = record { short = omega arith; text = search rules } in
-    let is = answer_of_line c.args.line.now c.new.result c.line_of.result text c.new.ensures.tokens c.new.ensures.column c.line_of.ensures in
+    let is = answer_of_line c.args.line.now c.new.result c.command_of_line.result text c.new.ensures.tokens c.new.ensures.column c.command_of_line.ensures in
     record { given = is.0; refused = is.1 }
