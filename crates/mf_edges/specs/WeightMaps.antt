@@ -1,22 +1,15 @@
 -- Maps of weights, which take each weight by itself.
-use Rattle.std.specs.Prelude.{◌≡◌, ◌&&◌, Bool, ℤ, pos, neg_ℤ, int_le, if◌then◌else◌}
-use Rattle.mf_edges.specs.declared.weight_map.Choice.{Choice}
+use Rattle.std.specs.Prelude.{◌≡◌, ◌&&◌, Bool, ℤ, pos, int_le, if◌then◌else◌}
 use Rattle.mf_edges.specs.declared.weight_map.WeightMap.{WeightMap}
-use Rattle.mf_edges.specs.declared.weight_map.WeightMap.TheVariants as map
 use Rattle.mf_edges.specs.LawfulWeights.{IsLawfulWeight}
 
 -- whether weight v lies in the range from a to b, both inclusive
 abbrev pub is_within : ℤ → ℤ → ℤ → Bool
 is_within a b v = int_le a v && int_le v b
 
--- what weight v becomes by a choice
-abbrev pub chosen_weight : Choice → ℤ → ℤ
-chosen_weight c v = if is_within c.low c.high v then c.inside else c.outside
-
 -- what weight v becomes by a map
-abbrev pub mapped_weight : WeightMap → ℤ → ℤ
-mapped_weight map.Negate v = neg_ℤ v
-mapped_weight (map.Choose c) v = chosen_weight c v
+unfoldable pub mapped_weight : WeightMap → ℤ → ℤ
+mapped_weight m v = if is_within m.low m.high v then m.inside else m.outside
 
 -- weight 0 stays 0, and lawful weights become lawful ones
 pub record IsWeightMap (m : WeightMap) : Type 0 where

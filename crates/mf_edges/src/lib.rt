@@ -17,4 +17,4 @@ pub use edge_sum::{push_edges, push_sum_of_edges};
 pub use field::{FIELD_END, FIELD_START, MAX_WEIGHT, is_lawful_weight};
 pub use row_change::{RowChange, changed_edges};
 pub use stretch::Stretch;
-pub use weight_map::{Choice, WeightMap};
+pub use weight_map::WeightMap;

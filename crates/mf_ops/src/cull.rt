@@ -5,7 +5,7 @@ ghost use Rattle.mf_ops.specs.Cull.{IsLawfulCull, culled_weight};
 ghost use Rattle.mf_ops.specs.declared.cull.CullRule.TheVariants.{Keeping, Dropping};
 
 use crate::weight::Weight;
-use mf_edges::{Choice, WeightMap};
+use mf_edges::WeightMap;
 use std::error::Error;
 use std::fmt;
 use std::marker::Model;
@@ -87,23 +87,24 @@ impl Cull {
     }
 
     /// The map from old to new weights that this cull applies to each pixel.
+    #[tactic(auto, unfolding(mf_edges::specs::WeightMaps::mapped_weight))]
     pub(crate) fn weight_map(&self) -> WeightMap
         ensures lawful { IsWeightMap result }
         ensures value { (v : ℤ) → mapped_weight result v ≡ culled_weight self.now v }
     {
-        WeightMap::Choose(match self.rule {
-            CullRule::Keeping(low, high, weight) => Choice {
+        match self.rule {
+            CullRule::Keeping(low, high, weight) => WeightMap {
                 low,
                 high,
                 inside: weight.get(),
                 outside: 0,
             },
-            CullRule::Dropping(low, high, weight) => Choice {
+            CullRule::Dropping(low, high, weight) => WeightMap {
                 low,
                 high,
                 inside: 0,
                 outside: weight.get(),
             },
-        })
+        }
     }
 }

@@ -1,7 +1,8 @@
 -- Corners: each adds its weight to all pixels at or to the right of its column and below its height.
-use Rattle.std.specs.Prelude.{◌≡◌, ◌≤◌, ◌*◌, ◌&&◌, ℤ, pos, neg_ℤ, ◌+ℤ◌, ◌≤ℤ◌, int_le, int_lt, All, List, [], ◌∷◌, length, if◌then◌else◌}
+use Rattle.std.specs.Prelude.{◌≡◌, ◌≤◌, ◌*◌, ◌&&◌, ℤ, pos, ◌+ℤ◌, int_le, int_lt, All, List, [], ◌∷◌, length, if◌then◌else◌}
 use Rattle.mf_geom.specs.Coordinates.{greatest_coordinate, IsCoordinate}
 use Rattle.mf_geom.specs.Lawful.{most_points}
+use Rattle.mf_edges.specs.LawfulWeights.{IsInReach}
 use Rattle.mf_rows.specs.declared.corner.Corner.{Corner}
 use Rattle.mf_rows.specs.Dots.{Dot, weight_at}
 
@@ -19,9 +20,8 @@ abbrev pub greatest_corner_weight : ℤ
 greatest_corner_weight = pos 3
 
 -- a corner may have this weight
-pub record IsCornerWeight (w : ℤ) : Type 0 where
-  pub least : neg_ℤ greatest_corner_weight ≤ℤ w
-  pub greatest : w ≤ℤ greatest_corner_weight
+abbrev pub IsCornerWeight : ℤ → Type 0
+IsCornerWeight w = IsInReach greatest_corner_weight w
 
 -- a corner is a point in range with such a weight
 pub record IsCorner (k : Corner) : Type 0 where

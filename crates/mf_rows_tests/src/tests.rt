@@ -68,6 +68,16 @@ fn picture_of<R: Abort + AllocGlobal>(rt: &R, runs: &[Run]) -> Picture {
     expect_picture(rt, builder_of(rt, runs).finish())
 }
 
+/// The picture with the opposite weights, made run by run.
+fn negative_of<R: Abort + AllocGlobal>(rt: &R, picture: &Picture) -> Picture {
+    let mut builder = RowBuilder::new(rt.alloc());
+    for run in picture.runs() {
+        let weight = run.weight.wrapping_neg();
+        push_all(rt, &mut builder, &[Run { weight, ..run }]);
+    }
+    expect_picture(rt, builder.finish())
+}
+
 /// A copy of a picture.
 fn copy_of<R: Abort + AllocGlobal>(rt: &R, picture: &Picture) -> Picture {
     expect_picture(rt, picture.copy(rt.alloc()))

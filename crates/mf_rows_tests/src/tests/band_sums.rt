@@ -4,7 +4,7 @@ use super::slow::{SlowPicture, both_forms};
 use super::{assert_runs_in, copy_of, expect_picture, make_run, picture_of, sum_of};
 use crate::tests::assertions::assert_same;
 use mf_base::OutOfMemory;
-use mf_edges::{Choice, WeightMap};
+use mf_edges::WeightMap;
 use mf_rows::{AddFault, Picture, Run};
 use std::alloc::Global;
 use std::process::Abort;
@@ -59,7 +59,7 @@ fn runs_at<R: Abort + AllocGlobal>(
 }
 
 /// Weights 2 and more become 7, and all others 0.
-const CULL: Choice = Choice {
+const CULL: WeightMap = WeightMap {
     low: 2,
     high: 32767,
     inside: 7,
@@ -100,6 +100,7 @@ fn assert_sum_of_runs<R: Abort + AllocGlobal>(
 }
 
 /// Asserts the sum of the pictures with these weights at these places, and what is left of it when it is culled.
+#[tactic(auto, unfolding(mf_edges::specs::WeightMaps::mapped_weight))]
 fn assert_sum_at<R: Abort + AllocGlobal>(
     rt: &R,
     places: &[(i32, i32); 3],
@@ -117,7 +118,7 @@ fn assert_sum_at<R: Abort + AllocGlobal>(
         &runs_at(rt, places, right),
         &runs_at(rt, places, weights),
     );
-    let few = expect_picture(rt, sum.map_weights(rt.alloc(), &WeightMap::Choose(CULL)));
+    let few = expect_picture(rt, sum.map_weights(rt.alloc(), &CULL));
     let weights = AtPlaces(cull(weights.0), cull(weights.1), cull(weights.2));
     assert_runs_in(rt, 4, &few, &runs_at(rt, places, weights));
 }

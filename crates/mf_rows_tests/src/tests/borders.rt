@@ -4,9 +4,11 @@
 use super::moves::{assert_stays_inside, mirror_columns, mirror_rows, stretch, turn};
 use super::rectangle_sums::assert_sum_of_rectangles;
 use super::rectangles::{Rectangle, at_once, make_rectangle, negate};
-use super::{assert_all_runs, assert_bounds, assert_weights, expect_picture, make_run, sum_of};
+use super::{
+    assert_all_runs, assert_bounds, assert_weights, expect_picture, make_run, negative_of, sum_of,
+};
 use mf_base::OutOfMemory;
-use mf_edges::{FIELD_END, FIELD_START, Stretch, WeightMap};
+use mf_edges::{FIELD_END, FIELD_START, Stretch};
 use mf_rows::{Box4, Picture, Run};
 use std::alloc::Global;
 use std::process::Abort;
@@ -117,7 +119,7 @@ fn assert_shows<R: Abort + AllocGlobal>(rt: &R, picture: &Picture, rectangle: Re
 /// left.
 fn assert_cancels<R: Abort + AllocGlobal>(rt: &R, rectangle: Rectangle) {
     let picture = at_once(rt, &[rectangle]);
-    let negative = expect_picture(rt, picture.map_weights(rt.alloc(), &WeightMap::Negate));
+    let negative = negative_of(rt, &picture);
     assert_shows(rt, &negative, negate(rectangle));
     let none = sum_of(rt.alloc(), &picture, &negative);
     let none = none.expect(rt, "opposite weights cancel");

@@ -1,7 +1,7 @@
 //! Pictures that are made from a picture.
 
 use mf_base::OutOfMemory;
-use mf_edges::{Choice, WeightMap};
+use mf_edges::WeightMap;
 use mf_rows::Picture;
 use std::alloc::Global;
 
@@ -9,9 +9,10 @@ use std::alloc::Global;
 #[derive(Clone, Copy, Debug)]
 pub(crate) enum Derived {
     Copy,
-    Negated,
     /// Weights 1 and 2 become 3, and all others 0.
     Chosen,
+    /// All weights but 0 become -7.
+    Level,
     ColumnsMirrored,
     RowsMirrored,
     Turned,
@@ -21,8 +22,8 @@ impl Derived {
     /// All of them.
     pub(crate) const ALL: [Derived; 6] = [
         Derived::Copy,
-        Derived::Negated,
         Derived::Chosen,
+        Derived::Level,
         Derived::ColumnsMirrored,
         Derived::RowsMirrored,
         Derived::Turned,
@@ -32,8 +33,8 @@ impl Derived {
     pub(crate) fn of(self, alloc: Global, picture: &Picture) -> Result<Picture, OutOfMemory> {
         match self {
             Derived::Copy => picture.copy(alloc),
-            Derived::Negated => picture.map_weights(alloc, &WeightMap::Negate),
             Derived::Chosen => choose(alloc, picture),
+            Derived::Level => level(alloc, picture),
             Derived::ColumnsMirrored => picture.mirror_columns(alloc),
             Derived::RowsMirrored => picture.mirror_rows(alloc),
             Derived::Turned => picture.turn(alloc),
@@ -42,12 +43,25 @@ impl Derived {
 }
 
 /// The picture in which weights 1 and 2 become 3, and all others 0.
+#[tactic(auto, unfolding(mf_edges::specs::WeightMaps::mapped_weight))]
 fn choose(alloc: Global, picture: &Picture) -> Result<Picture, OutOfMemory> {
-    let choice = Choice {
+    let map = WeightMap {
         low: 1,
         high: 2,
         inside: 3,
         outside: 0,
     };
-    picture.map_weights(alloc, &WeightMap::Choose(choice))
+    picture.map_weights(alloc, &map)
+}
+
+/// The picture in which all weights but 0 become -7.
+#[tactic(auto, unfolding(mf_edges::specs::WeightMaps::mapped_weight))]
+fn level(alloc: Global, picture: &Picture) -> Result<Picture, OutOfMemory> {
+    let map = WeightMap {
+        low: 0,
+        high: 0,
+        inside: 0,
+        outside: -7,
+    };
+    picture.map_weights(alloc, &map)
 }

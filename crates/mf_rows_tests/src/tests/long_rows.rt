@@ -5,14 +5,14 @@ ghost use Rattle.mf_edges.specs.WeightMaps.{IsWeightMap};
 use super::field::push_pixel_run;
 use super::moves::{Move, assert_row_moved, mirror_columns, mirror_rows, turn};
 use super::slow::{SlowPicture, both_forms};
-use super::sums::choice;
+use super::sums::weight_map;
 use super::{
     assert_all_runs, assert_bounds, assert_total, assert_weights, copy_of, expect_picture,
-    make_run, picture_of, sum_of,
+    make_run, negative_of, picture_of, sum_of,
 };
 use crate::tests::assertions::assert_same;
 use mf_base::OutOfMemory;
-use mf_edges::{Choice, FIELD_END, FIELD_START, WeightMap};
+use mf_edges::{FIELD_END, FIELD_START, WeightMap};
 use mf_rows::{Picture, Run};
 use std::alloc::Global;
 use std::process::Abort;
@@ -129,20 +129,21 @@ fn rows_of_all_edges_are_moved(rt: HostRuntime) {
     assert_stripes_moved(&rt, -4095, (0, -1));
 }
 
-/// Asserts that a row of weights 1 and 2 in turn becomes one of these weights under a choice.
-fn assert_stripes_chosen<R: Abort + AllocGlobal>(rt: &R, choice: Choice, stripes: Stripes)
-    requires { IsWeightMap (WeightMap.Choose choice) }
+/// Asserts that a row of weights 1 and 2 in turn becomes one of these weights under a map.
+fn assert_stripes_mapped<R: Abort + AllocGlobal>(rt: &R, map: WeightMap, stripes: Stripes)
+    requires { IsWeightMap map }
 {
     let picture = picture_of_stripes(rt, -1, (1, 2));
-    let new = picture.map_weights(rt.alloc(), &WeightMap::Choose(choice));
+    let new = picture.map_weights(rt.alloc(), &map);
     assert_striped(rt, &expect_picture(rt, new), -1, stripes);
 }
 
 #[test]
+#[tactic(auto, unfolding(mf_edges::specs::WeightMaps::mapped_weight))]
 fn rows_of_all_edges_are_culled(rt: HostRuntime) {
-    assert_stripes_chosen(&rt, choice(2, 2, 5, 0), (0, 5));
-    assert_stripes_chosen(&rt, choice(1, 2, 3, 0), (3, 3));
-    assert_stripes_chosen(&rt, choice(3, 4, 3, 0), (0, 0));
+    assert_stripes_mapped(&rt, weight_map(2, 2, 5, 0), (0, 5));
+    assert_stripes_mapped(&rt, weight_map(1, 2, 3, 0), (3, 3));
+    assert_stripes_mapped(&rt, weight_map(3, 4, 3, 0), (0, 0));
 }
 
 /// A row of single pixels of weight 1 in every second column from 0 on: its height, the number of its edges, and the length of the
@@ -237,7 +238,7 @@ fn assert_sum_and_difference<R: Abort + AllocGlobal>(
         rt,
         "there is room",
     );
-    let negative = expect_picture(rt, right.map_weights(rt.alloc(), &WeightMap::Negate));
+    let negative = negative_of(rt, right);
     let sum = sum_of(rt.alloc(), left, &negative);
     assert_runs_of(rt, 1, &sum.expect(rt, "the sum is made"), &slow);
     let mut difference = copy_of(rt, left);

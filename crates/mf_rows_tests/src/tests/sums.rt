@@ -5,10 +5,10 @@ ghost use Rattle.mf_edges.specs.WeightMaps.{IsWeightMap};
 
 use super::generated::{ROWS, SMALL_WEIGHTS, STARTS, WEIGHTS, forms_of_weights, random_forms};
 use super::slow::SlowPicture;
-use super::{assert_equality, assert_total, expect_picture, sum_of};
+use super::{assert_equality, assert_total, expect_picture, negative_of, sum_of};
 use crate::tests::assertions::{assert_holds, assert_same};
 use mf_base::OutOfMemory;
-use mf_edges::{Choice, WeightMap};
+use mf_edges::WeightMap;
 use mf_rows::{AddFault, Picture};
 use std::alloc::Global;
 use std::process::Abort;
@@ -99,7 +99,7 @@ fn sums_are_those_of_their_slow_forms(rt: HostRuntime) {
 
 /// Asserts that a picture and its negated one cancel, and that a picture that is subtracted from the blank one becomes this.
 fn assert_negated<R: Abort + AllocGlobal>(rt: &R, picture: &Picture, slow: &SlowPicture) {
-    let negated = expect_picture(rt, picture.map_weights(rt.alloc(), &WeightMap::Negate));
+    let negated = negative_of(rt, picture);
     assert_total(rt, &negated, slow.total().wrapping_neg());
     let mut difference = Picture::blank(rt.alloc());
     let subtracted = difference.subtract(rt.alloc(), picture);
@@ -128,49 +128,43 @@ fn negated_pictures_cancel(rt: HostRuntime) {
     assert_all_negated(&rt);
 }
 
-/// The slow form after each of its weights is chosen.
-fn slow_choose(
+/// The slow form after each of its weights is mapped.
+fn slow_map(
     alloc: Global,
     slow: &SlowPicture,
-    choice: &Choice,
+    map: &WeightMap,
 ) -> Result<SlowPicture, OutOfMemory> {
-    let mut chosen = SlowPicture::blank(alloc);
+    let mut mapped = SlowPicture::blank(alloc);
     for y in ROWS {
         for x in -9..REACH {
             let weight = slow.weight(x, y);
-            let new = if choice.low <= weight && weight <= choice.high {
-                choice.inside
+            let new = if map.low <= weight && weight <= map.high {
+                map.inside
             } else {
-                choice.outside
+                map.outside
             };
-            chosen.push_pixel(x, y, new)?;
+            mapped.push_pixel(x, y, new)?;
         }
     }
-    Ok(chosen)
+    Ok(mapped)
 }
 
-/// Asserts that random pictures get the weights of a choice.
-fn assert_chosen<R: Abort + AllocGlobal>(rt: &R, choice: Choice)
-    requires { IsWeightMap (WeightMap.Choose choice) }
+/// Asserts that random pictures get the weights of a map.
+fn assert_mapped<R: Abort + AllocGlobal>(rt: &R, map: WeightMap)
+    requires { IsWeightMap map }
 {
     for seed in 0..PAIRS {
         let (picture, slow) = random_forms(rt, seed, -9);
-        let chosen = slow_choose(rt.alloc(), &slow, &choice).expect(
-            rt,
-            "there is room for the pixels",
-        );
-        let new = expect_picture(
-            rt,
-            picture.map_weights(rt.alloc(), &WeightMap::Choose(choice)),
-        );
-        chosen.assert_answers_of(rt, seed as usize, &new);
+        let mapped = slow_map(rt.alloc(), &slow, &map).expect(rt, "there is room for the pixels");
+        let new = expect_picture(rt, picture.map_weights(rt.alloc(), &map));
+        mapped.assert_answers_of(rt, seed as usize, &new);
     }
 }
 
-pub(super) fn choice(low: i32, high: i32, inside: i32, outside: i32) -> Choice
+pub(super) fn weight_map(low: i32, high: i32, inside: i32, outside: i32) -> WeightMap
     ensures { result ≡ record { low = low; high = high; inside = inside; outside = outside } }
 {
-    Choice {
+    WeightMap {
         low,
         high,
         inside,
@@ -179,8 +173,9 @@ pub(super) fn choice(low: i32, high: i32, inside: i32, outside: i32) -> Choice
 }
 
 #[test]
+#[tactic(auto, unfolding(mf_edges::specs::WeightMaps::mapped_weight))]
 fn weights_are_chosen_pixel_by_pixel(rt: HostRuntime) {
-    assert_chosen(&rt, choice(1, 2, 3, 0));
-    assert_chosen(&rt, choice(-1, 1, 0, -7));
-    assert_chosen(&rt, choice(2, 32767, 32767, 0));
+    assert_mapped(&rt, weight_map(1, 2, 3, 0));
+    assert_mapped(&rt, weight_map(-1, 1, 0, -7));
+    assert_mapped(&rt, weight_map(2, 32767, 32767, 0));
 }

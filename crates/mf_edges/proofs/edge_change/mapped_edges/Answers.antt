@@ -14,14 +14,16 @@ overflow_add-weight c =
     let after = lawful_more _ _ _ _ _ _ _ so_far c.requires.edges in
     omega (arith, ints)
 
-pub apply-next-requires-clause-weight : goal.apply-next-requires-clause-weight
-apply-next-requires-clause-weight c =
+pub overflow_sub-next : goal.overflow_sub-next
+overflow_sub-next c =
+    let e : Edge = get_or c.args.edges.now c.loop-edge.edge-index (record { x = pos 0; weight = pos 0 }) in
+    let weight = to_z w32 c.loop-edge.weight-bits in
     let so_far = mapped_read _ _ _ _ (record { x = pos 0; weight = pos 0 }) _ _ c.loop-edge-test.true c.loop-edge.invariant in
     let after = lawful_more _ _ _ _ _ _ _ so_far c.requires.edges in
-    record { least = omega (arith, ints); greatest = omega (arith, ints) }
-
-pub overflow_sub-next : goal.overflow_sub-next
-overflow_sub-next c = omega (arith, ints, c.requires.map.lawful _ c.loop-edge.invariant.lawful)
+    let weight_is : to_z w32 (of_z w32 e.weight) ≡ e.weight = omega (arith, ints) in
+    let sum_is : to_z w32 (of_z w32 (weight +ℤ e.weight)) ≡ weight +ℤ e.weight = omega (arith, ints) in
+    let value = rw (weight_is, sum_is) at c.apply-next.ensures in
+    omega (arith, ints, value, c.requires.map.lawful _ after, c.requires.map.lawful _ c.loop-edge.invariant.lawful)
 
 pub loop-edge-preserved : goal.loop-edge-preserved
 loop-edge-preserved c =
@@ -35,9 +37,10 @@ loop-edge-preserved c =
     let x_is : to_z w32 (of_z w32 e.x) ≡ e.x = omega (arith, ints) in
     let weight_is : to_z w32 (of_z w32 e.weight) ≡ e.weight = omega (arith, ints) in
     let sum_is : to_z w32 (of_z w32 (weight +ℤ e.weight)) ≡ weight +ℤ e.weight = omega (arith, ints) in
+    let value = rw (weight_is, sum_is) at c.apply-next.ensures in
+    let lawful_next = c.requires.map.lawful _ after in
     let next_is : to_z w32 (of_z w32 next) ≡ next = omega (arith, ints) in
     let change_is : to_z w32 (of_z w32 (next -ℤ image)) ≡ next -ℤ image = omega (arith, ints) in
-    let value = rw (weight_is, sum_is) at c.apply-next.ensures.value in
     rw (c.in_ok-push_unless_zero.ensures.pushed, x_is, weight_is, sum_is, next_is, change_is)
     (mapped_more _ _ _ _ _ _ _ so_far next value c.requires.edges)
 

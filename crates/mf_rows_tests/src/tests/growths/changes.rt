@@ -27,15 +27,14 @@ fn a_picture_is_copied(rt: HostRuntime) {
 }
 
 #[test]
-fn a_picture_is_negated(rt: HostRuntime) {
-    const NEGATED: &[Run] = &[
-        run_of!(90, -3, 2, -5),
-        run_of!(1, 0, 2, -1),
-        run_of!(1, 2, 1, -3),
-        run_of!(0, -1, 3, 32767),
-        run_of!(-70, 0, 1, 2),
+fn weights_become_level(rt: HostRuntime) {
+    const LEVEL: &[Run] = &[
+        run_of!(90, -3, 2, -7),
+        run_of!(1, 0, 3, -7),
+        run_of!(0, -1, 3, -7),
+        run_of!(-70, 0, 1, -7),
     ];
-    assert_makes(&rt, Derived::Negated, NEGATED);
+    assert_makes(&rt, Derived::Level, LEVEL);
 }
 
 #[test]
