@@ -4,7 +4,7 @@ use std::alloc::{AllocError, AllocFailed};
 use std::error::Error;
 use std::fmt;
 
-/// An allocation failed. A call that has changed something by then, or that gives something back, says so in its
+/// An allocation failed. A public call that has changed something by then, or that gives something back, says so in its
 /// documentation.
 #[derive(Clone, Copy, Debug, PartialEq, Eq)]
 pub struct OutOfMemory;

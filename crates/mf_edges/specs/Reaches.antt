@@ -11,7 +11,7 @@ pub record StaysInReach (reach : ℤ) (es : List Edge) : Type 0 where
   pub most : reach ≤ℤ greatest_weight
   pub within : (x : ℤ) → IsInReach reach (weight_in es x)
 
--- no weight between edges exceeds a number in absolute value, and some weight has it, which is 0 at a blank column
+-- no weight exceeds a number in absolute value, and the weight at some column has it, so it is 0 where there are no edges
 pub record IsLeastReach (reach : ℤ) (es : List Edge) : Type 0 where
   pub within : (x : ℤ) → IsInReach reach (weight_in es x)
   pub x : ℤ

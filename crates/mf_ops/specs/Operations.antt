@@ -27,7 +27,7 @@ AreAcceptedOn ds (op ∷ ops) = (op_fault ds op ≡ None) × AreAcceptedOn (next
 pub record AreAccepted (ops : List Op) : Type 0 where
   pub steps : AreAcceptedOn [] ops
 
--- the operation holds neither points nor pixels, so copying it allocates nothing
+-- the operation holds neither points nor pixels, so copying it is never refused
 abbrev pub HoldsNoList : Op → Type 0
 HoldsNoList (Contour ps w check) = ⊥
 HoldsNoList (Also es s) = es ≡ []

@@ -1,4 +1,4 @@
--- Lists of rows: the edges of short rows stand one after another in one list, and a long row has a list of its own.
+-- Lists of rows: the edges of a row stand among those of other rows in one list, or in a list of its own.
 use Rattle.std.specs.Prelude.{◌≡◌, ◌≤◌, ◌-◌, ℕ, All, List, [], ◌∷◌, take, drop, map, length}
 use Rattle.std.specs.Arc.{arc_value}
 use Rattle.std.specs.Coded.{Unit-prop}

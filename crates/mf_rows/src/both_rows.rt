@@ -35,7 +35,8 @@ pub(crate) struct RowsAhead<'a> {
 }
 
 /// An iterator over the rows of two lists together, from the top down. Rows of one height are one row, which is left out where it
-/// is blank. Its steps are inlined, as those of `Walk` are, and after the last older row they look at one list alone.
+/// is blank. After the last older row a step looks at one list alone. `next` is a call, so that what a walk uses at each edge stays in
+/// registers; the functions that it is made of are inlined.
 #[derive(Clone, Copy)]
 pub(crate) struct BothRows<'a> {
     rows: RowsAhead<'a>,

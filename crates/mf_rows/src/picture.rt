@@ -169,6 +169,7 @@ impl Picture {
         ensures lawful { OnOk result (IsPicture self.new) }
         ensures too_large { IfErr result (λ fault. fault ≢ AddFault.OutOfMemory → IsUnlawfulSomewhere (sum_at self.old other.now)) }
     {
+        // Naming the field gives the proof the invariant of its type.
         let _ = &self.pile;
         if other.is_blank() {
             return Ok(());
@@ -195,6 +196,7 @@ impl Picture {
         ensures lawful { OnOk result (IsPicture self.new) }
         ensures too_large { IfErr result (λ fault. fault ≢ AddFault.OutOfMemory → IsUnlawfulSomewhere (difference_at self.old other.now)) }
     {
+        // Naming the field gives the proof the invariant of its type.
         let _ = &mut self.pile;
         if !other.is_blank() {
             self.pile.settle(alloc);

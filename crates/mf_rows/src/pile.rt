@@ -80,7 +80,7 @@ impl Pile {
         requires { AreGroups groups.items }
         ensures { result ≡ rows_of_groups groups.items }
     {
-        // The least reach is found where it is needed, before the first contour is added.
+        // A reach is found where it is needed: when the first contour is added.
         Pile {
             older: Vec::new(alloc),
             groups,

@@ -56,8 +56,9 @@ pub(crate) struct Head {
     pub(crate) place: Place,
 }
 
-/// Rows, from the top down. The edges of the short ones are in one list, so that a few rows ask for memory twice, and not
-/// twice each. Neighbours with the same edges share them.
+/// Rows, from the top down. The edges of those without a list of their own are in one list, so that a few rows ask for memory
+/// twice, and not twice each. A row that is pushed shares the edges of the row before it where they are the same; rows of a sum are
+/// not compared.
 #[derive(Debug, Drop)]
 pub(crate) struct RowList {
     pub(crate) heads: Vec<Head>,

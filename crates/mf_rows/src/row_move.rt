@@ -29,7 +29,7 @@ pub(crate) fn mirrored_rows(alloc: Global, rows: &[Row<'_>]) -> Result<RowWriter
     Ok(mirrored)
 }
 
-/// The rows after a stretch. Each becomes as many rows as the factor says, which share its edges.
+/// The rows after a stretch. Each becomes as many rows as the factor says. Those in one band share their edges.
 #[tactic(auto, using(std::proofs::lemmas::List::drop_all, crate::proofs::RowStretches::stretch_all))]
 pub(crate) fn stretched_rows(
     alloc: Global,

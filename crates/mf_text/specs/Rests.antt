@@ -189,7 +189,7 @@ is_code_number (OrTake k next other) t = is_code_number other t
 is_code_number r t = false
 
 -- what the tokens give where they must be this rest: a line, or the column at which they go wrong; the token before them ends before
--- column `past`. A token that may not come is reported at its own column, but a number after `code -` at the `-`, the byte before
+-- column `past`. A token that may not come is reported at its own column, but a number after `code -` at the `-`, which is the byte before column `past`
 unfoldable pub follow : Result Rest ℕ → ℕ → List PlacedToken → Result Line ℕ
 follow (Err column) past ps = Err column
 follow (Ok rest) past [] = ok_or (ends rest) past

@@ -4,8 +4,8 @@ ghost use Rattle.mf_text.specs.Ints.{is_code};
 
 use crate::int::Int;
 
-/// The int after `code`, in 0..=255. The invariant says so, so that no use of its value needs a check. 0 can be written in two
-/// ways, since `-` may come before it.
+/// The int after `code`, in 0..=255. The invariant says so, so that no use of its value needs a check. 0 is two ints,
+/// since `-` may come before it.
 #[derive(Clone, Copy, Debug)]
 pub struct Code {
     pub(crate) int: Int,

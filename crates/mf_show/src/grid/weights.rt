@@ -27,8 +27,8 @@ impl<'a> Weights<'a> {
         Weights { run, runs }
     }
 
-    /// Returns the weight of a pixel. Pixels must be asked for in reading order: the runs before this one are passed and
-    /// forgotten.
+    /// Returns the weight of a pixel. Pixels must be asked for in reading order: the runs that end before this pixel are passed
+    /// and forgotten.
     #[tactic(auto, using(crate::proofs::PassedPixels::taken_is_lawful))]
     pub(crate) fn weight(&mut self, x: i32, y: i32) -> i32
         requires order { AreRuns (runs_ahead self.old) }
