@@ -2,8 +2,14 @@
 
 use super::{AMPLE, End, assert_ends};
 use crate::tests::assertions::{assert_holds, assert_same};
+use mf_base::OutOfMemory;
 use mf_desk::{RunFault, run};
+use mf_ops::OpFault;
+use mf_rows::AddFault;
+use mf_show::GridFault;
 use mf_testing::{LineFeeds, Pieces, Sink};
+use mf_text::TextFault;
+use std::fmt::{Debug, Display};
 use std::io::{BufWriter, Write};
 use std::process::Abort;
 use std::sync::Wait;
@@ -170,7 +176,11 @@ fn piece_of_a_line_is_not_performed(rt: HostRuntime) {
 }
 
 /// Asserts that a fault is displayed as its name.
-fn assert_displays<R: Abort + AllocGlobal>(rt: &R, fault: RunFault, name: &str) {
+fn assert_displays<R: Abort + AllocGlobal, F: Copy + Debug + Display + Drop>(
+    rt: &R,
+    fault: F,
+    name: &str,
+) {
     let message = format!(in rt.alloc(); "{fault}").expect(rt, "there is room for a message");
     assert_same(rt, message.as_str(), name, fault);
 }
@@ -184,4 +194,14 @@ fn messages_are_names(rt: HostRuntime) {
     assert_displays(&rt, RunFault::ReadFault, "ReadFault");
     assert_displays(&rt, RunFault::WriteFault(5), "WriteFault");
     assert_displays(&rt, RunFault::NoLook, "NoLook");
+}
+
+/// Each type of refusals below displays a failed allocation by the same name.
+#[test]
+fn a_failed_allocation_has_one_name(rt: HostRuntime) {
+    assert_displays(&rt, OutOfMemory, "OutOfMemory");
+    assert_displays(&rt, AddFault::OutOfMemory, "OutOfMemory");
+    assert_displays(&rt, OpFault::OutOfMemory, "OutOfMemory");
+    assert_displays(&rt, GridFault::OutOfMemory, "OutOfMemory");
+    assert_displays(&rt, TextFault::OutOfMemory, "OutOfMemory");
 }
