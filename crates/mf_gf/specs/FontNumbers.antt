@@ -50,7 +50,7 @@ post_of file = option_and_then (λ place. post_at place file) (post_place file)
 abbrev pub HasPost : List ℕ → (Post → Type 0) → Type 0
 HasPost file Says = (post : Post) × (post_of file ≡ Some post) × Says post
 
--- the byte before this place is eoc (69), which ends a character
+-- the byte before this place is 69, as that of eoc, which ends a character
 abbrev pub IsAfterEoc : List ℕ → ℕ → Type 0
 IsAfterEoc file place = slice_index file (place - 1) ≡ 69
 

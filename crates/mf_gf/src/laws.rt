@@ -67,7 +67,7 @@ pub fn characters_are_read_back()
 {}
 
 /// A reader of a finished file finds its comment in the preamble, and the numbers of the font in post, to which the end of the file
-/// leads. There post has its own place, which is directly after the last eoc, and the least box around the boxes of all characters.
+/// leads. There post has its own place, before which the byte of an eoc stands, and the least box around the boxes of all characters.
 pub fn numbers_are_read_back()
     ensures preamble { (words : FontWords) (comment : List ℕ) (cs : List Character) → comment_of (file_of words comment cs) ≡ Some comment }
     ensures place { (words : FontWords) (comment : List ℕ) (cs : List Character) → AreShippable comment cs

@@ -5,7 +5,7 @@ ghost use Rattle.mf_base.specs.Messages.{GetsFront};
 use mf_base::write_text;
 use std::io::Write;
 
-/// Exit status after a run that reached the end of its script, and wrote or showed all that was asked for.
+/// Exit status after a run that wrote or showed all that was asked for. Where a script was asked for, it was read to its end.
 pub const DONE: u8 = 0;
 
 /// Exit status where the words are not those of a command line.
