@@ -1,5 +1,6 @@
 -- What is made of a publish.
-use Rattle.std.specs.Prelude.{◌≡◌, ℕ, List, Option, None, Some}
+use Rattle.std.specs.Prelude.{◌≡◌, ℕ, IsSome, List, Option, None, Some}
+use Rattle.mf_image.specs.Boxes.{IsTooLargeForImage}
 use Rattle.mf_live.specs.Entries.{Entry, picture_at, revision_at}
 use Rattle.mf_stage.specs.Plates.{IsPlate}
 use Rattle.mf_stage.specs.declared.plate.Plate.{Plate}
@@ -17,6 +18,10 @@ IsPlateIfAsked (Some plates) shown made = (plate : Plate) × (made ≡ Some plat
 pub record IsPublication (plates : Option Plates) (shown : List Entry) (made : Publication) : Type 0 where
   pub revision : made.revision ≡ revision_at shown
   pub plate : IsPlateIfAsked plates shown made.plate
+
+-- where plates are asked for, the picture of a list is not too large for an image
+abbrev pub HasNoLargeImage : Option Plates → List Entry → Type 0
+HasNoLargeImage plates shown = IsSome plates → IsTooLargeForImage (picture_at shown) → ⊥
 
 -- what is made of a line after which this list is published: its publication where the line gives the command to publish, and else
 -- nothing

@@ -1,11 +1,13 @@
 //! A stage: a session that performs a script, and what is made of each publish.
-ghost use Rattle.std.specs.Prelude.{◌≡◌, ◌⊎◌, ◌<◌, ◌≤◌, ◌↔◌, ◌∷◌, [], Err, IfErr, IfOk, IsOk, IsSome, IsSomeAnd, None, OnOk};
+ghost use Rattle.std.specs.Prelude.{◌≡◌, ◌⊎◌, ◌<◌, ◌≤◌, ◌↔◌, ◌∷◌, ℕ, [], Err, IfErr, IfOk, IsOk, IsSome, IsSomeAnd, None, OnOk};
+ghost use Rattle.mf_text.specs.Lines.{Gives};
+ghost use Rattle.mf_text.specs.declared.command.Command.TheVariants.{Publish};
 ghost use Rattle.mf_live.specs.Desks.{desk_identity, remaining_viewers};
 ghost use Rattle.mf_session.specs.Endings.{HasEnded};
 ghost use Rattle.mf_live.specs.Entries.{picture_at, revision_at};
 ghost use Rattle.mf_session.specs.States.{State, least_bytes, limits_of, start};
 ghost use Rattle.mf_stage.specs.Faults.{BreaksLines, BreaksScript, ConcernsPlate, IsOfImage, IsOfPlate, NeedsNoFile};
-ghost use Rattle.mf_stage.specs.Publications.{IsPlateIfAsked, IsPublication};
+ghost use Rattle.mf_stage.specs.Publications.{HasNoLargeImage, IsPlateIfAsked, IsPublication};
 ghost use Rattle.mf_stage.specs.Scripts.{HasPerformedLine, PerformsLines, PerformsAll, act_of};
 ghost use Rattle.mf_stage.specs.Stages.{StandsFor, identity, limits, plates_of, session_of};
 
@@ -158,6 +160,7 @@ impl Stage {
             → HasPerformedLine (act_of self.old self.new (W.contents transcript.old) (W.contents transcript.new)) s line.now made) }
         ensures begun { IfErr result (BreaksLines (act_of self.old self.new (W.contents transcript.old) (W.contents transcript.new)) (line.now ∷ [])) }
         ensures possible { IfErr result NeedsNoFile }
+        ensures large { (revision : ℕ) → result ≡ Err (StageFault.ImageTooLarge revision) → Gives line.now Publish }
         ensures limits { limits self.new ≡ limits self.old }
         ensures identity { identity self.new ≡ identity self.old }
         ensures plates { plates_of self.new ≡ plates_of self.old }
@@ -215,6 +218,7 @@ impl Stage {
         alloc: Global,
     ) -> Result<(Ended, GfFile), StageFault>
         ensures ended { IfOk result (λ made. (s : State) → StandsFor self s → HasEnded (session_of self) s made.0 made.1) }
+        ensures fits { OnOk result ((s : State) → StandsFor self s → HasNoLargeImage (plates_of self) s.pictures.accepted) }
         ensures fault { IfErr result (λ fault. (s : State) → StandsFor self s → IsOfPlate s.pictures.accepted fault) }
         ensures asked { IfErr result (λ fault. ConcernsPlate fault → IsSome (plates_of self)) }
     {
@@ -229,6 +233,7 @@ impl Stage {
 
     /// Writes the plate of the last revision, if plates are asked for.
     fn write_last<S: Files>(&self, rt: &S, alloc: Global) -> Result<(), StageFault>
+        ensures fits { OnOk result ((s : State) → StandsFor self.now s → HasNoLargeImage (plates_of self.now) s.pictures.accepted) }
         ensures fault { IfErr result (λ fault. (s : State) → StandsFor self.now s → IsOfPlate s.pictures.accepted fault) }
         ensures asked { IfErr result (λ _. IsSome (plates_of self.now)) }
     {

@@ -7,6 +7,7 @@ use Rattle.mf_easel.specs.Easels.{HasSameManner, Manner, manner_of}
 use Rattle.mf_easel.specs.declared.easel.Easel.{Easel}
 use Rattle.mf_easel.specs.declared.fault.EaselFault.{EaselFault}
 use Rattle.mf_gf.specs.declared.file.GfFile.{GfFile}
+use Rattle.mf_gf.specs.Keeping.{max_bytes_of}
 use Rattle.mf_session.specs.Endings.{IsFileOf, complete_list}
 use Rattle.mf_session.specs.States.{State, answer_with, start}
 use Rattle.mf_session.specs.Transcript.{Perform}
@@ -42,7 +43,7 @@ StandsFor-after before after unread held holds (Err fault) begins script = tt
 
 -- a script was performed on this stage, and its end was shown
 module _ (m : Manner) (s : ScreenStreams) (before after : Stage) (limited : limits before ≡ script_limits)
-    (begins : StandsFor before start) where
+    (begins : StandsFor before start) (kept : limits after ≡ limits before) where
   Shows-file : (file : GfFile) → PerformsAll (act_of before after s.transcript.held s.transcript.holds) s.unread
       → ((t : State) → StandsFor after t → IsFileOf (session_of after) t file)
       → ((t : State) → StandsFor after t → ShowsLast m (complete_list t.pictures) s.screen)
@@ -59,6 +60,8 @@ module _ (m : Manner) (s : ScreenStreams) (before after : Stage) (limited : limi
           out = done.out;
           shown = shown done.last done.stands;
           file_is = (of_file done.last done.stands).keeps;
+          max_bytes_is = subst (λ l. max_bytes_of file ≡ l.max_bytes) limited
+              (subst (λ l. max_bytes_of file ≡ l.max_bytes) kept (of_file done.last done.stands).max_bytes_is);
         };
       }
 

@@ -1,10 +1,10 @@
 -- What a performance has written.
-use Rattle.std.specs.Prelude.{ℕ, List, [], Option}
+use Rattle.std.specs.Prelude.{◌≡◌, ℕ, List, [], Option}
 use Rattle.std.specs.Io.KnownBytes.{Appends}
 use Rattle.mf_base.specs.Messages.{Receipt}
 use Rattle.mf_easel.specs.Easels.{Manner}
 use Rattle.mf_gf.specs.declared.file.GfFile.{GfFile}
-use Rattle.mf_gf.specs.Keeping.{Keeps}
+use Rattle.mf_gf.specs.Keeping.{Keeps, max_bytes_of}
 use Rattle.mf_session.specs.Endings.{complete_list}
 use Rattle.mf_session.specs.States.{Limits, limits_of, most_bytes, most_operations}
 use Rattle.mf_session.specs.Transcript.{IsTranscript}
@@ -26,13 +26,15 @@ abbrev pub screen_streams : Option (List ℕ) → Receipt → Receipt → Screen
 screen_streams unread screen transcript = record { unread = unread; screen = screen; transcript = transcript }
 
 -- the script of these bytes was performed: the transcript is written, the screen has got frames of the picture, the last of them
--- that of the last picture, and the font file keeps the characters that were shipped
+-- that of the last picture, and the font file keeps the characters that were shipped, and may have as many bytes as the limits of a
+-- script say
 pub record IsShown (manner : Manner) (s : ScreenStreams) (file : GfFile) (input : List ℕ) : Type 0 where
   pub text : List ℕ
   pub script : IsTranscript script_limits input text
   pub out : Appends s.transcript.held s.transcript.holds text
   pub shown : ShowsLast manner (complete_list script.last.pictures) s.screen
   pub file_is : Keeps file [] script.last.characters
+  pub max_bytes_is : max_bytes_of file ≡ script_limits.max_bytes
 
 -- a script was performed and shown, that of the reader
 abbrev pub Shows : Manner → ScreenStreams → GfFile → Type 0

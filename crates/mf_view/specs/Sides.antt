@@ -35,5 +35,6 @@ pub record DrawsBeside {W : Type 0} (first : Result (Unit {0}) EaselFault) (act 
 pub record PerformsBeside (act : Act) (unread : Option (List ℕ)) (result : Result (Unit {0}) StageFault) : Type 0 where
   pub identity : stages.identity act.after ≡ stages.identity act.before
   pub plates : stages.plates_of act.after ≡ stages.plates_of act.before
+  pub limits : stages.limits act.after ≡ stages.limits act.before
   pub transcript : OnOk result (PerformsAll act unread)
   pub fault : IfErr result (BreaksScript act unread)

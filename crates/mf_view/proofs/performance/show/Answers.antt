@@ -19,8 +19,8 @@ drawn g c = grind (arith, HasDrawnAs-both, HasDrawn-nothing)
 
 pub returns-clause-shown : goal.returns-clause-shown
 returns-clause-shown g c =
-    Shows-whole _ _ c.args.stage c.perform_beside-drawn.new.stage c.requires.limits c.requires.start c.perform_beside-drawn.result.performed
-    c.conclude.result
+    Shows-whole _ _ c.args.stage c.perform_beside-drawn.new.stage c.requires.limits c.requires.start
+    c.perform_beside-drawn.ensures.script.limits c.perform_beside-drawn.result.performed c.conclude.result
     c.perform_beside-drawn.ensures.script.transcript
     c.conclude.ensures.script
     c.conclude.ensures.file
