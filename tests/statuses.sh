@@ -1,7 +1,7 @@
 #!/bin/bash
 # Tests the exit statuses and messages of the programs where they fail: words that it does not know, a word that is not UTF-8, a
-# folder as its script, an output that is full or closed, a font file without a character, and one that cannot be created. After
-# a fault of the words or of the script, a font file that was there before is there as it was.
+# folder as its script, an output that is full or closed, a font file without a character, one that cannot be created or written, and
+# an image that would be too large. After a fault of the words or of the script, a font file that was there before is there as it was.
 set -u
 cd "$(dirname "$0")/.."
 
@@ -65,14 +65,20 @@ ends_with 0 '' ./mfview --help
 ends_with 2 "$usage" ./mfview more
 ends_with 2 "$usage" ./mfview --pgm
 ends_with 2 "$usage" ./mfview $'\xff'
-ends_with 3 'mfview: ReadFault' bash -c './mfview < /'
+keeps_font /dev/null 3 'mfview: ReadFault' './mfview --gf "$FONT" < / > /dev/null'
 ends_with 3 'mfview: WriteFault' bash -c './mfview --transcript /dev/null < examples/tee.mfp > /dev/full'
 ends_with 3 'mfview: WriteFault' bash -c './mfview --transcript /none/told < examples/tee.mfp'
 ends_with 3 'mfview: WriteFault' bash -c './mfview --help > /dev/full'
 ends_with 3 'mfview: WriteFault' bash -c './mfview --version > /dev/full'
 ends_with 3 'mfview: PlateFault 1' bash -c './mfview --transcript /dev/null --plates /none < examples/tee.mfp'
 ends_with 3 'mfview: PlateFault 0' bash -c './mfview --plates /none < /dev/null > /dev/full'
-ends_with 3 'mfview: NoCharacters' bash -c './mfview --transcript /dev/null --gf /dev/null < examples/tee.mfp'
+# 4,097 columns are one more than an image may have: at a publish, which is the last line that is performed, and at the end.
+wide='addto currentpicture contour (-2,0)--(4095,0)--(4095,1)--(-2,1)--cycle'
+ends_with 3 $'published 1\nmfview: ImageTooLarge 1' ./mfview --plates "$folder" <<< "$wide"$'\npublish\npublish'
+ends_with 3 'mfview: ImageTooLarge 1' ./mfview --plates "$folder" <<< "$wide"
+keeps_font /dev/null 3 'mfview: NoCharacters' './mfview --transcript /dev/null --gf "$FONT" < examples/tee.mfp > /dev/null'
+ends_with 3 'mfview: WriteFault' bash -c './mfview --transcript /dev/null --gf /none/font.gf < examples/font.mfp'
+ends_with 3 'mfview: WriteFault' bash -c './mfview --transcript /dev/null --gf /dev/full < examples/font.mfp'
 ends_with 5 'mfview: TooSmall' ./mfview --columns 49
 ends_with 5 'mfview: TooSmall' ./mfview --rows 5
 ends_with 0 '' bash -c './mfview --frames --transcript /dev/null --gf "$FONT" < examples/font.mfp'

@@ -1,7 +1,7 @@
 //! Readers for tests: they give bytes in pieces, fail, and count their reads.
 use std::io::{self, ErrorKind, Read};
 
-/// A reader of these bytes. After them it reports the end, or fails with an error where `fails` is set.
+/// A reader of these bytes. After them it fails with errors, if there are some, and then reports the end.
 #[derive(Drop)]
 pub struct Pieces<'a> {
     rest: &'a [u8],
@@ -9,7 +9,10 @@ pub struct Pieces<'a> {
     size: usize,
     /// The greatest number of bytes in each read after that.
     later_size: usize,
-    fails: bool,
+    /// The kind of its errors.
+    kind: ErrorKind,
+    /// The number of errors that are still to come.
+    errors: u32,
 }
 
 impl<'a> Pieces<'a> {
@@ -31,22 +34,32 @@ impl<'a> Pieces<'a> {
             rest: bytes,
             size: first,
             later_size: usize::MAX,
-            fails: false,
+            kind: ErrorKind::Other,
+            errors: 0,
         }
     }
 
-    /// Fails with an error after these bytes.
+    /// Fails with an error in each read after these bytes.
     pub fn failing(bytes: &'a [u8]) -> Pieces<'a> {
         let mut pieces = Pieces::whole(bytes);
-        pieces.fails = true;
+        pieces.errors = u32::MAX;
+        pieces
+    }
+
+    /// Fails in one read after these bytes, with an error of this kind.
+    pub fn failing_once_with(bytes: &'a [u8], kind: ErrorKind) -> Pieces<'a> {
+        let mut pieces = Pieces::whole(bytes);
+        pieces.kind = kind;
+        pieces.errors = 1;
         pieces
     }
 }
 
 impl Read for Pieces<'_> {
     fn read(&mut self, buf: &mut [u8]) -> io::Result<usize> {
-        if self.fails && self.rest.is_empty() {
-            return Err(io::Error::from(ErrorKind::Other));
+        if self.errors > 0 && self.rest.is_empty() {
+            self.errors -= 1;
+            return Err(io::Error::from(self.kind));
         }
         let count = self.size.min(buf.len()).min(self.rest.len());
         let (piece, rest) = self.rest.split_at(count);

@@ -1,27 +1,31 @@
-//! Streams that fail: the name of the fault, and what was written by then.
+//! Streams that fail: the name of the fault, and what was written by then. A read that is interrupted is tried again.
 use super::assertions::assert_same;
 use super::paces::Held;
 use mf_frame::{Canvas, Style};
-use mf_testing::{FailsOnce, Pieces, Sink};
+use mf_testing::{FailsOnce, Failure, FlushFails, Pieces, Sink};
 use mf_view::{ProgramFault, Showing, perform};
 use std::alloc::Global;
-use std::io::Write;
+use std::io::{ErrorKind, Read, Write};
 use std::process::Abort;
 use std::rt::Files;
 use std::sync::Wait;
 use std::thread::Threads;
 
-const SCRIPT: &[u8] = b"show totalweight a\npublish\nshow totalweight b\n";
+/// A frame of 41 bytes is drawn before this script is read, and another one after it has ended.
+const SCRIPT: &[u8] = b"show totalweight a\n\
+                        publish\n\
+                        addto currentpicture contour (0,0)--(1,0)--(1,1)--(0,1)--cycle\n\
+                        show totalweight currentpicture\n";
 
-const TOLD: &[u8] = b"totalweight 0\npublished 0\ntotalweight 0\n";
+const TOLD: &[u8] = b"totalweight 0\npublished 0\ntotalweight 1\n";
 
 /// Performs a script, and returns its fault.
-fn fault_of<S: Abort + Wait + Threads + Files + Sync, W: Write + Send>(
+fn fault_of<S: Abort + Wait + Threads + Files + Sync, R: Read + Drop, W: Write + Send, T: Write>(
     rt: &S,
     alloc: Global,
-    mut reader: Pieces<'_>,
+    mut reader: R,
     screen: &mut W,
-    transcript: &mut Vec<u8>,
+    transcript: &mut T,
 ) -> Option<ProgramFault> {
     let canvas = Canvas::new(80, 24).expect(rt, "the terminal is large enough");
     let showing = Showing {
@@ -41,61 +45,132 @@ fn fault_of<S: Abort + Wait + Threads + Files + Sync, W: Write + Send>(
     .err()
 }
 
-/// Asserts the fault of a script of which reading fails after these bytes, on a screen with so much room, and what is told by then.
-fn assert_fails<S: Abort + Wait + Threads + Files + Sync>(
+/// Asserts the fault, or that there is none, of a script that this reader gives, on a screen with so much room. All lines are told.
+fn assert_ends<S: Abort + Wait + Threads + Files + Sync, R: Read + Drop>(
     rt: &S,
     alloc: Global,
-    reader: Pieces<'_>,
+    reader: R,
     room: usize,
-    fault: ProgramFault,
-    told: &[u8],
+    fault: Option<ProgramFault>,
 ) {
     let (mut screen, mut transcript) = (Sink::failing(alloc, room), Vec::new(alloc));
     let found = fault_of(rt, alloc, reader, &mut screen, &mut transcript);
-    assert_same(rt, found, Some(fault), "fault");
-    assert_same(rt, transcript.as_slice(), told, "told");
+    assert_same(rt, found, fault, "fault");
+    assert_same(rt, transcript.as_slice(), TOLD, "told");
 }
 
 /// The screen has room for all frames, or fails in the first one: a fault of the drawing does not come before one of the script.
 #[test]
 fn reading_fails(rt: HostRuntime) {
     for room in [1000, 10] {
-        assert_fails(
-            &rt,
-            rt.alloc(),
-            Pieces::failing(SCRIPT),
-            room,
-            ProgramFault::ReadFault,
-            TOLD,
-        );
+        let reader = Pieces::failing(SCRIPT);
+        assert_ends(&rt, rt.alloc(), reader, room, Some(ProgramFault::ReadFault));
     }
 }
 
 #[test]
-fn the_screen_fails(rt: HostRuntime) {
-    assert_fails(
+fn reading_lacks_memory(rt: HostRuntime) {
+    let reader = Pieces::failing_once_with(SCRIPT, ErrorKind::OutOfMemory);
+    assert_ends(
         &rt,
         rt.alloc(),
-        Pieces::whole(SCRIPT),
-        10,
-        ProgramFault::WriteFault,
-        TOLD,
+        reader,
+        1000,
+        Some(ProgramFault::OutOfMemory),
     );
 }
 
-/// This screen fails in the first frame, and would then take more.
+/// The first read is interrupted, or one within a line, or the one that would report the end.
+#[test]
+fn an_interrupted_read_is_tried_again(rt: HostRuntime) {
+    for count in [0, 22, SCRIPT.len()] {
+        let (before, later) = SCRIPT.split_at(count);
+        let before = Pieces::failing_once_with(before, ErrorKind::Interrupted);
+        let reader = before.chain(Pieces::whole(later));
+        assert_ends(&rt, rt.alloc(), reader, 1000, None);
+    }
+}
+
+/// The screen fails in the first frame, or in the last.
+#[test]
+fn the_screen_fails(rt: HostRuntime) {
+    for room in [10, 50] {
+        let reader = Pieces::whole(SCRIPT);
+        assert_ends(
+            &rt,
+            rt.alloc(),
+            reader,
+            room,
+            Some(ProgramFault::WriteFault),
+        );
+    }
+}
+
+/// Asserts that the script ends with `WriteFault` on this screen and with this transcript.
+fn assert_write_fault<S: Abort + Wait + Threads + Files + Sync, W: Write + Send, T: Write>(
+    rt: &S,
+    alloc: Global,
+    screen: &mut W,
+    transcript: &mut T,
+) {
+    let found = fault_of(rt, alloc, Pieces::whole(SCRIPT), screen, transcript);
+    assert_same(rt, found, Some(ProgramFault::WriteFault), "fault");
+}
+
+/// This writer is interrupted after so many bytes, and would then take more.
+fn interrupted(alloc: Global, room: usize) -> FailsOnce {
+    let failure = Failure::Error(ErrorKind::Interrupted);
+    FailsOnce::over(Sink::new(alloc), room, failure)
+}
+
+/// The screen is interrupted in the first frame.
 #[test]
 fn no_frame_comes_after_one_that_was_cut(rt: HostRuntime) {
     let alloc = rt.alloc();
-    let (mut screen, mut transcript) = (FailsOnce::new(alloc, 10), Vec::new(alloc));
-    let found = fault_of(
-        &rt,
-        alloc,
-        Pieces::whole(SCRIPT),
-        &mut screen,
-        &mut transcript,
-    );
-    assert_same(&rt, found, Some(ProgramFault::WriteFault), "fault");
+    let (mut screen, mut transcript) = (interrupted(alloc, 10), Vec::new(alloc));
+    assert_write_fault(&rt, alloc, &mut screen, &mut transcript);
     assert_same(&rt, screen.calls_after(), 0, "calls after the fault");
     assert_same(&rt, transcript.as_slice(), TOLD, "told");
+}
+
+/// A flush fails after the first frame, or after the last.
+#[test]
+fn no_frame_comes_after_a_flush_that_failed(rt: HostRuntime) {
+    let alloc = rt.alloc();
+    for good in [0, 1] {
+        let (mut screen, mut transcript) = (FlushFails::once(alloc, good), Vec::new(alloc));
+        assert_write_fault(&rt, alloc, &mut screen, &mut transcript);
+        assert_same(&rt, screen.calls_after(), 0, good);
+        assert_same(&rt, transcript.as_slice(), TOLD, good);
+    }
+}
+
+/// The transcript is interrupted in the text of the second line.
+#[test]
+fn no_line_comes_after_one_whose_text_was_cut(rt: HostRuntime) {
+    let alloc = rt.alloc();
+    let (mut screen, mut transcript) = (Sink::new(alloc), interrupted(alloc, 20));
+    assert_write_fault(&rt, alloc, &mut screen, &mut transcript);
+    let told: &[u8] = b"totalweight 0\npublis";
+    assert_same(
+        &rt,
+        (transcript.bytes(), transcript.calls_after()),
+        (told, 0),
+        "told",
+    );
+}
+
+/// A flush fails after the text of the second line.
+#[test]
+fn no_line_comes_after_a_flush_that_failed(rt: HostRuntime) {
+    let alloc = rt.alloc();
+    let (mut screen, mut transcript) = (Sink::new(alloc), FlushFails::once(alloc, 1));
+    assert_write_fault(&rt, alloc, &mut screen, &mut transcript);
+    let told: &[u8] = b"totalweight 0\npublished 0\n";
+    assert_same(
+        &rt,
+        (transcript.bytes(), transcript.calls_after()),
+        (told, 0),
+        "told",
+    );
 }
