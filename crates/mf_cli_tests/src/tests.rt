@@ -26,7 +26,7 @@ const LINE: &[u8] = b"show totalweight currentpicture\n";
 const TEXT: &[u8] = b"totalweight 0\n";
 
 /// The message that says how the program is used.
-const USAGE: &[u8] = b"usage: mfpic [--viewers 0..16] [--gf FILE]\n";
+const USAGE: &[u8] = b"usage: mfpic [--viewers 0..16] [--gf FILE] < SCRIPT\n";
 
 /// How the program ends: its exit status, what it has written to standard output, and its message.
 type End<'a> = (u8, &'a [u8], &'a [u8]);
