@@ -19,8 +19,8 @@ VERDICT = re.compile(r"^(?:only|logic)=", re.M)
 # A goal that is not proved: what the prover says of it, and its name. It may say that it found values at which the goal is false.
 OPEN = re.compile(r"^note: src/\S+: (.*? \(`(\S+)`\).*)$", re.M)
 FALSE = "allow values at which this goal is false"
-# What an error says when a file of proofs/ uses a name that the changed body no longer has.
-GONE = re.compile(r"has no `|has no field|is not in scope|was not admitted")
+# What an error says when a file of proofs/ uses a name that the changed body no longer has, or a declaration that does.
+GONE = re.compile(r"has no `|has no field|is not in scope|was not admitted|which was rejected, w(?:as|ere) not checked")
 
 
 def owner_of(symbol: str) -> tuple[str, ...]:
