@@ -145,14 +145,19 @@ def judge(body: Body, room: Room, said: str) -> None:
 
 
 def try_batch(batch: list[Body], controls: list[Body], room: Room) -> None:
-    """Tries a batch, in halves if the check says nothing about all of it, and judges what it can."""
-    control = [it for it in controls if fits(it, batch, room.texts)][:1]
+    """Tries a batch, in halves if the check says nothing about all of it, and judges what it can. A body alone is tried beside each
+    control, since one may call the function that the body changes."""
+    fitting = [it for it in controls if fits(it, batch, room.texts)]
+    control = fitting[:1]
     changed = set().union(*(body.changed for body in [*batch, *control]))
     said = room.check(texts_with([*batch, *control], room.texts), room.symbols_of(changed))
     problem = problem_of(said, room.symbols_of(control[0].changed) if control else [])
     if problem and len(batch) > 1:
         try_batch(batch[: len(batch) // 2], controls, room)
         try_batch(batch[len(batch) // 2 :], controls, room)
+        return
+    if problem and len(fitting) > 1:
+        try_batch(batch, fitting[1:], room)
         return
     for body in batch:
         if problem:
