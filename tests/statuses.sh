@@ -1,7 +1,8 @@
 #!/bin/bash
 # Tests the exit statuses and messages of the programs where they fail: words that it does not know, a word that is not UTF-8, a
 # folder as its script, an output that is full or closed, a font file without a character, one that cannot be created or written, and
-# an image that would be too large. After a fault of the words or of the script, a font file that was there before is there as it was.
+# an image that would be too large. After a fault of the words or of the script, or in a terminal that is too small, a font file that was
+# there before is there as it was. And `--pause` makes a script rest.
 set -u
 cd "$(dirname "$0")/.."
 
@@ -66,6 +67,7 @@ ends_with 2 "$usage" ./mfview more
 ends_with 2 "$usage" ./mfview --pgm
 ends_with 2 "$usage" ./mfview $'\xff'
 keeps_font /dev/null 3 'mfview: ReadFault' './mfview --gf "$FONT" < / > /dev/null'
+keeps_font /dev/null 3 'mfview: ReadFault' './mfview --transcript /dev/null --gf "$FONT" < / > /dev/null'
 ends_with 3 'mfview: WriteFault' bash -c './mfview --transcript /dev/null < examples/tee.mfp > /dev/full'
 ends_with 3 'mfview: WriteFault' bash -c './mfview --transcript /none/told < examples/tee.mfp'
 ends_with 3 'mfview: WriteFault' bash -c './mfview --help > /dev/full'
@@ -81,6 +83,10 @@ ends_with 3 'mfview: WriteFault' bash -c './mfview --transcript /dev/null --gf /
 ends_with 3 'mfview: WriteFault' bash -c './mfview --transcript /dev/null --gf /dev/full < examples/font.mfp'
 ends_with 5 'mfview: TooSmall' ./mfview --columns 49
 ends_with 5 'mfview: TooSmall' ./mfview --rows 5
+keeps_font /dev/null 5 'mfview: TooSmall' './mfview --columns 49 --gf "$FONT" < examples/font.mfp'
+keeps_font /dev/null 5 'mfview: TooSmall' './mfview --rows 5 --transcript "$FONT" < examples/font.mfp'
+# The script publishes, so it has not ended after a second, and `timeout` ends it.
+ends_with 124 '' timeout 1 crates/mfview/out/mfview --frames --transcript /dev/null --pause 10000 < examples/tee.mfp
 ends_with 0 '' bash -c './mfview --frames --transcript /dev/null --gf "$FONT" < examples/font.mfp'
 cmp "$FONT" examples/font.gf || fails 'another font file'
 echo "$count passed, 0 failed"

@@ -4,11 +4,12 @@
     tests/view.py [PROGRAM [SCRIPTS [SEED]]]
 
 PROGRAM is by default crates/mfview/out/mfview. Each script is performed with `--frames` and without, in a terminal of some size,
-and with a folder of plates unless a picture is too large for an image. Then
+and with a folder of plates unless a picture is too large for an image; half of them with PGM images, too. Then
 
 - the transcript and the font file must be those of the models, the font's design size and resolution included;
 - the frames must be frames of published pictures whose revisions rise, and the last one that of the last picture;
-- there must be an image for each published revision, and for no other, that reads back as its picture.
+- there must be an image for each published revision, and for no other, that reads back as its picture, and PGM images only where they
+  are asked for.
 
 And two pictures whose frames reach the right end of a small terminal must be seen whole there.
 
@@ -103,21 +104,21 @@ def difference_of_frames(shown: str, made: Performance, size: tuple[int, int], i
     return None if ended else "the last picture is not drawn last"
 
 
-def difference_of_plates(folder: pathlib.Path, made: Performance) -> str | None:
+def difference_of_plates(folder: pathlib.Path, made: Performance, has_pgm: bool) -> str | None:
     """How the images in a folder differ from the published pictures."""
-    named = {f"{revision:07}.{kind}" for revision in made.published for kind in ("svg", "pgm")}
+    named = {f"{revision:07}.{kind}" for revision in made.published for kind in ["svg", *["pgm"] * has_pgm]}
     if found := named ^ {path.name for path in folder.iterdir()}:
         return f"there should be, or should not be, the images {sorted(found)}"
     for revision, picture in made.published.items():
         if frame_model.read_svg((folder / f"{revision:07}.svg").read_text(encoding="ascii")) != picture:
             return f"the SVG image of revision {revision} is not its picture"
-        if (folder / f"{revision:07}.pgm").read_bytes() != frame_model.pgm(picture):
+        if has_pgm and (folder / f"{revision:07}.pgm").read_bytes() != frame_model.pgm(picture):
             return f"the PGM image of revision {revision} is not its picture"
     return None
 
 
 def difference(
-    program: str, made: Performance, size: tuple[int, int], is_plain: bool, words_of_font: tuple[int, int]
+    program: str, made: Performance, size: tuple[int, int], is_plain: bool, words_of_font: tuple[int, int], has_pgm: bool
 ) -> str | None:
     """How the program differs from the models on a script."""
     with tempfile.TemporaryDirectory() as folder:
@@ -126,13 +127,13 @@ def difference(
         words = [program, "--columns", str(size[0]), "--rows", str(size[1]), *["--frames"] * is_plain]
         points, dots = map(str, words_of_font)
         words += ["--gf", str(font), "--design-size", points, "--resolution", dots] if made.font else []
-        words += ["--plates", str(plates), "--pgm"] if made.has_images() else []
+        words += ["--plates", str(plates), *["--pgm"] * has_pgm] if made.has_images() else []
         ran = subprocess.run(words, input=made.script, capture_output=True, timeout=600, check=False)
         if ran.returncode or ran.stderr.decode() != made.transcript:
             return f"it ended with status {ran.returncode}, and told {ran.stderr!r}, not {made.transcript!r}"
         if made.font and font.read_bytes() != with_words(made.font, *words_of_font):
             return "it wrote another font file"
-        if made.has_images() and (found := difference_of_plates(plates, made)):
+        if made.has_images() and (found := difference_of_plates(plates, made, has_pgm)):
             return found
         return difference_of_frames(ran.stdout.decode(), made, size, is_plain)
 
@@ -173,7 +174,7 @@ def main() -> int:
     for number in range(scripts):
         made = performance(chance)
         size, is_plain = SIZES[number % len(SIZES)], number % 2 == 0
-        if found := difference(program, made, size, is_plain, FONTS[number // 2 % len(FONTS)]):
+        if found := difference(program, made, size, is_plain, FONTS[number // 2 % len(FONTS)], number // 4 % 2 == 0):
             wrong += 1
             print(f"script {number}, {size[0]} columns and {size[1]} rows: {found}\n{made.script!r}", flush=True)
     for script, line in WIDEST.items():

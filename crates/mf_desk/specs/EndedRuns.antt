@@ -1,5 +1,5 @@
 -- A run whose script has ended.
-use Rattle.std.specs.Prelude.{◌≡◌, ◌+◌, ◌*◌, ◌≤◌, ℕ, List, Vec, [], Option, length}
+use Rattle.std.specs.Prelude.{◌≡◌, ◌+◌, ◌*◌, ◌≤◌, ◌∷◌, ◌++◌, ℕ, List, Vec, [], Option, length, map}
 use Rattle.std.specs.Io.KnownBytes.{Appends}
 use Rattle.std.specs.declared.alloc.Global.{Global}
 use Rattle.mf_gf.specs.Keeping.{Keeps, max_bytes_of}
@@ -15,7 +15,8 @@ use Rattle.mf_desk.specs.Performer.{longest_text}
 use Rattle.mf_session.specs.States.{State, Limits}
 use Rattle.mf_session.specs.Transcript.{IsTranscript}
 use Rattle.mf_desk.specs.Streams.{Gets, HasRead, MakesPassage, Streams}
-use Rattle.mf_watch.specs.Watchers.{HasSeen, glance_at}
+use Rattle.mf_watch.specs.Watchers.{HasSeen, glance_at, record_of}
+use Rattle.mf_watch.specs.declared.watcher.Watcher.{Watcher}
 
 -- the script of this performer, whose lines have led to this state, has ended with this run
 pub record IsEndOf (performer : Performer) (s : State) (run : EndedRun) : Type 0 where
@@ -42,6 +43,14 @@ glance run = glance_at (ended_published_list run.ended)
 -- these glances are the record of this many looks and one more, at its last picture
 abbrev pub HasSeenLast : EndedRun → ℕ → Vec Glance Global → Type 0
 HasSeenLast run looks glances = HasSeen (ended_published_list run.ended) looks glances.items
+
+-- the record of a viewer, and the glance at the last picture after it
+abbrev pub whole_record : EndedRun → Watcher → List Glance
+whole_record run watcher = (record_of watcher).items ++ glance run ∷ []
+
+-- the glances of these records
+abbrev pub glances_of : List (Vec Glance Global) → List (List Glance)
+glances_of = map (λ seen. seen.items)
 
 -- the picture and the font file are as they were
 pub record IsSameEnd (before after : EndedRun) : Type 0 where

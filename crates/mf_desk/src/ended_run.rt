@@ -1,9 +1,9 @@
 //! A run whose script has ended: its viewers are shown the last picture.
 ghost use Rattle.std.specs.Io.KnownBytes.{Appends};
-ghost use Rattle.std.specs.Prelude.{◌≡◌, ◌+◌, ◌<◌, ◌≤◌, ℕ, All, Err, IfErr, IfOk, List, OnOk, Option, length};
+ghost use Rattle.std.specs.Prelude.{◌≡◌, ◌+◌, ◌<◌, ◌≤◌, ◌∷◌, ◌++◌, [], ℕ, All, Err, IfErr, IfOk, List, OnOk, Option, length, map};
 ghost use Rattle.mf_live.specs.Desks.{most_places};
 ghost use Rattle.mf_live.specs.Writers.{ended_identity};
-ghost use Rattle.mf_desk.specs.EndedRuns.{BreaksLooks, HasSeenLast, HasShown, IsSameEnd, glance, last_looks};
+ghost use Rattle.mf_desk.specs.EndedRuns.{BreaksLooks, HasSeenLast, HasShown, IsSameEnd, glance, glances_of, last_looks, whole_record};
 ghost use Rattle.mf_desk.specs.Performances.{viewer_lines};
 ghost use Rattle.mf_desk.specs.Performer.{longest_text, most_counted_bytes, most_written_bytes};
 ghost use Rattle.mf_watch.specs.Watchers.{HasRoomFor, IsRecord, identity};
@@ -45,6 +45,7 @@ impl EndedRun {
         ensures shown { IfOk result (λ seen.
             Appends (W.contents writer.old) (W.contents writer.new) (viewer_lines (length seen.items) (glance self.old))) }
         ensures count { IfOk result (λ seen. (viewers : ℕ) → IfOk joined (λ watchers. length watchers.items ≡ viewers) → length seen.items ≡ viewers) }
+        ensures records { IfOk result (λ seen. IfOk joined (λ watchers. glances_of seen.items ≡ map (whole_record self.old) watchers.items)) }
         ensures seen { IfOk result (λ seen. (looks : ℕ) → IfOk joined (λ watchers. All (IsRecord looks) watchers.items)
             → All (HasSeenLast self.old looks) seen.items) }
         ensures fault { IfErr result (λ fault. (viewers : ℕ) → IfOk joined (λ watchers. length watchers.items ≡ viewers)
@@ -70,6 +71,7 @@ impl EndedRun {
         ensures same { IsSameEnd self.old self.new }
         ensures shown { OnOk result (Appends (W.contents writer.old) (W.contents writer.new) (viewer_lines (length watchers.items) (glance self.old))) }
         ensures count { IfOk result (λ seen. length seen.items ≡ length watchers.items) }
+        ensures records { IfOk result (λ seen. glances_of seen.items ≡ map (whole_record self.old) watchers.items) }
         ensures seen { IfOk result (λ seen. (looks : ℕ) → All (IsRecord looks) watchers.items → All (HasSeenLast self.old looks) seen.items) }
         ensures fault { IfErr result (BreaksLooks (last_looks self.old (length watchers.items) (W.contents writer.old) (W.contents writer.new))) }
     {
@@ -95,6 +97,7 @@ impl EndedRun {
         requires short { self.old.written + longest_text ≤ most_counted_bytes }
         ensures same { IsSameEnd self.old self.new }
         ensures count { OnOk result (length seen.new.items ≡ length seen.old.items + 1) }
+        ensures added { OnOk result (glances_of seen.new.items ≡ glances_of seen.old.items ++ whole_record self.old watcher ∷ []) }
         ensures seen { OnOk result ((run : EndedRun) (looks : ℕ) → IsSameEnd run self.old → IsRecord looks watcher
             → All (HasSeenLast run looks) seen.old.items → All (HasSeenLast run looks) seen.new.items) }
         ensures shown { OnOk result ((run : EndedRun) (held : Option (List ℕ))

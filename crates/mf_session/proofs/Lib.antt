@@ -1,4 +1,4 @@
-mod OneTranscript
+pub mod OneTranscript
 pub mod Performing
 mod SomeAnswer
 mod Standing

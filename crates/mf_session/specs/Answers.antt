@@ -1,5 +1,5 @@
 -- What a line of a script answers: what it prints, and the state after it.
-use Rattle.std.specs.Prelude.{◌≡◌, ◌≢◌, ◌⊎◌, ℕ, List, [], ◌++◌, codes, IfErr, IfOk, Result}
+use Rattle.std.specs.Prelude.{◌≡◌, ◌≢◌, ◌⊎◌, ℕ, List, [], ◌++◌, codes, Err, IfErr, IfOk, Ok, Result}
 use Rattle.std.specs.Fmt.{signed_decimal}
 use Rattle.mf_gf.specs.Keeping.{character}
 use Rattle.mf_rows.specs.Dots.{Dot, total_of}
@@ -62,6 +62,12 @@ AnswersTo limits s (Show source) a = Prints s (run_text (source_picture s.pictur
 AnswersTo limits s (Proof source) a = ProofAnswers (source_picture s.pictures source) a.text × (a.next ≡ s)
 AnswersTo limits s (Ship source code dx width) a = Ships limits s (character code dx width (source_picture s.pictures source)) a
 AnswersTo limits s Publish a = a ≡ answer_with (published_line s.pictures) (record s { pictures = pictures_after_publish s.pictures })
+
+-- what a line that is read so answers in a state: what its command answers, or its refusal; where memory is wanting, nothing
+abbrev pub AnswersRead : Limits → State → Result Command TextFault → Answer → Type 0
+AnswersRead limits s (Ok command) a = AnswersTo limits s command a
+AnswersRead limits s (Err OutOfMemory) a = ⊥
+AnswersRead limits s (Err fault) a = Prints s (refusal_line (Line fault)) a
 
 -- a line gives a command, and answers what the command answers
 pub record IsPerformed (limits : Limits) (s : State) (line : List ℕ) (a : Answer) : Type 0 where

@@ -37,7 +37,7 @@ impl Session {
     ghost use Rattle.mf_text.specs.Lines.{Gives};
     ghost use Rattle.mf_text.specs.Registers.{HasNames, IsName};
     ghost use Rattle.mf_text.specs.declared.command.Command.TheVariants as commands;
-    ghost use Rattle.mf_session.specs.Answers.{Answers, IsReading};
+    ghost use Rattle.mf_session.specs.Answers.{Answers, AnswersRead, IsReading};
     ghost use Rattle.mf_session.specs.Changes.{IsClearable};
     ghost use Rattle.mf_session.specs.Endings.{HasEnded, IsHandedBack, IsKept};
     ghost use Rattle.mf_session.specs.Pictures.{picture};
@@ -117,7 +117,8 @@ impl Session {
     }
 
     /// Performs a line as `command` does, once `read_command` has read it: takes what that has answered, so that the caller may look
-    /// at it first. Requires the number of a register to be at most 25, as it is in every line.
+    /// at it first. A command or a refusal that no line has is performed or printed, too. Requires the number of a register to be at
+    /// most 25, as it is in every line.
     #[inline(always)]
     pub fn answer_to<R: Wait>(
         &mut self,
@@ -126,6 +127,7 @@ impl Session {
         read: Result<Command, TextFault>,
     ) -> Result<Vec<u8>, OutOfMemory>
         requires { IfOk read HasNames }
+        ensures read { IfOk result (λ text. (s : State) → StandsFor self.old s → HasAnswered self.new text.items (AnswersRead (limits self.old) s read)) }
         ensures answer { IfOk result (λ text. (s : State) (line : List ℕ) → StandsFor self.old s → IsReading line read
             → HasAnswered self.new text.items (Answers (limits self.old) s line)) }
         ensures nothing { read ≡ Ok commands.Nothing → IsOk result }

@@ -14,17 +14,19 @@ use Rattle.mf_session.specs.States.{Limits, State, answer_with}
 use Rattle.mf_session.specs.Transcript.{DueLines, IsFirstText, Perform, due_lines}
 use Rattle.mf_stage.proofs.Performed.{published-all}
 use Rattle.mf_stage.proofs.Scripts.{AreFirstLines, IsUnderWay, under_way-line, under_way-start}
-use Rattle.mf_stage.specs.Faults.{BreaksLines, BreaksScript, ConcernsPlate, AreBrokenOff, IsCutText, IsOfPlate, TellsOfScript}
+use Rattle.mf_stage.specs.Faults.{BreaksLines, BreaksScript, ConcernsPlate, AreBrokenOff, EndWithPublish, IsCutText, IsOfPlate, TellsOfScript}
 use Rattle.mf_stage.specs.Lines.{IsReadLine, Reads, without_ending}
 use Rattle.mf_stage.specs.Publications.{IsPlateIfAsked}
 use Rattle.mf_stage.specs.Scripts.{Act, HasPerformedLine, PerformsFrom, act_of}
 use Rattle.mf_stage.specs.Stages.{StandsFor, limits, plates_of}
 use Rattle.mf_stage.specs.declared.fault.StageFault.{StageFault}
-use Rattle.mf_stage.specs.declared.fault.StageFault.TheVariants.{OutOfMemory, ReadFault, WriteFault, PlateFault}
+use Rattle.mf_stage.specs.declared.fault.StageFault.TheVariants.{OutOfMemory, FileTooLong, ReadFault, WriteFault, ImageTooLarge, PlateFault}
 use Rattle.mf_stage.specs.declared.plate.Plate.{Plate}
 use Rattle.mf_stage.specs.declared.plate.Plates.{Plates}
 use Rattle.mf_stage.specs.declared.stage.Publication.{Publication}
 use Rattle.mf_stage.specs.declared.stage.Stage.{Stage}
+use Rattle.mf_text.specs.Lines.{Gives}
+use Rattle.mf_text.specs.declared.command.Command.TheVariants.{Publish}
 
 regroup : (a b c d : List (List ℕ)) → (a ++ (b ++ c)) ++ d ≡ (a ++ b) ++ (c ++ d)
 regroup a b c d = simp append_assoc
@@ -33,6 +35,15 @@ regroup a b c d = simp append_assoc
 TellsOfScript-between : (d : DueLines) (last : State) (fault : StageFault) (written : List ℕ) → (fault ≡ OutOfMemory) ⊎ (fault ≡ ReadFault)
     → IsFirstText d last written → TellsOfScript d last fault written × (ConcernsPlate fault → ⊥)
 TellsOfScript-between d last fault written between first = grind arith
+
+-- lines before them do not change which line is the last
+EndWithPublish-after : (done more : List (List ℕ)) → EndWithPublish more → EndWithPublish (done ++ more)
+EndWithPublish-after done more ends = record {
+  earlier = done ++ ends.earlier;
+  line = ends.line;
+  done_is = ap (λ m. done ++ m) ends.done_is ∙ sym (append_assoc done ends.earlier (ends.line ∷ []));
+  given = ends.given;
+}
 
 module _ (limits : Limits) (s t : State) (done mid more : List (List ℕ)) (text : List ℕ) (before : Perform limits s done (answer_with text t)) where
   -- lines that were performed go before the first of others
@@ -61,6 +72,18 @@ module _ (limits : Limits) (s t : State) (done mid more : List (List ℕ)) (text
     written_is = ap (λ w. text ++ w) f.written_is ∙ sym (append_assoc text f.texts f.front);
   }
 
+  TellsOfScript-after : (last : State) (fault : StageFault) (written : List ℕ) → TellsOfScript (due_lines limits t mid) last fault written
+      → TellsOfScript (due_lines limits s ((done ++ mid) ++ more)) last fault (text ++ written)
+  unfolding IsFirstText-after
+  TellsOfScript-after last OutOfMemory written f = IsFirstText-after last written f
+  TellsOfScript-after last FileTooLong written f = absurd f
+  TellsOfScript-after last ReadFault written f = IsFirstText-after last written f
+  TellsOfScript-after last WriteFault written f = IsCutText-after last written f
+  TellsOfScript-after last (ImageTooLarge revision) written (first, ends, all, of) =
+      (IsFirstText-after last written first, EndWithPublish-after done first.done ends, all, of)
+  TellsOfScript-after last (PlateFault revision) written (first, ends, all, of) =
+      (IsFirstText-after last written first, EndWithPublish-after done first.done ends, all, of)
+
 -- what is written where a fault comes in a line, whose stage represented the state t
 AreBrokenOff-after : (before now after : Stage) (s : State) (done mid more : List (List ℕ)) (fault : StageFault) (held holds last : Option (List ℕ))
     → limits now ≡ limits before → plates_of now ≡ plates_of before → (first : PerformsFrom (act_of before now held holds) s done)
@@ -72,7 +95,7 @@ AreBrokenOff-after before now after s done mid more fault held holds last same s
       written = first.text ++ broken.written;
       stands = broken.stands;
       out = Appends-trans held holds last first.text broken.written first.out broken.out;
-      told = grind (arith, IsFirstText-after, IsCutText-after);
+      told = grind (arith, TellsOfScript-after);
       asked = λ concerns. subst IsSome same_plates (broken.asked concerns);
     }
 
@@ -91,7 +114,7 @@ BreaksScript-between act unread left fault was between =
       input = input;
       known = known;
       such = λ s stands.
-          let performed = was.performed s stands in
+          let (performed, images) = was.performed s stands in
           let (told, unasked) = TellsOfScript-between (due_lines (limits act.before) s (lines input)) performed.last fault performed.text between
           (record { done = was.done; more = more; first = first; performed = performed.performed }) in
           record {
@@ -121,7 +144,7 @@ BreaksScript-line before now later unread left remaining held holds last line fa
       input = input;
       known = known;
       such = λ s stands.
-          let performed = was.performed s stands in
+          let (performed, images) = was.performed s stands in
           subst (λ ls. AreBrokenOff (act_of before later held last) s ls fault) (sym first)
           (AreBrokenOff-after before now later s was.done one more fault held holds last same same_plates performed (breaks performed.last performed.stands));
     }
@@ -160,12 +183,33 @@ IsFirstText-line : (limits : Limits) (s next : State) (line text : List ℕ) →
 IsFirstText-line limits s next line text answer =
     record { done = line ∷ []; more = []; first = refl; performed = Perform-one limits s line (answer_with text next) answer }
 
+-- what a fault of the plate says of a line that publishes
+TellsOfScript-line : (limits : Limits) (s next : State) (line text : List ℕ) (fault : StageFault) → Answers limits s line (answer_with text next)
+    → Gives line Publish → next.pictures.published ≡ next.pictures.accepted → IsOfPlate next.pictures.published fault
+    → TellsOfScript (due_lines limits s (line ∷ [])) next fault text
+unfolding IsFirstText-line
+TellsOfScript-line limits s next line text OutOfMemory answer given all of = IsFirstText-line limits s next line text answer
+TellsOfScript-line limits s next line text FileTooLong answer given all of = absurd of
+TellsOfScript-line limits s next line text ReadFault answer given all of = absurd of
+TellsOfScript-line limits s next line text WriteFault answer given all of = absurd of
+TellsOfScript-line limits s next line text (ImageTooLarge revision) answer given all of =
+    (IsFirstText-line limits s next line text answer, record { earlier = []; line = line; done_is = refl; given = given }, all, of)
+TellsOfScript-line limits s next line text (PlateFault revision) answer given all of =
+    (IsFirstText-line limits s next line text answer, record { earlier = []; line = line; done_is = refl; given = given }, all, of)
+
 -- a line was performed and its text was written, and then the plate of what it has published fails
 pub AreBrokenOff-published : (act : Act) (s next : State) (line text : List ℕ) (fault : StageFault)
     → Answers (limits act.before) s line (answer_with text next) → StandsFor act.after next → Appends act.transcript.held act.transcript.holds text
-    → next.pictures.published ≡ next.pictures.accepted → IsOfPlate next.pictures.published fault → IsSome (plates_of act.before)
-    → AreBrokenOff act s (line ∷ []) fault
-AreBrokenOff-published act s next line text fault answer stands out all is some = grind (arith, IsFirstText-line)
+    → Gives line Publish → next.pictures.published ≡ next.pictures.accepted → IsOfPlate next.pictures.published fault
+    → IsSome (plates_of act.before) → AreBrokenOff act s (line ∷ []) fault
+AreBrokenOff-published act s next line text fault answer stands out given all is some = record {
+  last = next;
+  written = text;
+  stands = stands;
+  out = out;
+  told = TellsOfScript-line (limits act.before) s next line text fault answer given all is;
+  asked = λ concerns. some;
+}
 
 -- there is a plate only where plates are asked for, and where the picture is not too large for an image
 plate-made : (plates : Option Plates) (shown : List Entry) (made : Option Plate) → IsPlateIfAsked plates shown made → IsSome made
@@ -180,5 +224,5 @@ AreBrokenOff-unwritten act s line fault (Some publication) done (is, some) =
     let (given, of_list) = done.made_is in
     let all = published-all (limits act.before) s line (answer_with done.text done.next) done.answer given in
     let (asked, fits) = plate-made (plates_of act.before) done.next.pictures.published publication.plate of_list.plate some in
-    AreBrokenOff-published act s done.next line done.text fault done.answer done.stands done.out all
+    AreBrokenOff-published act s done.next line done.text fault done.answer done.stands done.out given all
     (subst (IsOfPlate done.next.pictures.published) (sym is) (sym of_list.revision, fits)) asked

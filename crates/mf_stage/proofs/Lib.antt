@@ -1,5 +1,6 @@
 mod Broken
 mod Cuts
+mod Images
 mod Paths
 mod Performed
 mod Scripts

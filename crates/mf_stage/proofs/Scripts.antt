@@ -4,11 +4,13 @@ use Rattle.std.proofs.KnownBytes.{Appends-nil, Appends-trans}
 use Rattle.std.specs.Io.KnownBytes.{IsAtEnd}
 use Rattle.std.specs.Str.Lines.{lines}
 use Rattle.mf_session.proofs.Performing.{Perform-append}
-use Rattle.mf_session.specs.States.{State}
+use Rattle.mf_session.specs.States.{Limits, State, answer_with}
 use Rattle.mf_stage.proofs.Cuts.{next_lines, spelled_line}
+use Rattle.mf_stage.proofs.Images.{PublishImages-append}
 use Rattle.mf_stage.specs.Lines.{IsReadLine, Reads, without_ending}
 use Rattle.mf_stage.specs.Scripts.{Act, PerformsAll, PerformsFrom, PerformsLines, act_of}
-use Rattle.mf_stage.specs.Stages.{limits}
+use Rattle.mf_stage.specs.Publications.{PublishImages}
+use Rattle.mf_stage.specs.Stages.{limits, plates_of}
 use Rattle.mf_stage.specs.declared.stage.Stage.{Stage}
 
 -- where the bytes of a script are known, so are those that are left, which have the lines after these
@@ -35,7 +37,7 @@ pub under_way-start : (stage : Stage) (unread held : Option (List ℕ)) → IsUn
 under_way-start stage unread held = record {
   done = [];
   first = record { bytes = []; spelled = λ rest. refl; ahead = ahead-start unread };
-  performed = λ s stands. record { text = []; last = s; performed = refl; stands = stands; out = Appends-nil held };
+  performed = λ s stands. (record { text = []; last = s; performed = refl; stands = stands; out = Appends-nil held }, tt);
 }
 
 -- some lines are performed, and then others
@@ -63,17 +65,22 @@ under_way-line unread left remaining done line first whole reads =
 
 -- the next line is read and performed
 pub under_way-next : (before now later : Stage) (unread left remaining held holds last : Option (List ℕ)) (line : List ℕ)
-    → limits now ≡ limits before → IsUnderWay (act_of before now held holds) unread left
+    → limits now ≡ limits before → plates_of now ≡ plates_of before → IsUnderWay (act_of before now held holds) unread left
     → IsReadLine line → IfSome left (λ rest. Reads rest line remaining) → PerformsLines (act_of now later holds last) (without_ending line ∷ [])
     → IsUnderWay (act_of before later held last) unread remaining
-under_way-next before now later unread left remaining held holds last line same was whole reads performs =
+under_way-next before now later unread left remaining held holds last line same same_plates was whole reads performs =
     let one = without_ending line ∷ [] in
     record {
       done = was.done ++ one;
       first = under_way-line unread left remaining was.done line was.first whole reads;
       performed = λ s stands.
-          let first = was.performed s stands in
-          PerformsFrom-more before now later s was.done one held holds last same first (performs first.last first.stands);
+          let (first, images) = was.performed s stands in
+          let (then, more) = performs first.last first.stands in
+          let published = subst (λ (l : Limits). PublishImages l (plates_of before) first.last one) same
+          (subst (λ plates. PublishImages (limits now) plates first.last one) same_plates more) in (
+            PerformsFrom-more before now later s was.done one held holds last same first then,
+            PublishImages-append (limits before) (plates_of before) s was.done one (answer_with first.text first.last) first.performed images published,
+          );
     }
 
 -- nothing is left of the script

@@ -1,5 +1,5 @@
 -- What has been performed and written where a fault ends a script.
-use Rattle.std.specs.Prelude.{◌≡◌, ℕ, IsSome, List, ◌∷◌, ◌++◌, Option}
+use Rattle.std.specs.Prelude.{◌≡◌, ℕ, IsSome, List, [], ◌∷◌, ◌++◌, Option}
 use Rattle.std.specs.Io.KnownBytes.{Appends}
 use Rattle.std.specs.Str.Lines.{lines}
 use Rattle.mf_image.specs.Boxes.{IsTooLargeForImage}
@@ -12,6 +12,8 @@ use Rattle.mf_stage.specs.Scripts.{Act, HoldsOfInput}
 use Rattle.mf_stage.specs.Stages.{StandsFor, limits, plates_of}
 use Rattle.mf_stage.specs.declared.fault.StageFault.{StageFault}
 use Rattle.mf_stage.specs.declared.fault.StageFault.TheVariants.{OutOfMemory, FileTooLong, ReadFault, WriteFault, ImageTooLarge, PlateFault}
+use Rattle.mf_text.specs.Lines.{Gives}
+use Rattle.mf_text.specs.declared.command.Command.TheVariants.{Publish}
 
 -- the first of these lines have led to this state, and the text of the last of them is cut: these are the texts of all lines before it,
 -- and a front of its own
@@ -39,16 +41,24 @@ LosesPlate revision ds _ = ⊥
 abbrev pub IsOfPlate : List Entry → StageFault → Type 0
 IsOfPlate shown = LosesPlate (revision_at shown) (picture_at shown)
 
+-- the last of these lines gives the command to publish
+pub record EndWithPublish (done : List (List ℕ)) : Type 0 where
+  pub earlier : List (List ℕ)
+  pub line : List ℕ
+  pub done_is : done ≡ earlier ++ line ∷ []
+  pub given : Gives line Publish
+
 -- what a fault says of these lines, the first of which have led to this state, and of what was written: after `WriteFault` the text of
 -- the last line that was performed may be cut, and after each other fault the texts of all of them have been written; after the faults
--- of an image these lines have published all that was accepted, and the fault is one of its plate
+-- of an image the last of them publishes all that was accepted, and the fault is one of its plate
 abbrev pub TellsOfScript : DueLines → State → StageFault → List ℕ → Type 0
 TellsOfScript d last OutOfMemory written = IsFirstText d last written
 TellsOfScript d last FileTooLong written = ⊥
 TellsOfScript d last ReadFault written = IsFirstText d last written
 TellsOfScript d last WriteFault written = IsCutText d last written
 TellsOfScript d last fault written =
-    IsFirstText d last written × (last.pictures.published ≡ last.pictures.accepted) × IsOfPlate last.pictures.published fault
+    (first : IsFirstText d last written) × EndWithPublish first.done × (last.pictures.published ≡ last.pictures.accepted)
+    × IsOfPlate last.pictures.published fault
 
 -- the fault is one of a plate
 abbrev pub ConcernsPlate : StageFault → Type 0

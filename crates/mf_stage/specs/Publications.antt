@@ -1,7 +1,9 @@
 -- What is made of a publish.
-use Rattle.std.specs.Prelude.{◌≡◌, ℕ, IsSome, List, Option, None, Some}
+use Rattle.std.specs.Prelude.{◌≡◌, ℕ, IsSome, List, [], ◌∷◌, Option, None, Some}
 use Rattle.mf_image.specs.Boxes.{IsTooLargeForImage}
 use Rattle.mf_live.specs.Entries.{Entry, picture_at, revision_at}
+use Rattle.mf_session.specs.Answers.{Answers}
+use Rattle.mf_session.specs.States.{Answer, Limits, State}
 use Rattle.mf_stage.specs.Plates.{IsPlate}
 use Rattle.mf_stage.specs.declared.plate.Plate.{Plate}
 use Rattle.mf_stage.specs.declared.plate.Plates.{Plates}
@@ -22,6 +24,13 @@ pub record IsPublication (plates : Option Plates) (shown : List Entry) (made : P
 -- where plates are asked for, the picture of a list is not too large for an image
 abbrev pub HasNoLargeImage : Option Plates → List Entry → Type 0
 HasNoLargeImage plates shown = IsSome plates → IsTooLargeForImage (picture_at shown) → ⊥
+
+-- where plates are asked for, no picture that these lines publish, performed from a state on, is too large for an image
+abbrev pub PublishImages : Limits → Option Plates → State → List (List ℕ) → Type 0
+PublishImages limits plates s [] = Unit {0}
+PublishImages limits plates s (line ∷ more) =
+    (a : Answer) → Answers limits s line a
+    → (Gives line Publish → HasNoLargeImage plates a.next.pictures.published) × PublishImages limits plates a.next more
 
 -- what is made of a line after which this list is published: its publication where the line gives the command to publish, and else
 -- nothing

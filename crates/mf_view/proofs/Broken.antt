@@ -39,7 +39,7 @@ module _ (before after : Stage) (unread told tells : Option (List ℕ)) (limited
   IsBrokenOff-end : (fault : ProgramFault) → PerformsAll (act_of before after told tells) unread
       → ((s : State) → StandsFor after s → IsOfEnd s.pictures.accepted fault) → IsBrokenOff unread (receipt told tells) fault
   IsBrokenOff-end fault script late =
-      let done = script.such start begins in
+      let done = (script.such start begins).0 in
       let performed = subst (λ l. Perform l start (lines script.input) (answer_with done.text done.last)) limited done.performed in
       record {
         input = script.input;

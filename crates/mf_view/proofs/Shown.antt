@@ -12,7 +12,8 @@ use Rattle.mf_session.specs.Endings.{IsFileOf, complete_list}
 use Rattle.mf_session.specs.States.{State, answer_with, start}
 use Rattle.mf_session.specs.Transcript.{Perform}
 use Rattle.mf_stage.specs.Scripts.{PerformsAll, act_of}
-use Rattle.mf_stage.specs.Stages.{StandsFor, limits, session_of}
+use Rattle.mf_stage.specs.Publications.{HasNoLargeImage, PublishImages}
+use Rattle.mf_stage.specs.Stages.{StandsFor, limits, plates_of, session_of}
 use Rattle.mf_stage.specs.declared.stage.Stage.{Stage}
 use Rattle.mf_stage.specs.declared.fault.StageFault.{StageFault}
 use Rattle.mf_view.proofs.Drawn.{HasDrawnPart-all}
@@ -38,18 +39,19 @@ drawing_has_a_part drawn easel screen was = grind (arith, HasDrawnPart-all)
 -- a stage on which nothing was performed represents a state after a script
 pub StandsFor-after : (before after : Stage) (unread held holds : Option (List ℕ)) (performed : Result (Unit {0}) StageFault) → StandsFor before start
     → OnOk performed (PerformsAll (act_of before after held holds) unread) → OnOk performed ((t : State) × StandsFor after t)
-StandsFor-after before after unread held holds (Ok done) begins script = let all = script.such start begins in (all.last, all.stands)
+StandsFor-after before after unread held holds (Ok done) begins script = let all = (script.such start begins).0 in (all.last, all.stands)
 StandsFor-after before after unread held holds (Err fault) begins script = tt
 
 -- a script was performed on this stage, and its end was shown
 module _ (m : Manner) (s : ScreenStreams) (before after : Stage) (limited : limits before ≡ script_limits)
-    (begins : StandsFor before start) (kept : limits after ≡ limits before) where
+    (begins : StandsFor before start) (kept : limits after ≡ limits before) (same : plates_of after ≡ plates_of before) where
   Shows-file : (file : GfFile) → PerformsAll (act_of before after s.transcript.held s.transcript.holds) s.unread
       → ((t : State) → StandsFor after t → IsFileOf (session_of after) t file)
+      → ((t : State) → StandsFor after t → HasNoLargeImage (plates_of after) t.pictures.accepted)
       → ((t : State) → StandsFor after t → ShowsLast m (complete_list t.pictures) s.screen)
-      → Shows m s file
-  Shows-file file script of_file shown =
-      let done = script.such start begins in
+      → Shows (plates_of before) m s file
+  Shows-file file script of_file image shown =
+      let (done, images) = script.such start begins in
       let performed = subst (λ limits. Perform limits start (lines script.input) (answer_with done.text done.last)) limited done.performed in
       record {
         input = script.input;
@@ -59,6 +61,8 @@ module _ (m : Manner) (s : ScreenStreams) (before after : Stage) (limited : limi
           script = record { last = done.last; performed = performed };
           out = done.out;
           shown = shown done.last done.stands;
+          images = subst (λ l. PublishImages l (plates_of before) start (lines script.input)) limited images;
+          last_image = subst (λ plates. HasNoLargeImage plates done.last.pictures.accepted) same (image done.last done.stands);
           file_is = (of_file done.last done.stands).keeps;
           max_bytes_is = subst (λ l. max_bytes_of file ≡ l.max_bytes) limited
               (subst (λ l. max_bytes_of file ≡ l.max_bytes) kept (of_file done.last done.stands).max_bytes_is);
@@ -69,9 +73,10 @@ module _ (m : Manner) (s : ScreenStreams) (before after : Stage) (limited : limi
       → OnOk performed (PerformsAll (act_of before after s.transcript.held s.transcript.holds) s.unread)
       → IfErr performed (λ fault. r ≡ Err (fault_of_stage fault))
       → IfOk r (λ file. (t : State) → StandsFor after t → IsFileOf (session_of after) t file)
+      → OnOk r ((t : State) → StandsFor after t → HasNoLargeImage (plates_of after) t.pictures.accepted)
       → OnOk r ((t : State) → StandsFor after t → ShowsLast m (complete_list t.pictures) s.screen)
-      → IfOk r (Shows m s)
-  Shows-whole performed r transcript script of_file shown = grind (arith, Shows-file)
+      → IfOk r (Shows (plates_of before) m s)
+  Shows-whole performed r transcript script of_file image shown = grind (arith, Shows-file)
 
 -- what is shown in the manner of an easel is shown in its first manner
 pub ShowsLast-end : (first easel : Easel) (stage : Stage) (held mid holds : Option (List ℕ)) (drawn : Result (Unit {0}) EaselFault)

@@ -1,5 +1,6 @@
 -- What the program has written where it ends well.
-use Rattle.std.specs.Prelude.{◌≡◌, ◌≢◌, ◌⊎◌, Bool, true, false, ℕ, List, [], Option, None, Some, IsSome, option_map, string_bytes}
+use Rattle.std.specs.Prelude.{◌≡◌, ◌≢◌, ◌⊎◌, Bool, true, false, ℕ, List, [], Option, None, Some, String, IsSome, option_map, string_bytes}
+use Rattle.std.specs.Global.{Global}
 use Rattle.std.specs.Io.KnownBytes.{Appends}
 use Rattle.clap.specs.Words.{Text}
 use Rattle.mf_base.specs.Messages.{Receipt}
@@ -10,6 +11,7 @@ use Rattle.mf_frame.specs.declared.tile.Style.TheVariants.{Colored, Plain}
 use Rattle.mf_gf.specs.declared.file.GfFile.{GfFile}
 use Rattle.mf_gf.specs.Files.{Character, IsLongFile}
 use Rattle.mf_gf.specs.Keeping.{Keeps, max_bytes_of}
+use Rattle.mf_stage.specs.declared.plate.Plates.{Plates}
 use Rattle.mf_view.specs.Fonts.{font_words}
 use Rattle.mf_view.specs.Performances.{Shows, ScreenStreams}
 use Rattle.mf_view_words.specs.Requests.{IsRequest}
@@ -23,12 +25,16 @@ abbrev pub style_in : Bool → Style
 style_in true = Plain
 style_in false = Colored
 
+-- the plates go into this folder, if one is given, and each has a PGM image, too, or none has
+abbrev pub plates_in : Option (String Global) → Bool → Option Plates
+plates_in folder pgm = option_map (λ path. record { folder = path; pgm = pgm }) folder
+
 -- a script was performed and shown: where no path is given, with its transcript in the stream of messages; with a path that stream is as
 -- it was, and nothing is said of where the transcript went, since no contract knows what a file holds
-abbrev pub IsShownInto : Option (List ℕ) → Manner → ScreenStreams → GfFile → Type 0
-IsShownInto None m s file = Shows m s file
-IsShownInto (Some path) m s file =
-    (s.transcript.holds ≡ s.transcript.held) × (filed : Receipt) × Shows m (record s { transcript = filed }) file
+abbrev pub IsShownInto : Option (List ℕ) → Option Plates → Manner → ScreenStreams → GfFile → Type 0
+IsShownInto None plates m s file = Shows plates m s file
+IsShownInto (Some path) plates m s file =
+    (s.transcript.holds ≡ s.transcript.held) × (filed : Receipt) × Shows plates m (record s { transcript = filed }) file
 
 -- how the words ask for frames to be drawn
 abbrev pub manner_for : Words → Manner
@@ -36,7 +42,7 @@ manner_for words = manner (style_in words.frames) (size_in words.columns words.r
 
 -- a script was performed and shown as the words ask for it, and this is its font file
 abbrev pub IsShownFor : Words → ScreenStreams → GfFile → Type 0
-IsShownFor words = IsShownInto (option_map string_bytes words.transcript) (manner_for words)
+IsShownFor words = IsShownInto (option_map string_bytes words.transcript) (plates_in words.plates words.pgm) (manner_for words)
 
 -- the script was performed and shown as the words ask for it; its font file is not too long, and where the words ask for it, it has a
 -- character

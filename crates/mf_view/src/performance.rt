@@ -9,6 +9,7 @@ ghost use Rattle.mf_session.specs.Endings.{IsFileOf, complete_list};
 ghost use Rattle.mf_session.specs.States.{State, start};
 ghost use Rattle.mf_stage.specs.Stages as stages;
 ghost use Rattle.mf_stage.specs.Stages.{StandsFor, limits};
+ghost use Rattle.mf_stage.specs.Publications.{HasNoLargeImage};
 ghost use Rattle.mf_stage.specs.Scripts.{act_of};
 ghost use Rattle.mf_view.specs.Broken.{IsBrokenOff, IsOfEnd};
 ghost use Rattle.mf_view.specs.Causes.{fault_of_stage};
@@ -75,7 +76,7 @@ pub fn perform<
     pace: &P,
     showing: Showing,
 ) -> Result<GfFile, ProgramFault>
-    ensures shown { IfOk result (Shows (easels.manner showing.style showing.canvas)
+    ensures shown { IfOk result (Shows showing.plates (easels.manner showing.style showing.canvas)
         (screen_streams (R.remaining reader.old) (receipt_of W.contents screen.old screen.new) (receipt_of T.contents transcript.old transcript.new))) }
     ensures fault { IfErr result (IsBrokenOff (R.remaining reader.old) (receipt_of T.contents transcript.old transcript.new)) }
     ensures part { OnErr result (HasDrawnPart (easels.manner showing.style showing.canvas) (receipt_of W.contents screen.old screen.new)) }
@@ -123,7 +124,7 @@ fn show<
     requires start { StandsFor stage start }
     requires limits { limits stage ≡ script_limits }
     requires blank { easels.revision_of easel ≡ None }
-    ensures shown { IfOk result (Shows (easels.manner_of easel)
+    ensures shown { IfOk result (Shows (stages.plates_of stage) (easels.manner_of easel)
         (screen_streams (R.remaining reader.old) (receipt_of W.contents screen.old screen.new) (receipt_of T.contents transcript.old transcript.new))) }
     ensures fault { IfErr result (IsBrokenOff (R.remaining reader.old) (receipt_of T.contents transcript.old transcript.new)) }
     ensures part { OnErr result (HasDrawnPart (easels.manner_of easel) (receipt_of W.contents screen.old screen.new)) }
@@ -159,6 +160,7 @@ fn conclude<S: Wait + Files, W: Write>(
     ensures drawing { IfErr drawn (λ _. IsErr result) }
     ensures told { OnOk performed (IfErr drawn (λ cause. IsErrAnd result (IsToldAfter cause))) }
     ensures file { IfOk result (λ file. (s : State) → StandsFor stage s → IsFileOf (stages.session_of stage) s file) }
+    ensures image { OnOk result ((s : State) → StandsFor stage s → HasNoLargeImage (stages.plates_of stage) s.pictures.accepted) }
     ensures shown { OnOk result ((s : State) → StandsFor stage s
         → EndsDrawing drawn easel (complete_list s.pictures) (receipt_of W.contents screen.old screen.new)) }
     ensures part { OnErr result (LeavesPart drawn easel (receipt_of W.contents screen.old screen.new)) }
@@ -235,6 +237,7 @@ fn end<S: Wait + Files, W: Write>(
     ensures late { IfErr result (λ fault. (s : State) → StandsFor stage s → IsOfEnd s.pictures.accepted fault) }
     ensures plates { IfErr result (λ fault. ConcernsPlate fault → IsSome (stages.plates_of stage)) }
     ensures file { IfOk result (λ file. (s : State) → StandsFor stage s → IsFileOf (stages.session_of stage) s file) }
+    ensures image { OnOk result ((s : State) → StandsFor stage s → HasNoLargeImage (stages.plates_of stage) s.pictures.accepted) }
     ensures shown { OnOk result ((s : State) → StandsFor stage s
         → EndsDrawing drawn easel (complete_list s.pictures) (receipt_of W.contents screen.old screen.new)) }
     ensures part { OnErr result (LeavesPart drawn easel (receipt_of W.contents screen.old screen.new)) }

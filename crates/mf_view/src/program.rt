@@ -3,7 +3,7 @@ ghost use Rattle.std.specs.Io.KnownBytes.{Appends};
 ghost use Rattle.std.specs.Prelude.{◌≡◌, ◌++◌, ◌⊎◌, ◌↔◌, Err, IfErr, IfOk, IsOk, IsSome, OnErr, OnOk, codes, decimal, option_map, string_bytes};
 ghost use Rattle.mf_base.specs.Messages.{GetsFront, GetsPart, receipt_of};
 ghost use Rattle.mf_view.specs.Drawings.{HasDrawnPart};
-ghost use Rattle.mf_view.specs.Endings.{AsksForText, Fulfils, IsShownInto, IsWatched, style_in};
+ghost use Rattle.mf_view.specs.Endings.{AsksForText, Fulfils, IsShownInto, IsWatched, plates_in, style_in};
 ghost use Rattle.mf_view.specs.Faults.{ConcernsPlate, EndsScript, IsBrokenOffInto, LacksRoom, ReportsFaultLast};
 ghost use Rattle.mf_easel.specs.Easels.{manner};
 ghost use Rattle.mf_frame.specs.Canvases.{IsLargeEnough, size_in};
@@ -134,7 +134,7 @@ fn showing(
 ) -> Result<Showing, TooSmall>
     ensures accepted { IsOk result ↔ IsLargeEnough columns rows }
     ensures asked { IfOk result (λ made. (made.style ≡ style_in frames) × (made.canvas ≡ size_in columns rows)) }
-    ensures plates { IfOk result (λ made. IsSome made.plates → IsSome plates) }
+    ensures plates { IfOk result (λ made. made.plates ≡ plates_in plates pgm) }
 {
     let canvas = Canvas::new(columns, rows)?;
     Ok(Showing {
@@ -169,7 +169,7 @@ fn perform_into<
     showing: Showing,
     transcript: Option<String>,
 ) -> Result<GfFile, ProgramFault>
-    ensures done { IfOk result (IsShownInto (option_map string_bytes transcript) (manner showing.style showing.canvas)
+    ensures done { IfOk result (IsShownInto (option_map string_bytes transcript) showing.plates (manner showing.style showing.canvas)
         (screen_streams (R.remaining reader.old) (receipt_of W.contents screen.old screen.new) (receipt_of E.contents errors.old errors.new))) }
     ensures part { OnErr result (HasDrawnPart (manner showing.style showing.canvas) (receipt_of W.contents screen.old screen.new)) }
     ensures plates { IfErr result (λ fault. ConcernsPlate fault → IsSome showing.plates) }

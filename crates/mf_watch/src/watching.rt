@@ -47,6 +47,7 @@ fn watchers(alloc: Global, desk: Desk, viewers: u32, looks: u32) -> Result<Vec<W
     ensures ready { IfOk result (λ watchers. All (IsWatcher (desk_identity desk) 0 (looks + 1)) watchers.items) }
     ensures count { IfOk result (λ watchers. length watchers.items ≡ viewers) }
     ensures fault { IfErr result (λ fault. ((fault ≡ StartFault.NoPlace) × (remaining_viewers desk < viewers)) ⊎ (fault ≡ StartFault.OutOfMemory)) }
+    ensures some { IfErr result (λ _. 0 < viewers) }
 {
     let mut desk = desk;
     let mut watchers = Vec::with_capacity(alloc, viewers as usize)?;
@@ -62,8 +63,8 @@ impl Watching {
 
     /// Starts a thread for each of `viewers` viewers of a desk. Each thread promises the record of `looks` looks. Requires at most
     /// 64 viewers. Refused with `NoPlace` where there is no place or no thread for a viewer, or the gate cannot be shared with it,
-    /// and with `OutOfMemory` where an allocation fails. No clause says that threads that were started by then are joined; tests
-    /// show it.
+    /// and with `OutOfMemory` where an allocation fails; never where there are no viewers. No clause says that threads that were
+    /// started by then are joined; tests show it.
     // All memory for the records is allocated before the first thread starts, so only the start of a thread can fail after that.
     pub fn start<S: Threads, G: Gate + 'static>(
         rt: &S,
@@ -76,7 +77,8 @@ impl Watching {
         requires few { viewers ≤ most_places }
         ensures started { IfOk result (AreStarted (desk_identity desk) looks) }
         ensures count { IfOk result (λ watching. viewer_count watching ≡ viewers) }
-        ensures fault { IfErr result (λ fault. ((fault ≡ StartFault.NoPlace) × (0 < viewers)) ⊎ (fault ≡ StartFault.OutOfMemory)) }
+        ensures fault { IfErr result (λ fault. (fault ≡ StartFault.NoPlace) ⊎ (fault ≡ StartFault.OutOfMemory)) }
+        ensures some { IfErr result (λ _. 0 < viewers) }
     {
         let watchers = watchers(alloc, desk, viewers, looks)?;
         let mut watching = Watching {

@@ -18,8 +18,8 @@ pub returns-in-Err-clause-fault : goal.returns-in-Err-clause-fault
 returns-in-Err-clause-fault g c =
     let settings = c.args.settings.now in
     ⊎_elim (λ none.
-    let is : c.into.result ≡ faults.NoPlace = c.into.ensures ∙ ap run_fault_of_start none.0 in
-    rw is (TellsOfRun-first settings c.args.viewers _ _ faults.NoPlace none.1))
+    let is : c.into.result ≡ faults.NoPlace = c.into.ensures ∙ ap run_fault_of_start none in
+    rw is (TellsOfRun-first settings c.args.viewers _ _ faults.NoPlace c.in-Err.ensures.some))
     (λ wanting.
     let is : c.into.result ≡ faults.OutOfMemory = c.into.ensures ∙ ap run_fault_of_start wanting in
     rw is (TellsOfRun-nothing settings c.args.viewers _ _)) c.in-Err.ensures.fault

@@ -20,10 +20,12 @@ drawn g c = grind (arith, HasDrawnAs-both, HasDrawn-nothing)
 pub returns-clause-shown : goal.returns-clause-shown
 returns-clause-shown g c =
     Shows-whole _ _ c.args.stage c.perform_beside-drawn.new.stage c.requires.limits c.requires.start
-    c.perform_beside-drawn.ensures.script.limits c.perform_beside-drawn.result.performed c.conclude.result
+    c.perform_beside-drawn.ensures.script.limits c.perform_beside-drawn.ensures.script.plates c.perform_beside-drawn.result.performed
+    c.conclude.result
     c.perform_beside-drawn.ensures.script.transcript
     c.conclude.ensures.script
     c.conclude.ensures.file
+    c.conclude.ensures.image
     (ShowsLast-end c.args.easel c.perform_beside-drawn.new.easel c.perform_beside-drawn.new.stage _ _ _ c.and-drawn.result c.conclude.result
     (c.perform_beside-drawn.ensures.drawing.manner ∙ c.draw-first.ensures.manner)
     (drawn g (goal.at.returns-clause-shown g c).After-and-drawn) c.conclude.ensures.shown)

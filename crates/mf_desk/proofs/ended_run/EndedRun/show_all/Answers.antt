@@ -1,9 +1,10 @@
-use Rattle.std.proofs.Common.{◌≡◌, All, length, subst, sym, ap, arith}
+use Rattle.std.proofs.Common.{◌≡◌, ◌∙◌, ◌∷◌, ◌++◌, [], All, append-nil, append_assoc, length, map, refl, subst, sym, ap, arith}
 use Rattle.std.specs.Vec.Iter.{into_iter_items}
+use Rattle.std.proofs.lemmas.List.{nil_from_length}
 use Rattle.std.proofs.lemmas.List.Elements.{All-nil, All-head, All-rest}
 use Rattle.mf_live.specs.Writers.{ended_identity}
-use Rattle.mf_watch.specs.Watchers.{HasRoomFor, IsRecord, identity}
-use Rattle.mf_desk.specs.EndedRuns.{HasSeenLast}
+use Rattle.mf_watch.specs.Watchers.{HasRoomFor, IsRecord, glance_at, identity, record_of}
+use Rattle.mf_desk.specs.EndedRuns.{HasSeenLast, glances_of, whole_record}
 use Rattle.mf_base.proofs.Faults.{IfErr-raised}
 use Rattle.mf_desk.proofs.Showing.{HasShown-start, BreaksLooks-after, BreaksLooks-unflushed}
 use Rattle.mf_desk.proofs.ended_run.EndedRun.show_all.Goals as goal
@@ -22,6 +23,7 @@ loop-watcher-init g c =
       identities = c.requires.identities;
       rooms = c.requires.rooms;
       shown = HasShown-start c.args.self.now (g.W.Write.contents c.args.writer.now);
+      records = refl;
       seen = λ looks records. (records, All-nil (HasSeenLast c.args.self.now looks));
     }
 
@@ -39,11 +41,17 @@ loop-watcher-preserved g c =
     let rest = into_iter_items c.next.new.self in
     let step = c.in-Some.ensures.steps.0 in
     let one = c.in_ok-show_one.ensures in
+    let whole = whole_record run in
+    let before = glances_of c.loop-watcher.seen.items in
+    let same = ap (λ list. (record_of c.in-Some.watcher).items ++ glance_at list ∷ []) was.shown.same.published in
     record {
       count = omega (arith, one.count, was.count, ap length step);
       identities = All-rest (λ w. identity w ≡ ended_identity run.ended) c.in-Some.watcher rest _ step was.identities;
       rooms = All-rest (HasRoomFor 1) c.in-Some.watcher rest _ step was.rooms;
       shown = rw one.count (one.shown run _ was.shown);
+      records =
+          ap (λ them. them ++ map whole rest) one.added ∙ append_assoc before (whole_record c.loop-watcher.self c.in-Some.watcher ∷ []) (map whole rest)
+          ∙ ap (λ it. before ++ it ∷ map whole rest) same ∙ ap (λ watchers. before ++ map whole watchers) (sym step) ∙ was.records;
       seen = λ looks records.
           let (left, kept) = was.seen looks records in
           let recorded = All-head (IsRecord looks) c.in-Some.watcher rest (subst (All (IsRecord looks)) step left) in
@@ -60,3 +68,13 @@ returns-in_err-flush-clause-fault g c =
 pub returns-clause-seen : goal.returns-clause-seen
 returns-clause-seen g c = λ looks records.
     (c.loop-watcher.invariant.seen looks (subst (All (IsRecord looks)) (sym c.into_iter-watcher-iterator.ensures.into_iter_gives.0) records)).1
+
+pub returns-clause-records : goal.returns-clause-records
+returns-clause-records g c =
+    let whole = whole_record c.args.self.now in
+    let seen = glances_of c.loop-watcher.seen.items in
+    let rest = into_iter_items c.loop-watcher.watcher-iterator in
+    let none : length rest ≡ 0 = omega (arith, c.in-None.ensures.steps.0) in
+    let over = nil_from_length rest none in
+    sym (append-nil seen) ∙ ap (λ rest. seen ++ map whole rest) (sym over) ∙ c.loop-watcher.invariant.records
+    ∙ ap (map whole) c.into_iter-watcher-iterator.ensures.into_iter_gives.0

@@ -1,8 +1,8 @@
-use Rattle.std.proofs.Common.{◌≡◌, ◌+◌, ℕ, All, length}
+use Rattle.std.proofs.Common.{◌≡◌, ◌+◌, ◌++◌, ℕ, All, length, map}
 use Rattle.std.specs.Vec.Iter.{into_iter_items}
 use Rattle.mf_live.specs.Writers.{ended_identity}
 use Rattle.mf_watch.specs.Watchers.{HasRoomFor, IsRecord, identity}
-use Rattle.mf_desk.specs.EndedRuns.{HasSeenLast, HasShown, last_looks}
+use Rattle.mf_desk.specs.EndedRuns.{HasSeenLast, HasShown, glances_of, last_looks, whole_record}
 use Rattle.mf_desk.proofs.ended_run.EndedRun.show_all.Given as goal
 
 abbrev pub invariant-loop-watcher : goal.invariant-loop-watcher
@@ -11,6 +11,8 @@ invariant-loop-watcher g l = record {
   identities : All (λ w. identity w ≡ ended_identity l.initial.self.ended) (into_iter_items l.watcher-iterator);
   rooms : All (HasRoomFor 1) (into_iter_items l.watcher-iterator);
   shown : HasShown (last_looks l.initial.self (length l.seen.items) (g.W.Write.contents l.initial.writer) (g.W.Write.contents l.writer)) l.self;
+  records : glances_of l.seen.items ++ map (whole_record l.initial.self) (into_iter_items l.watcher-iterator)
+      ≡ map (whole_record l.initial.self) (into_iter_items l.initial.watcher-iterator);
   seen : (looks : ℕ) → All (IsRecord looks) (into_iter_items l.initial.watcher-iterator)
       → All (IsRecord looks) (into_iter_items l.watcher-iterator) × All (HasSeenLast l.initial.self looks) l.seen.items;
 }

@@ -1,6 +1,6 @@
 use Rattle.std.proofs.Common.{◌≡◌, ◌+◌, ◌∙◌, length, take, drop, refl, sym, ap, subst, take-append-drop, arith}
 use Rattle.std.specs.Io.KnownBytes.{Appends}
-use Rattle.std.proofs.lemmas.List.{length-take-le}
+use Rattle.std.proofs.lemmas.List.{length-take-le, map-append}
 use Rattle.std.proofs.lemmas.List.Elements.{All-push}
 use Rattle.mf_watch.specs.Watchers.{HasSeen, record_of}
 use Rattle.mf_desk.specs.EndedRuns.{HasSeenLast, glance}
@@ -34,6 +34,9 @@ returns-in-Ok-clause-seen g c = λ run looks same recorded kept.
     let here = subst (λ list. HasSeen list looks (record_of c.look_last.new.self).items) (c.notice.ensures.told ∙ same.published)
     (c.in_ok-glance.ensures.seen looks recorded) in
     rw c.in_ok-push.ensures.items (All-push (HasSeenLast run looks) c.args.seen.now.items c.into_record.result kept (rw c.into_record.ensures here))
+
+pub returns-in-Ok-clause-added : goal.returns-in-Ok-clause-added
+returns-in-Ok-clause-added g c = grind (arith, map-append)
 
 pub returns-in-Ok-clause-shown : goal.returns-in-Ok-clause-shown
 returns-in-Ok-clause-shown g c = λ run held shown.

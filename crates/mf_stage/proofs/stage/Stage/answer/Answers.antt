@@ -30,7 +30,7 @@ returns-in_err-publication-clause-begun g c =
     let given = (read_to_publish c.args.line.now read.result read.ensures.given read.ensures.refused).0 is in
     let all = published-all _ s c.args.line.now (answer_with c.in_ok-text.text.items answered.next) answered.answer given in
     AreBrokenOff-published _ s answered.next c.args.line.now c.in_ok-text.text.items _ answered.answer answered.stands
-    (subst (Appends _ _) c.as_slice.ensures.value c.in_ok-write_line_text.ensures.text) all
+    (subst (Appends _ _) c.as_slice.ensures.value c.in_ok-write_line_text.ensures.text) given all
     (subst (λ shown. IsOfPlate shown c.in_err-publication.field-0.0) (sym all) (c.in_err-publication.ensures.fault answered.next answered.stands).1)
     c.in_err-publication.ensures.asked)
 

@@ -1,11 +1,10 @@
-use Rattle.std.proofs.Common.{arith}
 use Rattle.mf_base.proofs.Faults.{IfErr-raised}
-use Rattle.mf_session.proofs.Performing.{Perform-one}
 use Rattle.mf_stage.proofs.Broken.{AreBrokenOff-unwritten}
+use Rattle.mf_stage.proofs.Images.{PerformsLines-one}
 use Rattle.mf_stage.proofs.stage.Stage.perform_line.Goals as goal
 
 pub returns-clause-performed : goal.returns-clause-performed
-returns-clause-performed g c = grind (arith, Perform-one)
+returns-clause-performed g c = PerformsLines-one _ c.args.line.now c.in_ok-made.made c.in_ok-made.ensures.performed
 
 pub returns-in_err-announce-clause-begun : goal.returns-in_err-announce-clause-begun
 returns-in_err-announce-clause-begun g c =

@@ -4,7 +4,7 @@ use Rattle.mf_stage.proofs.Broken.{BreaksScript-between, BreaksScript-line}
 use Rattle.mf_stage.proofs.Scripts.{under_way-end, under_way-next, under_way-start}
 use Rattle.mf_stage.specs.Faults.{BreaksLines}
 use Rattle.mf_stage.specs.Lines.{without_ending}
-use Rattle.mf_stage.specs.Scripts.{PerformsFrom, act_of}
+use Rattle.mf_stage.specs.Scripts.{PerformsLines, act_of}
 use Rattle.mf_stage.specs.declared.fault.StageFault.TheVariants.{ReadFault}
 use Rattle.mf_stage.proofs.stage.Stage.perform_lines.Goals as goal
 
@@ -25,9 +25,9 @@ lines-preserved g c =
       done.identity ∙ identity_is,
       done.plates ∙ plates_are,
       under_way-next c.args.self.now c.lines.self c.perform_line.new.self (g.B.Read.remaining c.args.script.now)
-          (g.B.Read.remaining c.lines.script) remaining (g.W.Write.contents c.args.transcript.now) held holds line limits_are under_way
+          (g.B.Read.remaining c.lines.script) remaining (g.W.Write.contents c.args.transcript.now) held holds line limits_are plates_are under_way
           (rw c.in-Some.is at c.in_ok-line.ensures.whole) read
-          (λ s stands. subst (λ l. PerformsFrom (act_of c.lines.self c.perform_line.new.self held holds) s (l ∷ [])) bare (done.performed s stands)),
+          (subst (λ l. PerformsLines (act_of c.lines.self c.perform_line.new.self held holds) (l ∷ [])) bare done.performed),
     )
 
 pub returns-in_default-clause-transcript : goal.returns-in_default-clause-transcript
