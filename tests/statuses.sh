@@ -1,7 +1,7 @@
 #!/bin/bash
 # Tests the exit statuses and messages of the programs where they fail: words that it does not know, a word that is not UTF-8, a
 # folder as its script, an output that is full or closed, a font file without a character, one that cannot be created or written, and
-# an image that would be too large. After a fault of the words or of the script, or in a terminal that is too small, a font file that was
+# an image that would be too large. After a fault of the words or of the script, or in a terminal that is too small, a file that was
 # there before is there as it was. And `--pause` makes a script rest.
 set -u
 cd "$(dirname "$0")/.."

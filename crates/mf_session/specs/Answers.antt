@@ -63,7 +63,8 @@ AnswersTo limits s (Proof source) a = ProofAnswers (source_picture s.pictures so
 AnswersTo limits s (Ship source code dx width) a = Ships limits s (character code dx width (source_picture s.pictures source)) a
 AnswersTo limits s Publish a = a ≡ answer_with (published_line s.pictures) (record s { pictures = pictures_after_publish s.pictures })
 
--- what a line that is read so answers in a state: what its command answers, or its refusal; where memory is wanting, nothing
+-- what is answered in a state to what reading a line has answered: what the command answers, or the refusal; where memory is missing,
+-- there is no answer
 abbrev pub AnswersRead : Limits → State → Result Command TextFault → Answer → Type 0
 AnswersRead limits s (Ok command) a = AnswersTo limits s command a
 AnswersRead limits s (Err OutOfMemory) a = ⊥

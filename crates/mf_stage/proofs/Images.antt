@@ -5,7 +5,7 @@ use Rattle.mf_session.proofs.OneTranscript.{one_answer}
 use Rattle.mf_session.proofs.Performing.{Perform-one}
 use Rattle.mf_session.specs.States.{Answer, Limits, State, answer_with}
 use Rattle.mf_session.specs.Transcript.{Perform}
-use Rattle.mf_stage.specs.Publications.{Announces, HasNoLargeImage, IsPlateIfAsked, PublishImages}
+use Rattle.mf_stage.specs.Publications.{Announces, HasNoLargeImage, IsPlateIfAsked, PublishNoLargeImages}
 use Rattle.mf_stage.specs.Scripts.{Act, HasPerformedLine, PerformsLines}
 use Rattle.mf_stage.specs.Stages.{StandsFor, limits, plates_of}
 use Rattle.mf_stage.specs.declared.plate.Plate.{Plate}
@@ -25,9 +25,9 @@ announced-fits plates line shown None is given = absurd (is given)
 announced-fits plates line shown (Some publication) (given_too, of_list) given = plate-fits plates shown publication.plate of_list.plate
 
 -- a line was performed, and what was made of it is known
-PublishImages-one : (act : Act) (s : State) (line : List ℕ) (made : Option Publication) → HasPerformedLine act s line made
-    → PublishImages (limits act.before) (plates_of act.before) s (line ∷ [])
-PublishImages-one act s line made done = λ a answer.
+PublishNoLargeImages-one : (act : Act) (s : State) (line : List ℕ) (made : Option Publication) → HasPerformedLine act s line made
+    → PublishNoLargeImages (limits act.before) (plates_of act.before) s (line ∷ [])
+PublishNoLargeImages-one act s line made done = λ a answer.
     let same = one_answer (limits act.before) s line (answer_with done.text done.next) a done.answer answer in (
       λ given. subst (λ (x : Answer). HasNoLargeImage (plates_of act.before) x.next.pictures.published) same
           (announced-fits (plates_of act.before) line done.next.pictures.published made done.made_is given),
@@ -46,18 +46,18 @@ PerformsLines-one act line made performs = λ s stands.
         stands = done.stands;
         out = done.out;
       },
-      PublishImages-one act s line made done,
+      PublishNoLargeImages-one act s line made done,
     )
 
 -- some lines are performed, and then others
-pub PublishImages-append : (limits : Limits) (plates : Option Plates) (s : State) (done more : List (List ℕ)) (a : Answer)
-    → Perform limits s done a → PublishImages limits plates s done → PublishImages limits plates a.next more
-    → PublishImages limits plates s (done ++ more)
-PublishImages-append limits plates s [] more a performed images then = subst (λ (x : Answer). PublishImages limits plates x.next more) performed then
-PublishImages-append limits plates s (line ∷ rest) more a (first, after, answer, performed, is) images then = λ b answered.
+pub PublishNoLargeImages-append : (limits : Limits) (plates : Option Plates) (s : State) (done more : List (List ℕ)) (a : Answer)
+    → Perform limits s done a → PublishNoLargeImages limits plates s done → PublishNoLargeImages limits plates a.next more
+    → PublishNoLargeImages limits plates s (done ++ more)
+PublishNoLargeImages-append limits plates s [] more a performed images then = subst (λ (x : Answer). PublishNoLargeImages limits plates x.next more) performed then
+PublishNoLargeImages-append limits plates s (line ∷ rest) more a (first, after, answer, performed, is) images then = λ b answered.
     let same = one_answer limits s line first b answer answered in
     let (fits, others) = images b answered in (
       fits,
-      PublishImages-append limits plates b.next rest more after (subst (λ (x : Answer). Perform limits x.next rest after) same performed) others
-          (subst (λ (x : Answer). PublishImages limits plates x.next more) is then),
+      PublishNoLargeImages-append limits plates b.next rest more after (subst (λ (x : Answer). Perform limits x.next rest after) same performed) others
+          (subst (λ (x : Answer). PublishNoLargeImages limits plates x.next more) is then),
     )

@@ -6,10 +6,10 @@ use Rattle.std.specs.Str.Lines.{lines}
 use Rattle.mf_session.proofs.Performing.{Perform-append}
 use Rattle.mf_session.specs.States.{Limits, State, answer_with}
 use Rattle.mf_stage.proofs.Cuts.{next_lines, spelled_line}
-use Rattle.mf_stage.proofs.Images.{PublishImages-append}
+use Rattle.mf_stage.proofs.Images.{PublishNoLargeImages-append}
 use Rattle.mf_stage.specs.Lines.{IsReadLine, Reads, without_ending}
 use Rattle.mf_stage.specs.Scripts.{Act, PerformsAll, PerformsFrom, PerformsLines, act_of}
-use Rattle.mf_stage.specs.Publications.{PublishImages}
+use Rattle.mf_stage.specs.Publications.{PublishNoLargeImages}
 use Rattle.mf_stage.specs.Stages.{limits, plates_of}
 use Rattle.mf_stage.specs.declared.stage.Stage.{Stage}
 
@@ -76,10 +76,10 @@ under_way-next before now later unread left remaining held holds last line same 
       performed = λ s stands.
           let (first, images) = was.performed s stands in
           let (then, more) = performs first.last first.stands in
-          let published = subst (λ (l : Limits). PublishImages l (plates_of before) first.last one) same
-          (subst (λ plates. PublishImages (limits now) plates first.last one) same_plates more) in (
+          let published = subst (λ (l : Limits). PublishNoLargeImages l (plates_of before) first.last one) same
+          (subst (λ plates. PublishNoLargeImages (limits now) plates first.last one) same_plates more) in (
             PerformsFrom-more before now later s was.done one held holds last same first then,
-            PublishImages-append (limits before) (plates_of before) s was.done one (answer_with first.text first.last) first.performed images published,
+            PublishNoLargeImages-append (limits before) (plates_of before) s was.done one (answer_with first.text first.last) first.performed images published,
           );
     }
 

@@ -50,7 +50,7 @@ pub record EndWithPublish (done : List (List ℕ)) : Type 0 where
 
 -- what a fault says of these lines, the first of which have led to this state, and of what was written: after `WriteFault` the text of
 -- the last line that was performed may be cut, and after each other fault the texts of all of them have been written; after the faults
--- of an image the last of them publishes all that was accepted, and the fault is one of its plate
+-- of an image the last line that was performed publishes all that was accepted, and the fault is one of its plate
 abbrev pub TellsOfScript : DueLines → State → StageFault → List ℕ → Type 0
 TellsOfScript d last OutOfMemory written = IsFirstText d last written
 TellsOfScript d last FileTooLong written = ⊥

@@ -26,11 +26,11 @@ abbrev pub HasNoLargeImage : Option Plates → List Entry → Type 0
 HasNoLargeImage plates shown = IsSome plates → IsTooLargeForImage (picture_at shown) → ⊥
 
 -- where plates are asked for, no picture that these lines publish, performed from a state on, is too large for an image
-abbrev pub PublishImages : Limits → Option Plates → State → List (List ℕ) → Type 0
-PublishImages limits plates s [] = Unit {0}
-PublishImages limits plates s (line ∷ more) =
+abbrev pub PublishNoLargeImages : Limits → Option Plates → State → List (List ℕ) → Type 0
+PublishNoLargeImages limits plates s [] = Unit {0}
+PublishNoLargeImages limits plates s (line ∷ more) =
     (a : Answer) → Answers limits s line a
-    → (Gives line Publish → HasNoLargeImage plates a.next.pictures.published) × PublishImages limits plates a.next more
+    → (Gives line Publish → HasNoLargeImage plates a.next.pictures.published) × PublishNoLargeImages limits plates a.next more
 
 -- what is made of a line after which this list is published: its publication where the line gives the command to publish, and else
 -- nothing

@@ -7,7 +7,7 @@ use Rattle.mf_session.specs.Answers.{Answers}
 use Rattle.mf_session.specs.Sessions.{HasPerformed}
 use Rattle.mf_session.specs.States.{State, answer_with}
 use Rattle.mf_session.specs.Transcript.{due_lines}
-use Rattle.mf_stage.specs.Publications.{Announces, PublishImages}
+use Rattle.mf_stage.specs.Publications.{Announces, PublishNoLargeImages}
 use Rattle.mf_stage.specs.Stages.{StandsFor, limits, plates_of, session_of}
 use Rattle.mf_stage.specs.declared.stage.Publication.{Publication}
 use Rattle.mf_stage.specs.declared.stage.Stage.{Stage}
@@ -36,10 +36,11 @@ pub record HasPerformedLine (act : Act) (s : State) (line : List ℕ) (made : Op
 abbrev pub PerformsFrom : Act → State → List (List ℕ) → Type 0
 PerformsFrom act s done = HasPerformed (due_lines (limits act.before) s done) (session_of act.after) act.transcript.held act.transcript.holds
 
--- in this act the stage has performed these lines, whatever state it represented, and all that they publish has images
+-- in this act the stage has performed these lines, whatever state it represented; where plates are asked for, no picture that they publish
+-- is too large for an image
 abbrev pub PerformsLines : Act → List (List ℕ) → Type 0
 PerformsLines act done =
-    (s : State) → StandsFor act.before s → PerformsFrom act s done × PublishImages (limits act.before) (plates_of act.before) s done
+    (s : State) → StandsFor act.before s → PerformsFrom act s done × PublishNoLargeImages (limits act.before) (plates_of act.before) s done
 
 -- this is true of what a reader had, where it is known, and else of some bytes
 pub record HoldsOfInput (unread : Option (List ℕ)) (IsSuch : List ℕ → Type 0) : Type 0 where

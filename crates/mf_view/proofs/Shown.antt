@@ -12,7 +12,7 @@ use Rattle.mf_session.specs.Endings.{IsFileOf, complete_list}
 use Rattle.mf_session.specs.States.{State, answer_with, start}
 use Rattle.mf_session.specs.Transcript.{Perform}
 use Rattle.mf_stage.specs.Scripts.{PerformsAll, act_of}
-use Rattle.mf_stage.specs.Publications.{HasNoLargeImage, PublishImages}
+use Rattle.mf_stage.specs.Publications.{HasNoLargeImage, PublishNoLargeImages}
 use Rattle.mf_stage.specs.Stages.{StandsFor, limits, plates_of, session_of}
 use Rattle.mf_stage.specs.declared.stage.Stage.{Stage}
 use Rattle.mf_stage.specs.declared.fault.StageFault.{StageFault}
@@ -61,7 +61,7 @@ module _ (m : Manner) (s : ScreenStreams) (before after : Stage) (limited : limi
           script = record { last = done.last; performed = performed };
           out = done.out;
           shown = shown done.last done.stands;
-          images = subst (λ l. PublishImages l (plates_of before) start (lines script.input)) limited images;
+          images = subst (λ l. PublishNoLargeImages l (plates_of before) start (lines script.input)) limited images;
           last_image = subst (λ plates. HasNoLargeImage plates done.last.pictures.accepted) same (image done.last done.stands);
           file_is = (of_file done.last done.stands).keeps;
           max_bytes_is = subst (λ l. max_bytes_of file ≡ l.max_bytes) limited

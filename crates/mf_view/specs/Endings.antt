@@ -25,7 +25,7 @@ abbrev pub style_in : Bool → Style
 style_in true = Plain
 style_in false = Colored
 
--- the plates go into this folder, if one is given, and each has a PGM image, too, or none has
+-- where plates go, if a folder is given for them, and whether each has a PGM image, too
 abbrev pub plates_in : Option (String Global) → Bool → Option Plates
 plates_in folder pgm = option_map (λ path. record { folder = path; pgm = pgm }) folder
 

@@ -9,7 +9,7 @@ use Rattle.mf_gf.specs.Keeping.{Keeps, max_bytes_of}
 use Rattle.mf_session.specs.Endings.{complete_list}
 use Rattle.mf_session.specs.States.{Limits, limits_of, most_bytes, most_operations, start}
 use Rattle.mf_session.specs.Transcript.{IsTranscript}
-use Rattle.mf_stage.specs.Publications.{HasNoLargeImage, PublishImages}
+use Rattle.mf_stage.specs.Publications.{HasNoLargeImage, PublishNoLargeImages}
 use Rattle.mf_stage.specs.Scripts.{HoldsOfInput}
 use Rattle.mf_stage.specs.declared.plate.Plates.{Plates}
 use Rattle.mf_view.specs.Drawings.{ShowsLast}
@@ -36,7 +36,7 @@ pub record IsShown (plates : Option Plates) (manner : Manner) (s : ScreenStreams
   pub script : IsTranscript script_limits input text
   pub out : Appends s.transcript.held s.transcript.holds text
   pub shown : ShowsLast manner (complete_list script.last.pictures) s.screen
-  pub images : PublishImages script_limits plates start (lines input)
+  pub images : PublishNoLargeImages script_limits plates start (lines input)
   pub last_image : HasNoLargeImage plates script.last.pictures.accepted
   pub file_is : Keeps file [] script.last.characters
   pub max_bytes_is : max_bytes_of file ≡ script_limits.max_bytes
