@@ -49,6 +49,8 @@ MEMORY = 4_000_000_000
 REFUSED, PROVED, NOT_JUDGED = "refused", "proved", "not judged"
 # What the prover says if only a function that is called is not proved.
 OF_ANOTHER = re.compile(r"it calls|it passes|a call of")
+# What it says of a goal of a function for which it expects an answer, since the edit has made a goal that it does not find.
+UNPROVED = re.compile(r"`search` did not prove `(\S+)`")
 
 
 @dataclasses.dataclass
@@ -129,6 +131,7 @@ def judge(body: Body, room: Room, said: str) -> None:
     fallen = {symbol: words for symbol, words in lines.items() if not words.startswith("proved")}
     reasons = [own_reasons(symbol, said) for symbol in fallen]
     goals, gone = ([it for pair in reasons for it in pair[i]] for i in (0, 1))
+    goals += [goal for words in fallen.values() for goal in UNPROVED.findall(words)]
     if not lines:
         body.judge(NOT_JUDGED, f"the check has no line for {', '.join(map(str, sorted(body.changed)))}")
     elif goals:
@@ -144,9 +147,15 @@ def judge(body: Body, room: Room, said: str) -> None:
         body.judge(NOT_JUDGED, "; ".join(f"{symbol}: {words}" for symbol, words in fallen.items()))
 
 
+def waits(control: list[Body], room: Room, said: str) -> bool:
+    """Whether a control is not proved only since it calls a function that is not proved."""
+    words = dict(SAID.findall(said))
+    return bool(control) and all(OF_ANOTHER.search(words.get(symbol, "")) for symbol in room.symbols_of(control[0].changed))
+
+
 def try_batch(batch: list[Body], controls: list[Body], room: Room) -> None:
     """Tries a batch, in halves if the check says nothing about all of it, and judges what it can. A body alone is tried beside each
-    control, since one may call the function that the body changes."""
+    control, since one may call the function that the body changes. If each of them does, the body is judged all the same."""
     fitting = [it for it in controls if fits(it, batch, room.texts)]
     control = fitting[:1]
     changed = set().union(*(body.changed for body in [*batch, *control]))
@@ -160,7 +169,7 @@ def try_batch(batch: list[Body], controls: list[Body], room: Room) -> None:
         try_batch(batch, fitting[1:], room)
         return
     for body in batch:
-        if problem:
+        if problem and not waits(control, room, said):
             body.judge(NOT_JUDGED, problem)
         else:
             judge(body, room, said)
