@@ -19,6 +19,8 @@ VERDICT = re.compile(r"^(?:only|logic)=", re.M)
 # A goal that is not proved: what the prover says of it, and its name. It may say that it found values at which the goal is false.
 OPEN = re.compile(r"^note: src/\S+: (.*? \(`(\S+)`\).*)$", re.M)
 FALSE = "allow values at which this goal is false"
+# The problem of a check whose control is not proved.
+NO_CONTROL = "the control is not proved"
 # What an error says when a file of proofs/ uses a name that the changed body no longer has, or a declaration that does.
 GONE = re.compile(r"has no `|has no field|is not in scope|was not admitted|which was rejected, w(?:as|ere) not checked")
 
@@ -104,7 +106,7 @@ def problem_of(said: str, control: list[str]) -> str:
     if unread:
         return f"the prover cannot read it: {unread[0]}"
     proved = {symbol for symbol, words in SAID.findall(said) if words.startswith("proved")}
-    return "" if control and {*control} <= proved else "the control is not proved"
+    return "" if control and {*control} <= proved else NO_CONTROL
 
 
 def folder_of(symbol: str) -> str:
@@ -129,6 +131,8 @@ def newly_open(symbol: str, right: str, wrong: str) -> list[str]:
 def own_reasons(symbol: str, said: str) -> tuple[list[str], list[str]]:
     """The reasons of a function itself for not being proved: its open goals, and the answers that do not fit. And the errors of
     its files that use names which are gone."""
-    errors = re.findall(rf"^\./({re.escape(folder_of(symbol))}/\w+\.antt:\S+ error: .*)$", said, re.M)
+    # An error may go on in further lines, which are indented.
+    found = re.findall(rf"^\./({re.escape(folder_of(symbol))}/\w+\.antt:\S+ error: .*(?:\n  .*)*)", said, re.M)
+    errors = [" ".join(error.split()) for error in found]
     gone = [error for error in errors if GONE.search(error)]
     return [*open_goals(symbol, said), *(error for error in errors if error not in gone)], gone

@@ -38,7 +38,7 @@ from collections.abc import Iterable
 from pathlib import Path
 
 from edited_source import Edit, Function, UnfitEdit, changed_by, read_edit, texts_of
-from proof_room import ROOT, SAID, Room, newly_open, own_reasons, problem_of
+from proof_room import NO_CONTROL, ROOT, SAID, Room, newly_open, own_reasons, problem_of
 
 # These are in tools/, which proof_room has put on the path.
 from build import prove_in_order  # isort: skip
@@ -149,8 +149,8 @@ def judge(body: Body, room: Room, said: str) -> None:
 
 def waits(control: list[Body], room: Room, said: str) -> bool:
     """Whether a control is not proved only since it calls a function that is not proved."""
-    words = dict(SAID.findall(said))
-    return bool(control) and all(OF_ANOTHER.search(words.get(symbol, "")) for symbol in room.symbols_of(control[0].changed))
+    words, symbols = dict(SAID.findall(said)), [symbol for body in control for symbol in room.symbols_of(body.changed)]
+    return bool(symbols) and all(OF_ANOTHER.search(words.get(symbol, "")) for symbol in symbols)
 
 
 def try_batch(batch: list[Body], controls: list[Body], room: Room) -> None:
@@ -169,7 +169,7 @@ def try_batch(batch: list[Body], controls: list[Body], room: Room) -> None:
         try_batch(batch, fitting[1:], room)
         return
     for body in batch:
-        if problem and not waits(control, room, said):
+        if problem and not (problem == NO_CONTROL and waits(control, room, said)):
             body.judge(NOT_JUDGED, problem)
         else:
             judge(body, room, said)
