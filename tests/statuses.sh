@@ -42,15 +42,15 @@ keeps_font() {
     cmp "$folder/printed" "$printed" || fails "another transcript: $command"
 }
 
-ends_with 2 'usage: mfpic [--viewers 0..16] [--gf FILE] < SCRIPT' ./mfpic --help
-ends_with 2 'usage: mfpic [--viewers 0..16] [--gf FILE] < SCRIPT' ./mfpic $'\xff'
+ends_with 2 'usage: mfpic [--viewers 0..16] [--gf FILE]' ./mfpic --help
+ends_with 2 'usage: mfpic [--viewers 0..16] [--gf FILE]' ./mfpic $'\xff'
 ends_with 3 'mfpic: ReadFault' bash -c './mfpic < /'
 ends_with 3 'mfpic: WriteFault' bash -c './mfpic < examples/rectangle.mfp > /dev/full'
 ends_with 3 'mfpic: NoCharacters' bash -c './mfpic --gf /dev/null < examples/rectangle.mfp'
 
 ends_with 0 '' bash -c './mfpic --gf "$FONT" < examples/font.mfp'
 cmp "$FONT" examples/font.gf || fails 'another font file'
-keeps_font /dev/null 2 'usage: mfpic [--viewers 0..16] [--gf FILE] < SCRIPT' './mfpic --gf "$FONT" more < examples/font.mfp'
+keeps_font /dev/null 2 'usage: mfpic [--viewers 0..16] [--gf FILE]' './mfpic --gf "$FONT" more < examples/font.mfp'
 keeps_font /dev/null 3 'mfpic: ReadFault' './mfpic --gf "$FONT" < /'
 keeps_font /dev/null 3 'mfpic: ReadFault' './mfpic --gf "$FONT" <&-'
 keeps_font /dev/null 3 'mfpic: WriteFault' './mfpic --gf "$FONT" < examples/font.mfp > /dev/full'

@@ -195,7 +195,7 @@ def more_scripts(program: pathlib.Path) -> Iterator[Case]:
     yield Case("refused lines", ("--gf=FOLDER/font.gf", "--viewers", "4"), program, REFUSED)
     yield Case("long lines", (), program, LONG, twice=False)
     yield Case("no file", ("--gf", "FOLDER"), program, COMMANDS, status=3, message=b"mfpic: WriteFault\n")
-    usage = b"usage: mfpic [--viewers 0..16] [--gf FILE] < SCRIPT\n"
+    usage = b"usage: mfpic [--viewers 0..16] [--gf FILE]\n"
     for words in ["--help", "--viewers 17", "--viewer 3", "--gf", "--gf x --gf y", "x"]:
         yield Case("bad words", tuple(words.split()), program, b"show a\n", status=2, message=usage)
 

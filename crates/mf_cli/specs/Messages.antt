@@ -6,7 +6,7 @@ use Rattle.mf_desk.specs.Names.{run_fault_text}
 
 -- how the program is used
 abbrev pub usage : List ℕ
-usage = codes "usage: mfpic [--viewers 0..16] [--gf FILE] < SCRIPT\n"
+usage = codes "usage: mfpic [--viewers 0..16] [--gf FILE]\n"
 
 -- the message of a fault: the name of the program, and that of the fault
 abbrev pub message_of : ProgramFault → List ℕ

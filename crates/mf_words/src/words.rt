@@ -8,8 +8,8 @@ use clap::Command;
 use mf_options::{WordsFault, file, find_matches, new_command, number, with_file, with_number};
 use std::alloc::{AllocError, Global};
 
-/// The usage text: the forms of the command line, and that the script comes from standard input.
-pub const USAGE: &str = "usage: mfpic [--viewers 0..16] [--gf FILE] < SCRIPT\n";
+/// The usage text: the forms of the command line.
+pub const USAGE: &str = "usage: mfpic [--viewers 0..16] [--gf FILE]\n";
 
 /// What the words of the command line ask for.
 #[derive(Debug, Drop)]
