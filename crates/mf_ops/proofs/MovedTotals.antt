@@ -19,20 +19,20 @@ use Rattle.mf_ops.specs.Moves.{AreFactors, Factors, IsFactor, scale_by, scale_so
 use Rattle.mf_ops.specs.Step.{op_fault, step_at, next_picture}
 use Rattle.mf_ops.specs.declared.op.Op.TheVariants as ops
 use Rattle.mf_ops.specs.declared.op.Op.TheVariants.{Scale, Shift}
-use Rattle.mf_ops.specs.declared.quarter.Quarter.{Quarter}
-use Rattle.mf_ops.specs.declared.quarter.Quarter.TheVariants.{Once, Twice, Thrice}
+use Rattle.mf_ops.specs.declared.quarter.TurnCount.{TurnCount}
+use Rattle.mf_ops.specs.declared.quarter.TurnCount.TheVariants.{Once, Twice, Thrice}
 use Rattle.mf_ops.proofs.AxisSums.{IsMove, sum_over_field-move, sum_over_field-turn}
 use Rattle.mf_ops.proofs.Faults.{stays-accepted}
 use Rattle.mf_ops.proofs.Leaving.{PixelsStayInside-none_leaves, column_inside, leaves_by, row_inside}
 use Rattle.mf_ops.proofs.Places.{IsStretch-size, end-negative, opposite-opposite, scale_source-negative}
 use Rattle.mf_ops.proofs.Places.{scale_source-positive, source_of-end, source_of-start, start-negative}
 
-sum_over_field-turn_by : (q : Quarter) (f : ℤ → ℤ → ℤ) → sum_over_field (turn_by q f) ≡ sum_over_field f
+sum_over_field-turn_by : (q : TurnCount) (f : ℤ → ℤ → ℤ) → sum_over_field (turn_by q f) ≡ sum_over_field f
 sum_over_field-turn_by Once f = sum_over_field-turn f
 sum_over_field-turn_by Twice f = sum_over_field-turn (quarter_turn f) ∙ sum_over_field-turn f
 sum_over_field-turn_by Thrice f = sum_over_field-turn (quarter_turn (quarter_turn f)) ∙ sum_over_field-turn (quarter_turn f) ∙ sum_over_field-turn f
 
-pub total_of-turn : (ds : List Dot) (q : Quarter) → IsPicture ds → total_of (next_picture ds (ops.Quarter q)) ≡ total_of ds
+pub total_of-turn : (ds : List Dot) (q : TurnCount) → IsPicture ds → total_of (next_picture ds (ops.Quarter q)) ≡ total_of ds
 unfolding next_picture
 total_of-turn ds q picture =
     total_of-picture_of (step_at ds (ops.Quarter q)) ∙ sum_over_field-turn_by q (weight_at ds) ∙ sym (total_of-picture ds picture)

@@ -28,8 +28,8 @@ use Rattle.mf_ops.specs.declared.op.Op.{Op}
 use Rattle.mf_ops.specs.declared.op.Op.TheVariants as ops
 use Rattle.mf_ops.specs.declared.op.Op.TheVariants.{Contour, Also, Cull, Shift, Scale, Clear}
 use Rattle.mf_ops.specs.declared.op.OpFault.TheVariants.{OutOfField}
-use Rattle.mf_ops.specs.declared.quarter.Quarter.{Quarter}
-use Rattle.mf_ops.specs.declared.quarter.Quarter.TheVariants.{Once, Twice, Thrice}
+use Rattle.mf_ops.specs.declared.quarter.TurnCount.{TurnCount}
+use Rattle.mf_ops.specs.declared.quarter.TurnCount.TheVariants.{Once, Twice, Thrice}
 use Rattle.mf_ops.proofs.Faults.{leaves-refused, op_fault-leaves}
 use Rattle.mf_ops.proofs.Leaving.{column_inside, row_inside, stays_inside-true}
 use Rattle.mf_ops.proofs.Places.{scale_source-covered, scale_source-only, HasPlace-first, HasPlace-last}
@@ -182,12 +182,12 @@ turn_outside : (f : ℤ → ℤ → ℤ) → ZeroOutside f → ZeroOutside (quar
 unfolding ZeroOutside
 turn_outside f zero x y outside = zero y (opposite x) (λ field. outside (turn_in_field x y field))
 
-turn_by-outside : (q : Quarter) (f : ℤ → ℤ → ℤ) → ZeroOutside f → ZeroOutside (turn_by q f)
+turn_by-outside : (q : TurnCount) (f : ℤ → ℤ → ℤ) → ZeroOutside f → ZeroOutside (turn_by q f)
 turn_by-outside Once f zero = turn_outside f zero
 turn_by-outside Twice f zero = turn_outside (quarter_turn f) (turn_outside f zero)
 turn_by-outside Thrice f zero = turn_outside (quarter_turn (quarter_turn f)) (turn_outside (quarter_turn f) (turn_outside f zero))
 
-pub turn-inside : (ds : List Dot) (q : Quarter) → IsPicture ds → LiesOutside (step_at ds (ops.Quarter q)) → ⊥
+pub turn-inside : (ds : List Dot) (q : TurnCount) → IsPicture ds → LiesOutside (step_at ds (ops.Quarter q)) → ⊥
 unfolding ZeroOutside
 turn-inside ds q picture at =
     at.nonzero (turn_by-outside q (weight_at ds) (λ x y outside. weight_at-outside ds x y picture outside) at.x at.y at.outside)

@@ -7,8 +7,8 @@ use Rattle.mf_geom.specs.Coordinates.{IsCoordinate, is_coordinate}
 use Rattle.mf_edges.specs.Axes.{opposite, source_of, target_of}
 use Rattle.mf_edges.specs.declared.stretch.Stretch.{Stretch}
 use Rattle.mf_rows.specs.Moves.{moved_columns, moved_rows, quarter_turn}
-use Rattle.mf_ops.specs.declared.quarter.Quarter.{Quarter}
-use Rattle.mf_ops.specs.declared.quarter.Quarter.TheVariants.{Once, Twice, Thrice}
+use Rattle.mf_ops.specs.declared.quarter.TurnCount.{TurnCount}
+use Rattle.mf_ops.specs.declared.quarter.TurnCount.TheVariants.{Once, Twice, Thrice}
 
 -- the two factors of a scale: x for columns, y for rows
 pub record Factors : Type 0 where
@@ -51,13 +51,13 @@ pub record HasPlace (f p q : ℤ) : Type 0 where
   pub end : (q +ℤ pos 1) ≤ℤ int_max (p *ℤ f) ((p +ℤ pos 1) *ℤ f)
 
 -- the weights f after one, two or three turns by 90 degrees counterclockwise
-abbrev pub turn_by : Quarter → (ℤ → ℤ → ℤ) → ℤ → ℤ → ℤ
+abbrev pub turn_by : TurnCount → (ℤ → ℤ → ℤ) → ℤ → ℤ → ℤ
 turn_by Once f = quarter_turn f
 turn_by Twice f = quarter_turn (quarter_turn f)
 turn_by Thrice f = quarter_turn (quarter_turn (quarter_turn f))
 
 -- the angle of a turn, in degrees
-abbrev pub degrees : Quarter → ℤ
+abbrev pub degrees : TurnCount → ℤ
 degrees Once = pos 90
 degrees Twice = pos 180
 degrees Thrice = pos 270

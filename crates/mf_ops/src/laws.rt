@@ -29,7 +29,7 @@ ghost use Rattle.mf_ops.specs.declared.op.Op.TheVariants as ops;
 ghost use Rattle.mf_ops.specs.declared.op.Op.TheVariants.{Contour, Also, Cull, Shift, Scale, Clear};
 ghost use Rattle.mf_ops.specs.declared.op.OpFault.TheVariants as OpFault;
 ghost use Rattle.mf_ops.specs.declared.op.OpFault.TheVariants.{OutOfField, WeightTooLarge};
-ghost use Rattle.mf_ops.specs.declared.quarter.Quarter.{Quarter};
+ghost use Rattle.mf_ops.specs.declared.quarter.TurnCount.{TurnCount};
 
 use mf_geom::laws::nothing_outside_the_field;
 
@@ -69,7 +69,7 @@ pub fn refused_where_a_pixel_leaves()
         LiesOutside (step_at ds (Also es s)) → ⊥ }
     ensures cull { (ds : List Dot) (c : CullRule) → IsPicture ds → IsLawfulCull c →
         LiesOutside (step_at ds (Cull c)) → ⊥ }
-    ensures turn { (ds : List Dot) (q : Quarter) → IsPicture ds →
+    ensures turn { (ds : List Dot) (q : TurnCount) → IsPicture ds →
         LiesOutside (step_at ds (ops.Quarter q)) → ⊥ }
     ensures clear { (ds : List Dot) → LiesOutside (step_at ds Clear) → ⊥ }
     ensures only { (ds : List Dot) (op : Op) → op_fault ds op ≡ Some OutOfField → MayLeave op }
@@ -81,7 +81,7 @@ pub fn refused_where_a_pixel_leaves()
 /// refused for its weights. A contour, or adding or subtracting a picture, is never refused because a pixel leaves the field.
 pub fn never_refused()
     ensures clear { (ds : List Dot) → op_fault ds Clear ≡ None }
-    ensures turn { (ds : List Dot) (q : Quarter) → IsPicture ds → op_fault ds (ops.Quarter q) ≡ None }
+    ensures turn { (ds : List Dot) (q : TurnCount) → IsPicture ds → op_fault ds (ops.Quarter q) ≡ None }
     ensures keeping { (ds : List Dot) (a b w : ℤ) → IsLawfulWeight w → op_fault ds (Cull (Keeping a b w)) ≡ None }
     ensures dropping { (ds : List Dot) (a b w : ℤ) → IsLawfulWeight w → op_fault ds (Cull (Dropping a b w)) ≡ None }
     ensures shift { (ds : List Dot) (dx dy : ℤ) → IsPicture ds → op_fault ds (Shift dx dy) ≢ Some WeightTooLarge }
@@ -110,7 +110,7 @@ pub fn turns_and_reflections_return()
 pub fn totals_after_moves()
     ensures shift { (ds : List Dot) (dx dy : ℤ) → IsPicture ds → op_fault ds (Shift dx dy) ≡ None →
         total_of (next_picture ds (Shift dx dy)) ≡ total_of ds }
-    ensures turn { (ds : List Dot) (q : Quarter) → IsPicture ds →
+    ensures turn { (ds : List Dot) (q : TurnCount) → IsPicture ds →
         total_of (next_picture ds (ops.Quarter q)) ≡ total_of ds }
     ensures scale { (ds : List Dot) (s : Factors) → IsPicture ds → AreFactors s → op_fault ds (Scale s) ≡ None →
         total_of (next_picture ds (Scale s)) ≡ pos (unsigned_abs (s.x *ℤ s.y)) *ℤ total_of ds }

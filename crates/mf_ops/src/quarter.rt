@@ -4,6 +4,7 @@ ghost use Rattle.mf_ops.specs.Moves.{degrees};
 
 use std::error::Error;
 use std::fmt;
+use std::marker::Model;
 
 /// An angle other than 90, 180 and 270 degrees.
 #[derive(Clone, Copy, Debug, PartialEq, Eq)]
@@ -25,7 +26,13 @@ impl Error for BadTurn {}
 /// A turn by 90, 180 or 270 degrees counterclockwise about the point (0, 0): METAFONT's `rotated` (The METAFONTbook, chapter 15)
 /// for these angles.
 #[derive(Clone, Copy, Debug, PartialEq, Eq)]
-pub enum Quarter {
+pub struct Quarter {
+    turns: TurnCount,
+}
+
+/// How often a picture is turned by 90 degrees.
+#[derive(Clone, Copy, Debug, PartialEq, Eq)]
+pub enum TurnCount {
     /// By 90 degrees.
     Once,
     /// By 180 degrees.
@@ -34,17 +41,35 @@ pub enum Quarter {
     Thrice,
 }
 
+impl Model for Quarter {
+    ghost use Rattle.mf_ops.specs.declared.quarter.TurnCount.{TurnCount};
+
+    ghost Value = { TurnCount };
+
+    ghost view = { λ quarter. quarter.turns };
+
+    ghost inverse = { λ turns. record { turns = turns } };
+}
+
 impl Quarter {
     /// The turn by an angle of 90, 180 or 270 degrees. Any other angle is refused with `BadTurn`.
     pub fn new(angle: i32) -> Result<Quarter, BadTurn>
         ensures accepted { IsOk result ↔ ((angle ≡ pos 90) ⊎ (angle ≡ pos 180) ⊎ (angle ≡ pos 270)) }
         ensures value { IfOk result (λ quarter. degrees quarter ≡ angle) }
     {
-        match angle {
-            90 => Ok(Quarter::Once),
-            180 => Ok(Quarter::Twice),
-            270 => Ok(Quarter::Thrice),
-            _ => Err(BadTurn),
-        }
+        let turns = match angle {
+            90 => TurnCount::Once,
+            180 => TurnCount::Twice,
+            270 => TurnCount::Thrice,
+            _ => return Err(BadTurn),
+        };
+        Ok(Quarter { turns })
+    }
+
+    /// How often a picture is turned by 90 degrees.
+    pub(crate) fn turns(&self) -> TurnCount
+        ensures { result ≡ self.now }
+    {
+        self.turns
     }
 }

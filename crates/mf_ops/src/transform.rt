@@ -11,7 +11,7 @@ ghost use Rattle.mf_ops.specs.Step.{IsRefusal, next_picture, op_fault};
 ghost use Rattle.mf_ops.specs.declared.op.Op.TheVariants as ops;
 
 use crate::op::OpFault;
-use crate::quarter::Quarter;
+use crate::quarter::{Quarter, TurnCount};
 use crate::scale::Scale;
 use mf_base::OutOfMemory;
 use mf_edges::Stretch;
@@ -71,10 +71,10 @@ fn turned_picture(
     ensures weights { IfOk result (HasWeights (turn_by quarter (weight_at picture.now))) }
     ensures lawful { IfOk result IsPicture }
 {
-    match quarter {
-        Quarter::Once => picture.turn(alloc),
-        Quarter::Twice => reflect(alloc, picture, true, true),
-        Quarter::Thrice => reflect(alloc, &picture.turn(alloc)?, true, true),
+    match quarter.turns() {
+        TurnCount::Once => picture.turn(alloc),
+        TurnCount::Twice => reflect(alloc, picture, true, true),
+        TurnCount::Thrice => reflect(alloc, &picture.turn(alloc)?, true, true),
     }
 }
 

@@ -5,8 +5,8 @@ use Rattle.std.proofs.lemmas.Bool.{cases_lt, cases_order}
 use Rattle.std.proofs.lemmas.Int.{ints}
 use Rattle.std.proofs.lemmas.List.{take-append-drop, take-take}
 use Rattle.mf_ops.specs.Moves.{degrees}
-use Rattle.mf_ops.specs.declared.quarter.Quarter.{Quarter}
-use Rattle.mf_ops.specs.declared.quarter.Quarter.TheVariants.{Once, Twice, Thrice}
+use Rattle.mf_ops.specs.declared.quarter.TurnCount.{TurnCount}
+use Rattle.mf_ops.specs.declared.quarter.TurnCount.TheVariants.{Once, Twice, Thrice}
 use Rattle.mf_text.specs.declared.command.Command.TheVariants as command
 use Rattle.mf_text.specs.declared.fault.TextFault.TheVariants as faults
 use Rattle.mf_text.specs.Grammar.{Form, Line}
@@ -19,7 +19,7 @@ use Rattle.mf_text.proofs.LineReading.{same_line}
 
 -- ---- forms
 
-same_angle : (one other : Quarter) → degrees one ≡ degrees other → one ≡ other
+same_angle : (one other : TurnCount) → degrees one ≡ degrees other → one ≡ other
 same_angle Once Once same = refl
 same_angle Twice Twice same = refl
 same_angle Thrice Thrice same = refl

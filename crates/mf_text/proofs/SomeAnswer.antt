@@ -14,8 +14,8 @@ use Rattle.mf_ops.specs.Cull.{IsLawfulCull}
 use Rattle.mf_ops.specs.Moves.{IsFactor, degrees}
 use Rattle.mf_ops.specs.declared.cull.CullRule.{CullRule}
 use Rattle.mf_ops.specs.declared.cull.CullRule.TheVariants.{Keeping, Dropping}
-use Rattle.mf_ops.specs.declared.quarter.Quarter.{Quarter}
-use Rattle.mf_ops.specs.declared.quarter.Quarter.TheVariants.{Once, Twice, Thrice}
+use Rattle.mf_ops.specs.declared.quarter.TurnCount.{TurnCount}
+use Rattle.mf_ops.specs.declared.quarter.TurnCount.TheVariants.{Once, Twice, Thrice}
 use Rattle.mf_text.specs.declared.command.Command.TheVariants as command
 use Rattle.mf_text.specs.declared.fault.TextFault.TheVariants as faults
 use Rattle.mf_text.specs.Grammar.{Line, Name}
@@ -47,7 +47,7 @@ cull_or_not (Keeping a b w) = grind (arith, ints, by_lt_z)
 cull_or_not (Dropping a b w) = grind (arith, ints, by_lt_z)
 
 no_turn : (angle : ℤ) → (degrees Once ≡ angle → ⊥) → (degrees Twice ≡ angle → ⊥) → (degrees Thrice ≡ angle → ⊥)
-    → (quarter : Quarter) → degrees quarter ≡ angle → ⊥
+    → (quarter : TurnCount) → degrees quarter ≡ angle → ⊥
 no_turn angle once twice thrice Once is = once is
 no_turn angle once twice thrice Twice is = twice is
 no_turn angle once twice thrice Thrice is = thrice is

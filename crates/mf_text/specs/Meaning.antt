@@ -11,7 +11,7 @@ use Rattle.mf_ops.specs.Cull.{IsLawfulCull}
 use Rattle.mf_ops.specs.Moves.{Factors, AreFactors, degrees}
 use Rattle.mf_ops.specs.declared.cull.CullRule.{CullRule}
 use Rattle.mf_ops.specs.declared.cull.CullRule.TheVariants.{Keeping, Dropping}
-use Rattle.mf_ops.specs.declared.quarter.Quarter.{Quarter}
+use Rattle.mf_ops.specs.declared.quarter.TurnCount.{TurnCount}
 pub use Rattle.mf_text.specs.declared.command.Command.{Command}
 use Rattle.mf_text.specs.declared.command.Command.TheVariants as command
 pub use Rattle.mf_text.specs.declared.fault.TextFault.{TextFault}
@@ -78,7 +78,7 @@ IsLawfulValue (Points points) = IsRectilinearCycle points
 IsLawfulValue (AWeight weight) = IsContourWeight weight
 IsLawfulValue (ACull rule) = IsLawfulCull rule
 IsLawfulValue (AScale factors) = AreFactors factors
-IsLawfulValue (Angle angle) = (quarter : Quarter) × (degrees quarter ≡ angle)
+IsLawfulValue (Angle angle) = (quarter : TurnCount) × (degrees quarter ≡ angle)
 
 -- this refusal is the fault of the points, so it is not one of the turning check
 pub record HasCycleFault (points : List Point) (refused : TextFault) : Type 0 where
@@ -103,7 +103,7 @@ pub record IsUnlawful (value : Value) (refused : TextFault) : Type 0 where
 abbrev pub Means : Meaning → Command → Type 0
 Means (Is made) given = given ≡ made
 Means (If value rest) given = IsLawfulValue value × Means rest given
-Means (Turns name angle) given = (quarter : Quarter) × (degrees quarter ≡ angle) × (given ≡ command.Quarter name quarter)
+Means (Turns name angle) given = (quarter : TurnCount) × (degrees quarter ≡ angle) × (given ≡ command.Quarter name quarter)
 
 -- this is the refusal of the first value of the meaning that is not lawful
 abbrev pub Refuses : Meaning → TextFault → Type 0

@@ -9,8 +9,8 @@ use Rattle.mf_edges.specs.WeightMaps.{is_within}
 use Rattle.mf_ops.specs.Moves.{scale_source, turn_by}
 use Rattle.mf_ops.specs.declared.cull.CullRule.TheVariants.{Keeping, Dropping}
 use Rattle.mf_ops.specs.declared.op.Op.TheVariants as ops
-use Rattle.mf_ops.specs.declared.quarter.Quarter.{Quarter}
-use Rattle.mf_ops.specs.declared.quarter.Quarter.TheVariants.{Once, Twice, Thrice}
+use Rattle.mf_ops.specs.declared.quarter.TurnCount.{TurnCount}
+use Rattle.mf_ops.specs.declared.quarter.TurnCount.TheVariants.{Once, Twice, Thrice}
 use Rattle.mf_ops.proofs.Faults.{accepted-lawful, may_leave, not_too_large-lawful, stays_anyway}
 use Rattle.mf_ops.proofs.laws.never_refused.Goals as goal
 
@@ -18,7 +18,7 @@ use Rattle.mf_ops.proofs.laws.never_refused.Goals as goal
 lawful_at : (ds : List Dot) → IsPicture ds → (x y : ℤ) → IsLawfulWeight (weight_at ds x y)
 lawful_at ds picture x y = lawful_weight_at ds x y (dots_from-lawful start_of_field ds picture.dots)
 
-lawful_turn : (q : Quarter) (ds : List Dot) → IsPicture ds → (x y : ℤ) → IsLawfulWeight (turn_by q (weight_at ds) x y)
+lawful_turn : (q : TurnCount) (ds : List Dot) → IsPicture ds → (x y : ℤ) → IsLawfulWeight (turn_by q (weight_at ds) x y)
 lawful_turn Once ds picture x y = lawful_at ds picture _ _
 lawful_turn Twice ds picture x y = lawful_at ds picture _ _
 lawful_turn Thrice ds picture x y = lawful_at ds picture _ _
