@@ -20,12 +20,13 @@ class Failure(Exception):
 
 
 def libraries_of_crates() -> dict[str, list[str]]:
-    """The crates of the repository, each after the crates that it uses, with all its libraries, including the toolchain's."""
-    found = {}
+    """The crates of the repository, each after the crates that it uses, with all its libraries, including the toolchain's: those that
+    `crates.txt` names, which its files use by name, and those that these use. Each comes after the libraries that it uses."""
+    found: dict[str, list[str]] = {}
     for line in (ROOT / "crates.txt").read_text(encoding="utf-8").splitlines():
         names, colon, below = line.partition("#")[0].partition(":")
         if colon:
-            found[names.split()[0]] = below.split()
+            found[names.split()[0]] = [*dict.fromkeys(it for name in below.split() for it in [*found.get(name, []), name])]
     return found
 
 

@@ -2,9 +2,8 @@
 #![tactic(auto)]
 
 use anyhow::Result;
-use mf_desk::{Outcome, Settings, perform};
+use mf_desk::{Gate, Outcome, Settings, perform};
 use mf_gf::FontWords;
-use mf_watch::Gate;
 use std::io::{self, Write};
 use std::sync::Arc;
 use std::sync::atomic::{AtomicU64, Ordering};

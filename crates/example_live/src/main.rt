@@ -6,9 +6,9 @@ ghost use Rattle.mf_live.specs.Viewers.{identity};
 ghost use Rattle.mf_live.specs.Writers as writers;
 
 use anyhow::{Result, bail};
-use mf_geom::{Check, Cycle, Point};
+use mf_geom::{Cycle, Point};
 use mf_live::{CloseFault, Viewer, Writer, open_picture};
-use mf_ops::{Op, Weight};
+use mf_ops::{Check, Op, Weight};
 use std::alloc::Global;
 use std::sync::Wait;
 use std::thread::join_mut;

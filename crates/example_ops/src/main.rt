@@ -2,9 +2,9 @@
 #![tactic(auto)]
 
 use anyhow::Result;
-use mf_geom::{Check, Cycle, Point};
-use mf_ops::{Cull, Op, Weight, after, apply};
-use mf_rows::{Picture, Sign};
+use mf_geom::{Cycle, Point};
+use mf_ops::{Check, Cull, Op, Sign, Weight, after, apply};
+use mf_rows::Picture;
 use std::alloc::Global;
 
 fn main(rt: HostRuntime) -> Result<()> {

@@ -2,7 +2,7 @@
 #![tactic(auto)]
 
 use anyhow::{Result, bail};
-use mf_session::Session;
+use mf_desk::Session;
 use std::alloc::Global;
 use std::io::{self, Write};
 use std::sync::Wait;

@@ -2,3 +2,5 @@ pub mod Faults
 pub mod Messages
 pub mod Output
 pub mod Statuses
+pub use Rattle.mf_options.specs.Values
+pub use Rattle.mf_words.specs.CommandLine

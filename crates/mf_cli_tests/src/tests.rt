@@ -8,8 +8,7 @@ mod streams;
 mod words;
 
 use assertions::{assert_holds, assert_same};
-use mf_cli::ProgramFault;
-use mf_cli::program::{program, report};
+use mf_cli::{ProgramFault, program, report};
 use mf_desk::RunFault;
 use mf_options::{BAD_WORDS, DONE, STREAM_FAULT, WANTING};
 use mf_testing::{Pieces, Script, Sink, words_of, worked_scripts};
@@ -26,7 +25,7 @@ const LINE: &[u8] = b"show totalweight currentpicture\n";
 const TEXT: &[u8] = b"totalweight 0\n";
 
 /// The message that says how the program is used.
-const USAGE: &[u8] = b"usage: mfpic [--viewers 0..16] [--gf FILE] < SCRIPT\n";
+const USAGE: &[u8] = b"usage: mfpic [--viewers 0..16] [--gf FILE]\n";
 
 /// How the program ends: its exit status, what it has written to standard output, and its message.
 type End<'a> = (u8, &'a [u8], &'a [u8]);

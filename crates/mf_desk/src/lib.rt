@@ -13,6 +13,9 @@ mod script;
 mod settings;
 
 pub use fault::RunFault;
+pub use mf_base::OutOfMemory;
+pub use mf_session::{EndFault, Session};
+pub use mf_watch::{Gate, Glance, OpenGate};
 pub use outcome::Outcome;
 pub use performance::perform;
 pub use script::run;

@@ -10,5 +10,6 @@ mod segment;
 
 pub use check::Check;
 pub use cycle::{Cycle, CycleFault};
+pub use mf_base::OutOfMemory;
 pub use path::MAX_POINTS;
 pub use point::{MAX_COORDINATE, Point};

@@ -25,6 +25,7 @@ pub use closing::{CloseFault, Closing, Ended};
 pub use desk::{Desk, NoPlace, open_picture};
 pub use fault::Fault;
 pub use look::{Look, NoLook};
+pub use mf_base::OutOfMemory;
 pub use notice::Notice;
 pub use sheet::{Sheet, SheetFault};
 pub use viewer::Viewer;

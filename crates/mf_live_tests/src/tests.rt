@@ -14,9 +14,9 @@ mod threads;
 mod writing;
 
 use assertions::{assert_holds, assert_same};
-use mf_geom::{Check, Cycle, Point};
+use mf_geom::{Cycle, Point};
 use mf_live::{CloseFault, Desk, Ended, Notice, Viewer, Writer, open_picture};
-use mf_ops::{Op, Weight};
+use mf_ops::{Check, Op, Weight};
 use mf_rows::{Picture, RowBuilder, Run};
 use std::alloc::{AllocError, Global};
 use std::process::Abort;

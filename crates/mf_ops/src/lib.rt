@@ -16,6 +16,9 @@ mod transform;
 mod weight;
 
 pub use cull::{BadCull, Cull};
+pub use mf_base::OutOfMemory;
+pub use mf_geom::Check;
+pub use mf_rows::Sign;
 pub use op::{Op, OpFault, after, apply};
 pub use quarter::{BadTurn, Quarter};
 pub use scale::{BadScale, Scale};

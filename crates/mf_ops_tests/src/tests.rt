@@ -11,8 +11,8 @@ mod sums;
 mod turning;
 
 use assertions::{assert_holds, assert_same};
-use mf_geom::{Check, Cycle, Point};
-use mf_ops::{Cull, Op, OpFault, Quarter, Scale, Weight, after, apply};
+use mf_geom::{Cycle, Point};
+use mf_ops::{Check, Cull, Op, OpFault, Quarter, Scale, Weight, after, apply};
 use mf_rows::{Box4, Picture, Run};
 use std::process::Abort;
 

@@ -36,3 +36,6 @@ pub mod Turns
 pub mod Walk
 pub mod WeightMaps
 pub mod Weights
+pub use Rattle.mf_geom.specs.Coordinates
+pub use Rattle.mf_geom.specs.Field
+pub use Rattle.mf_edges.specs.LawfulWeights

@@ -39,6 +39,7 @@ pub use bounds::Box4;
 pub use builder::RowBuilder;
 pub use corner::Corner;
 pub use fault::AddFault;
+pub use mf_base::OutOfMemory;
 pub use picture::Picture;
 pub use run::Run;
 pub use runs::Runs;

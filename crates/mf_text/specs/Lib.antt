@@ -12,3 +12,5 @@ pub mod TokenTexts
 pub mod Token
 pub mod Tokens
 pub mod Written
+pub use Rattle.mf_show.specs.Grid
+pub use Rattle.mf_show.specs.RunText

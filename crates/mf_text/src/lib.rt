@@ -1,4 +1,4 @@
-//! The command language of pictures: which commands the lines of a script give.
+//! The command language of pictures: which commands the lines of a script give. And the texts of pictures, which `mf_show` makes.
 #![tactic(auto)]
 
 mod code;
@@ -18,3 +18,6 @@ mod value;
 pub use command::{Command, Name, Source};
 pub use fault::TextFault;
 pub use lines::read_command;
+pub use mf_base::OutOfMemory;
+pub use mf_geom::Check;
+pub use mf_show::{GridFault, proof_grid, show_runs};

@@ -17,9 +17,8 @@ mod viewers;
 mod writers;
 
 use assertions::assert_same;
-use mf_desk::{Outcome, RunFault, Settings, perform};
+use mf_desk::{Glance, OpenGate, Outcome, RunFault, Settings, perform};
 use mf_gf::FontWords;
-use mf_watch::{Glance, OpenGate};
 use std::io::{Read, Write};
 use std::process::Abort;
 use std::sync::{Arc, Wait};

@@ -1,8 +1,7 @@
 //! The program `mfpic`: reads a script of picture commands, and writes its transcript and the font file of what it ships.
 #![tactic(auto)]
 
-use mf_cli::ProgramFault;
-use mf_cli::program::{program, report};
+use mf_cli::{ProgramFault, program, report};
 use mf_desk::RunFault;
 use mf_options::{refuse_words, words_of};
 use mf_words::USAGE;

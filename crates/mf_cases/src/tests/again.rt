@@ -5,9 +5,9 @@ mod pictures;
 
 use super::AMPLE;
 use crate::tests::assertions::{assert_holds, assert_same};
+use mf_desk::{EndFault, Session};
 use mf_gf::{GfBytes, GfFault, GfFile};
 use mf_live::{Closing, Ended};
-use mf_session::{EndFault, Session};
 use mf_testing::{RECT, RECT_FILE, Script, worked_scripts};
 use std::alloc::Global;
 use std::process::Abort;

@@ -5,7 +5,7 @@ mod texts;
 use super::AMPLE;
 use super::sessions::{finish, open, perform};
 use crate::tests::assertions::{assert_holds, assert_same};
-use mf_session::Session;
+use mf_desk::Session;
 use mf_testing::worked_scripts;
 use std::alloc::Global;
 use std::fmt::Debug;

@@ -1,7 +1,7 @@
 //! Sessions, called directly.
 ghost use Rattle.std.specs.Prelude.{◌≡◌};
-ghost use Rattle.mf_session.specs.Sessions.{StandsFor, identity};
-ghost use Rattle.mf_session.specs.States.{State, start};
+ghost use Rattle.mf_desk.specs.Sessions.{StandsFor, identity};
+ghost use Rattle.mf_desk.specs.States.{State, start};
 ghost use Rattle.mf_live.specs.Desks.{desk_identity};
 ghost use Rattle.mf_live.specs.Writers.{ended_identity};
 ghost use Rattle.mf_text.specs.Registers.{IsName};
@@ -10,9 +10,9 @@ use super::AMPLE;
 use super::session_ends::assert_shows;
 use crate::tests::assertions::assert_same;
 use mf_base::OutOfMemory;
+use mf_desk::Session;
 use mf_gf::GfFile;
 use mf_live::{Desk, Ended};
-use mf_session::Session;
 use mf_testing::{Script, worked_scripts};
 use mf_text::{Name, TextFault, read_command};
 use std::alloc::Global;

@@ -1,8 +1,7 @@
 //! Tests of command lines: each form that is accepted, and each that is refused.
 use crate::tests::assertions::assert_same;
-use mf_options::WordsFault;
+use mf_cli::{Words, WordsFault, read_words};
 use mf_testing::{command_line, words_of};
-use mf_words::{Words, read_words};
 use std::alloc::Global;
 use std::process::Abort;
 use std::test::Fail;

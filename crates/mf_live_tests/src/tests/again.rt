@@ -5,10 +5,9 @@ use super::{
     RECT, assert_shows, assert_tells, assert_working, contour_through, points, take_viewer,
 };
 use crate::tests::assertions::assert_same;
-use mf_geom::Check;
 use mf_live::{CloseFault, Closing, Desk, Ended, Fault, SheetFault, Viewer, Writer, open_picture};
-use mf_ops::{Op, OpFault};
-use mf_rows::{Picture, Sign};
+use mf_ops::{Check, Op, OpFault, Sign};
+use mf_rows::Picture;
 use std::alloc::Global;
 use std::process::Abort;
 use std::sync::Wait;

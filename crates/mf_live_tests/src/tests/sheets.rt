@@ -7,8 +7,8 @@ use super::{
 };
 use crate::tests::assertions::assert_same;
 use mf_live::{Sheet, Viewer};
-use mf_ops::Op;
-use mf_rows::{Picture, RowBuilder, Sign};
+use mf_ops::{Op, Sign};
+use mf_rows::{Picture, RowBuilder};
 use std::alloc::Global;
 use std::process::Abort;
 

@@ -7,8 +7,7 @@ use super::{
 use crate::tests::assertions::{assert_holds, assert_same};
 use mf_geom::CycleFault;
 use mf_live::{Fault, Writer};
-use mf_ops::{Op, OpFault};
-use mf_rows::Sign;
+use mf_ops::{Op, OpFault, Sign};
 use std::alloc::Global;
 use std::process::Abort;
 

@@ -4,8 +4,8 @@ use super::{
     CLOCKWISE, RECTANGLE, assert_equal, assert_total, contour, copy_of, dropping, fill, keeping,
     picture_after, scale, turn, unchecked_contour,
 };
-use mf_ops::{Op, apply};
-use mf_rows::{Picture, Sign};
+use mf_ops::{Op, Sign, apply};
+use mf_rows::Picture;
 use std::process::Abort;
 
 /// The rectangle, with weight 2.

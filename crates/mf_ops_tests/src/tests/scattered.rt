@@ -2,8 +2,8 @@
 
 use super::{PIXEL, assert_total, assert_weights, fill, picture_after, scale, turn};
 use crate::tests::assertions::assert_holds;
-use mf_ops::Op;
-use mf_rows::{Picture, Sign};
+use mf_ops::{Op, Sign};
+use mf_rows::Picture;
 use std::process::Abort;
 
 /// The number of pictures of scattered pixels.

@@ -4,8 +4,8 @@ use super::{
     Corners, PIXEL, RECTANGLE, assert_blank, assert_equal, assert_refused, assert_runs,
     assert_total, copy_of, fill, picture_after, run,
 };
-use mf_ops::{Op, OpFault};
-use mf_rows::{Picture, Run, Sign};
+use mf_ops::{Op, OpFault, Sign};
+use mf_rows::{Picture, Run};
 use std::process::Abort;
 
 /// The picture after a copy of another is added to it or subtracted from it.

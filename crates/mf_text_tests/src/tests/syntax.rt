@@ -2,8 +2,8 @@
 
 use super::{assert_refused, keeping};
 use crate::tests::assertions::{assert_holds, assert_same};
-use mf_geom::{Check, CycleFault};
-use mf_rows::Sign;
+use mf_geom::CycleFault;
+use mf_ops::{Check, Sign};
 use mf_text::{Command, Name, Source, TextFault, read_command};
 use std::alloc::Global;
 use std::process::Abort;

@@ -2,9 +2,7 @@
 
 use super::{dropping, keeping, read};
 use crate::tests::assertions::{assert_holds, assert_same};
-use mf_geom::Check;
-use mf_ops::{Cull, Quarter, Scale};
-use mf_rows::Sign;
+use mf_ops::{Check, Cull, Quarter, Scale, Sign};
 use mf_text::{Command, Name, Source};
 use std::alloc::Global;
 use std::process::Abort;
@@ -51,7 +49,8 @@ fn moves(rt: HostRuntime) {
     assert_scales(&rt, alloc, "z := z scaled 2", Z, (2, 2));
     assert_scales(&rt, alloc, "z:=z xscaled-1", Z, (-1, 1));
     assert_scales(&rt, alloc, "z := z yscaled - 3 ;", Z, (1, -3));
-    assert_turns(&rt, alloc, "a := a rotated90", (A, Quarter::Once));
+    let quarter = Quarter::new(90).expect(&rt, "the angle is lawful");
+    assert_turns(&rt, alloc, "a := a rotated90", (A, quarter));
 }
 
 /// Lines that set the turning check, each with its new value.

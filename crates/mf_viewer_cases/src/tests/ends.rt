@@ -4,9 +4,8 @@ use super::flags::{Count, Flag, ReadsAfter, TURNS, TellsOfEnd};
 use super::outcomes::{assert_saw, outcome_of, share};
 use super::{AMPLE, BLANK, FILLED, SIX};
 use crate::tests::assertions::{assert_holds, assert_same};
-use mf_desk::{RunFault, perform};
+use mf_desk::{Gate, RunFault, perform};
 use mf_testing::{Pieces, Sink};
-use mf_watch::Gate;
 use std::sync::Arc;
 use std::thread::yield_now;
 

@@ -1,7 +1,7 @@
 //! Flags and counts that threads wait for, and gates, readers and writers that wait for flags and set them.
 
+use mf_desk::Gate;
 use mf_testing::{Pieces, Sink};
-use mf_watch::Gate;
 use std::io::{self, ErrorKind, Read, Write};
 use std::sync::atomic::{AtomicBool, AtomicU64, Ordering};
 use std::thread::yield_now;

@@ -4,8 +4,8 @@ use super::flags::{Count, Flag, ReadsAfter, TURNS, WaitsForText};
 use super::outcomes::{assert_saw, outcome_of, outcome_telling, share};
 use super::{BLANK, PUBLISHED, PUBLISHED_TEXT, SIX};
 use crate::tests::assertions::{assert_holds, assert_same};
+use mf_desk::{Gate, Glance};
 use mf_testing::Pieces;
-use mf_watch::{Gate, Glance};
 use std::process::Abort;
 
 /// A rectangle of 3 by 2 pixels. Its total weight is printed before it is published.

@@ -3,11 +3,10 @@ ghost use Rattle.std.specs.Prelude.{◌≤◌};
 
 use super::{AMPLE, BLANK, SIX};
 use crate::tests::assertions::{assert_holds, assert_same};
-use mf_desk::{Outcome, RunFault, perform};
+use mf_desk::{Glance, OpenGate, Outcome, RunFault, perform};
 use mf_testing::{
     Pieces, RECT, RECT_FILE, Remembers, Sink, count_of_texts, grow_again, refuse_growths,
 };
-use mf_watch::{Glance, OpenGate};
 use std::process::Abort;
 use std::sync::{Arc, Wait};
 use std::thread::Threads;

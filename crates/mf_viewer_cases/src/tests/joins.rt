@@ -3,9 +3,8 @@
 use super::AMPLE;
 use super::flags::{Flag, ReadsAfter};
 use crate::tests::assertions::{assert_holds, assert_same};
-use mf_desk::{RunFault, perform};
+use mf_desk::{Gate, OpenGate, RunFault, perform};
 use mf_testing::{FlushFails, Pieces, Sink};
-use mf_watch::{Gate, OpenGate};
 use std::io::Write;
 use std::process::Abort;
 use std::sync::{Arc, Wait};

@@ -1,7 +1,7 @@
 //! The lines that viewers print.
 
 use super::BLANK;
-use mf_watch::Glance;
+use mf_desk::Glance;
 use std::alloc::{AllocError, Global};
 
 /// The line of the viewer with this number, whose last look showed `last`.

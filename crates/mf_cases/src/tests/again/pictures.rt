@@ -3,9 +3,9 @@
 use super::TRIES;
 use crate::tests::assertions::{assert_holds, assert_same};
 use mf_base::OutOfMemory;
-use mf_geom::{Check, Cycle, Point};
-use mf_ops::{Cull, Op, OpFault, Quarter, Scale, Weight, after};
-use mf_rows::{Picture, RowBuilder, Run, Sign};
+use mf_geom::{Cycle, Point};
+use mf_ops::{Check, Cull, Op, OpFault, Quarter, Scale, Sign, Weight, after};
+use mf_rows::{Picture, RowBuilder, Run};
 use std::alloc::Global;
 use std::process::Abort;
 
@@ -288,10 +288,15 @@ const THRICE: &[Run] = &[
     run_of!(-3, 1, 1, 3),
 ];
 
+/// The turn by this angle.
+fn turn(rt: &impl Abort, angle: i32) -> Op {
+    Op::Quarter(Quarter::new(angle).expect(rt, "the angle is lawful"))
+}
+
 #[test]
 fn turn_a_picture(rt: HostRuntime) {
     let alloc = rt.alloc();
-    assert_makes(&rt, alloc, &Op::Quarter(Quarter::Once), ONCE);
-    assert_makes(&rt, alloc, &Op::Quarter(Quarter::Twice), TWICE);
-    assert_makes(&rt, alloc, &Op::Quarter(Quarter::Thrice), THRICE);
+    assert_makes(&rt, alloc, &turn(&rt, 90), ONCE);
+    assert_makes(&rt, alloc, &turn(&rt, 180), TWICE);
+    assert_makes(&rt, alloc, &turn(&rt, 270), THRICE);
 }

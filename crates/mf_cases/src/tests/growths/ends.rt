@@ -6,9 +6,9 @@ use super::{
 };
 use crate::tests::assertions::assert_same;
 use crate::tests::sessions::{finish, perform};
+use mf_desk::{EndFault, Session};
 use mf_gf::{GfFault, GfFile};
 use mf_live::{Desk, Ended, Viewer};
-use mf_session::{EndFault, Session};
 use mf_testing::{grow_again, refuse_growths};
 use std::alloc::Global;
 use std::process::Abort;

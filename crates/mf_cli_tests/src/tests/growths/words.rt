@@ -2,9 +2,8 @@
 
 use crate::tests::assertions::{assert_holds, assert_same};
 use crate::tests::words::{assert_reads, assert_refused, assert_words};
-use mf_options::WordsFault;
+use mf_cli::{Words, WordsFault, read_words};
 use mf_testing::{command_line, grow_again, refuse_growths};
-use mf_words::{Words, read_words};
 use std::process::Abort;
 
 /// What the words after the program's name ask for. Allocations are refused once the list of words is made.

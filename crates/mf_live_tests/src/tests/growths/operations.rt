@@ -4,8 +4,7 @@ use super::{MOVED, assert_waiting, open_and_move};
 use crate::tests::assertions::{assert_holds, assert_same};
 use crate::tests::{Pixels, RECT_RUNS, apply, assert_sees, contour, picture, publish};
 use mf_live::{Fault, Writer};
-use mf_ops::{Cull, Op, OpFault, Quarter, Scale, Weight};
-use mf_rows::Sign;
+use mf_ops::{Cull, Op, OpFault, Quarter, Scale, Sign, Weight};
 use mf_testing::{grow_again, refuse_growths};
 use std::alloc::Global;
 use std::process::Abort;
@@ -157,7 +156,8 @@ const TURNED: &[Pixels] = &[(3, -15, 2, 1), (2, -15, 2, 1), (1, -15, 2, 1)];
 
 #[test]
 fn a_quarter_turn_is_accepted(rt: HostRuntime) {
-    let (op, same) = (Op::Quarter(Quarter::Once), Op::Quarter(Quarter::Once));
+    let quarter = Quarter::new(90).expect(&rt, "the angle is lawful");
+    let (op, same) = (Op::Quarter(quarter), Op::Quarter(quarter));
     assert_accepted(&rt, rt.alloc(), op, &same, TURNED);
 }
 

@@ -3,8 +3,8 @@
 use super::plan::Plan;
 use super::{APART, assert_applies, assert_makes};
 use crate::tests::{CLOCKWISE, Corners, RECTANGLE};
-use mf_geom::Check;
-use mf_rows::{Run, Sign};
+use mf_ops::{Check, Sign};
+use mf_rows::Run;
 
 /// The rows after the rectangle is filled with weight 2.
 const FILLED: &[Run] = &[

@@ -3,8 +3,8 @@
 use super::APART;
 use super::plan::Plan;
 use crate::tests::RECTANGLE;
-use mf_geom::Check;
-use mf_rows::{Picture, Sign};
+use mf_ops::{Check, Sign};
+use mf_rows::Picture;
 use mf_testing::{grow_again, refuse_growths};
 use std::process::Abort;
 

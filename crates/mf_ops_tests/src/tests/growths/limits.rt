@@ -6,9 +6,9 @@ use crate::tests::assertions::assert_same;
 use crate::tests::contours::picture_of;
 use crate::tests::turning::{EIGHT, SPIKE};
 use crate::tests::{RECTANGLE, assert_refused, assert_runs};
-use mf_geom::{Check, CycleFault};
-use mf_ops::{Op, OpFault, after};
-use mf_rows::{Picture, Run, Sign};
+use mf_geom::CycleFault;
+use mf_ops::{Check, Op, OpFault, Sign, after};
+use mf_rows::{Picture, Run};
 use mf_testing::{grow_again, refuse_all_growths};
 use std::process::Abort;
 

@@ -5,9 +5,8 @@ use crate::tests::contours::picture_of;
 use crate::tests::{
     Corners, assert_runs, copy_of, cycle, dropping, keeping, scale, turn, walk, weight,
 };
-use mf_geom::Check;
-use mf_ops::Op;
-use mf_rows::{Picture, Run, Sign};
+use mf_ops::{Check, Op, Sign};
+use mf_rows::{Picture, Run};
 use std::process::Abort;
 
 /// An operation, given by its parts: corners, runs and numbers.

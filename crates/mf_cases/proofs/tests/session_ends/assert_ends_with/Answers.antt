@@ -1,5 +1,5 @@
 use Rattle.std.proofs.Common.{sym, ◌∙◌}
-use Rattle.mf_session.specs.States.{start}
+use Rattle.mf_desk.specs.States.{start}
 use Rattle.mf_cases.proofs.tests.session_ends.assert_ends_with.Goals as goal
 
 pub learn-requires : goal.learn-requires

@@ -1,6 +1,6 @@
 use Rattle.std.proofs.Common.{rules, inr, refl}
 use Rattle.mf_base.proofs.Faults.{IfErr-raised}
-use Rattle.mf_cli.proofs.program.perform.Goals as goal
+use Rattle.mf_cli.proofs.run.perform.Goals as goal
 
 pub returns-in_default-clause-done : goal.returns-in_default-clause-done
 returns-in_default-clause-done g c =

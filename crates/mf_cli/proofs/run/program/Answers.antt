@@ -1,7 +1,7 @@
 use Rattle.std.proofs.Common.{inl, sym}
 use Rattle.mf_desk.proofs.Performances.{TellsOfRun-nothing}
 use Rattle.mf_cli.specs.Output.{settings}
-use Rattle.mf_cli.proofs.program.program.Goals as goal
+use Rattle.mf_cli.proofs.run.program.Goals as goal
 
 pub returns-in-Err-OutOfMemory-clause-fault : goal.returns-in-Err-OutOfMemory-clause-fault
 returns-in-Err-OutOfMemory-clause-fault g c = λ _. record {

@@ -13,11 +13,10 @@ ghost use Rattle.mf_desk.specs.Streams.{Passes, streams};
 
 use crate::fault::ProgramFault;
 use mf_base::write_text;
-use mf_desk::{Outcome, RunFault, Settings};
+use mf_desk::{OpenGate, Outcome, RunFault, Settings};
 use mf_gf::{FontWords, GfBytes};
 use mf_options::{BAD_WORDS, DONE, STREAM_FAULT, WANTING, WordsFault, refuse_words};
 use mf_session::{MAX_BYTES, MAX_OPS};
-use mf_watch::OpenGate;
 use mf_words::{USAGE, Words, read_words};
 use std::alloc::Global;
 use std::fs;

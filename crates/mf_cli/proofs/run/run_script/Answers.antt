@@ -2,7 +2,7 @@ use Rattle.std.proofs.lemmas.Result.{IfOk-weaker}
 use Rattle.mf_base.proofs.Faults.{IfErr-raised}
 use Rattle.mf_desk.proofs.Performances.{TellsOfRun-nothing}
 use Rattle.mf_cli.specs.Output.{looks, settings}
-use Rattle.mf_cli.proofs.program.run_script.Goals as goal
+use Rattle.mf_cli.proofs.run.run_script.Goals as goal
 
 pub returns-then-viewers-eq0-clause-performance : goal.returns-then-viewers-eq0-clause-performance
 returns-then-viewers-eq0-clause-performance g c =
