@@ -1,0 +1,14 @@
+//! Each public call of the libraries: called once with ample memory, at the address that callers use, with the types of what goes in
+//! and what comes out written out. So a name that moves and a signature that changes are noticed here. What the calls do is tested in the
+//! crates of tests of their own libraries.
+
+mod assertions;
+mod command_line;
+mod cycles;
+mod fonts;
+mod lines;
+mod live_pictures;
+mod operations;
+mod pictures;
+mod scripts;
+mod sessions;
