@@ -54,7 +54,8 @@ MAX_LINES, LIMIT = 150, 60
 # The attributes that a block of each kind may have, and those of which it needs one.
 ATTRIBUTES = {"console": {"needs", "skip"}, "mfp": {"file", "save"}, "rust": {"file"}, "contract": {"file"}, "text": {"save"}}
 QUOTES = {"rust", "contract"}
-OLD = ("ASSURANCE", "DECISIONS", "FONTS", "GF", "LANGUAGE", "LIVE", "MAP", "PICTURES")
+# Documents that were in docs/ itself before. One was in docs/work/.
+OLD = ("ASSURANCE", "FONTS", "GF", "LANGUAGE", "LIVE", "MAP", "PICTURES")
 
 FENCE = re.compile(r" *(`{3,})(.*)")
 HEADING = re.compile(r"(#{1,6}) +(.*?)[ #]*")
@@ -70,7 +71,7 @@ IN_A_CRATE = ("specs/", "src/", "proofs/", "must-fail/", "wrong/")
 # Words of a path that mean any name.
 ANY_NAME = re.compile(r"NAME|CRATE")
 HEAD = re.compile(r"(pub(\(.*\))? )?fn ")
-OLD_PATH = re.compile(rf"\bdocs/({'|'.join(OLD)})\.md")
+OLD_PATH = re.compile(rf"\bdocs/({'|'.join(OLD)}|work/DECISIONS)\.md")
 REFUSAL_NUMBER = re.compile(r"`[A-Z][A-Za-z]+( [a-z])?`\s+\(\d+\)|\b[Rr]efusals?\s+\d+")
 PLACEHOLDER = re.compile(r"@[A-Z][A-Z0-9_]*@")
 
@@ -692,6 +693,7 @@ WRONG_FILES = {
     ),
     "a long README": ({"README.md": SOUND["README.md"] + 150 * "a\n"}, "README.md:153: ", "more than 150 lines"),
     "an old path": ({"tests/a.py": f"\n# docs/{OLD[0]}.md\n"}, "tests/a.py:2: ", "was before"),
+    "an old path in a folder": ({"tests/a.py": f"\n# docs/work/{'DECISIONS'}.md\n"}, "tests/a.py:2: ", "was before"),
     "no README": ({"README.md": None}, "README.md:1: ", "is missing"),
 }
 

@@ -6,6 +6,7 @@ mod assertions;
 mod command_line;
 mod cycles;
 mod fonts;
+mod laws;
 mod lines;
 mod live_pictures;
 mod operations;
