@@ -16,51 +16,51 @@ use std::alloc::Global;
 use std::process::Abort;
 
 /// The name of a command.
-fn name_of(command: &Command) -> &'static str {
+fn name_of(command: Command) -> &'static str {
     match command {
         Command::Nothing => "Nothing",
         Command::Contour(name, cycle, weight) => {
-            let _: (&Name, &Cycle, &Weight) = (name, cycle, weight);
+            let _: (Name, Cycle, Weight) = (name, cycle, weight);
             "Contour"
         }
         Command::Also(name, source, sign) => {
-            let _: (&Name, &Source, &Sign) = (name, source, sign);
+            let _: (Name, Source, Sign) = (name, source, sign);
             "Also"
         }
         Command::Cull(name, cull) => {
-            let _: (&Name, &Cull) = (name, cull);
+            let _: (Name, Cull) = (name, cull);
             "Cull"
         }
         Command::Clear(name) => {
-            let _: &Name = name;
+            let _: Name = name;
             "Clear"
         }
         Command::Shift(name, dx, dy) => {
-            let _: (&Name, &i32, &i32) = (name, dx, dy);
+            let _: (Name, i32, i32) = (name, dx, dy);
             "Shift"
         }
         Command::Scale(name, scale) => {
-            let _: (&Name, &Scale) = (name, scale);
+            let _: (Name, Scale) = (name, scale);
             "Scale"
         }
         Command::Quarter(name, quarter) => {
-            let _: (&Name, &Quarter) = (name, quarter);
+            let _: (Name, Quarter) = (name, quarter);
             "Quarter"
         }
         Command::Total(source) => {
-            let _: &Source = source;
+            let _: Source = source;
             "Total"
         }
         Command::Show(source) => {
-            let _: &Source = source;
+            let _: Source = source;
             "Show"
         }
         Command::Proof(source) => {
-            let _: &Source = source;
+            let _: Source = source;
             "Proof"
         }
         Command::Ship(source, code, dx, width) => {
-            let _: (&Source, &u8, &i32, &i32) = (source, code, dx, width);
+            let _: (Source, u8, i32, i32) = (source, code, dx, width);
             "Ship"
         }
         Command::Turning(Check::Off) => "Turning off",
@@ -127,7 +127,7 @@ const LINES: &[(&str, &str)] = &[
 /// Asserts that a line gives the command of this name.
 fn assert_gives(rt: &impl Abort, alloc: Global, line: &str, name: &str) {
     match read(alloc, line) {
-        Ok(command) => assert_same(rt, name_of(&command), name, line),
+        Ok(command) => assert_same(rt, name_of(command), name, line),
         Err(fault) => panic!(rt; "{line} is refused: {fault:?}"),
     }
 }
