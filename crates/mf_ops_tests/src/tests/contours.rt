@@ -1,9 +1,9 @@
 //! Contours.
 
 use super::{
-    CLOCKWISE, Corners, FIELD, PIXEL, RECTANGLE, assert_bounds, assert_refused, assert_runs,
-    assert_some_runs, assert_total, assert_weights, contour, fill, picture_after, run, weight,
-    wind,
+    CLOCKWISE, Corners, FIELD, PIXEL, RECTANGLE, assert_bounds, assert_equal, assert_refused,
+    assert_runs, assert_some_runs, assert_total, assert_weights, contour, fill, picture_after, run,
+    weight, wind,
 };
 use crate::tests::assertions::{assert_holds, assert_same};
 use mf_ops::{OpFault, Weight};
@@ -35,8 +35,8 @@ fn weights_of_contours(rt: HostRuntime) {
     assert_are_no_weights(&rt, &[0, 4, -4, 5, i32::MIN, i32::MAX]);
 }
 
-/// The picture with these runs. Each run must fit after the ones before it.
-pub(super) fn picture_of<R: Abort + AllocGlobal>(rt: &R, runs: &[Run]) -> Picture {
+/// A builder with these runs. Each run must fit after the ones before it.
+fn builder_of<R: Abort + AllocGlobal>(rt: &R, runs: &[Run]) -> RowBuilder {
     let mut builder = RowBuilder::new(rt.alloc());
     for run in runs {
         assert_holds(rt, builder.fits(run), ("fits", *run));
@@ -46,7 +46,36 @@ pub(super) fn picture_of<R: Abort + AllocGlobal>(rt: &R, runs: &[Run]) -> Pictur
                 .expect(rt, "there is room for the run");
         }
     }
-    builder.finish().expect(rt, "there is room for the picture")
+    builder
+}
+
+/// The picture with these runs. Each run must fit after the ones before it.
+pub(super) fn picture_of<R: Abort + AllocGlobal>(rt: &R, runs: &[Run]) -> Picture {
+    let built = builder_of(rt, runs).finish();
+    built.expect(rt, "there is room for the picture")
+}
+
+/// Asserts that these runs, pushed one after another, make the picture that filling these contours makes, and that this run does not
+/// fit after them.
+fn assert_builds<R: Abort + AllocGlobal>(
+    rt: &R,
+    runs: &[Run],
+    late: &Run,
+    contours: &[(Corners, i32)],
+) {
+    let builder = builder_of(rt, runs);
+    assert_holds(rt, !builder.fits(late), ("does not fit", *late));
+    let built = builder.finish().expect(rt, "there is room for the picture");
+    let filled = fill(rt, contours);
+    assert_equal(rt, &built, &filled, "the runs make the contours");
+    assert_equal(rt, &filled, &built, "the contours make the runs");
+}
+
+/// After a run of row 0, no run of row 1 fits.
+#[test]
+fn pushed_runs_make_a_rectangle(rt: HostRuntime) {
+    let runs = [run(1, 0, 3, 1), run(0, 0, 3, 1)];
+    assert_builds(&rt, &runs, &run(1, 5, 1, 1), &[(RECTANGLE, 1)]);
 }
 
 /// Asserts that both pictures have the same weights in and around the rectangle.

@@ -69,10 +69,15 @@ fn assert_out_of_memory(rt: &impl Abort, fault: OpFault, plan: Plan) {
 
 /// Asserts that an operation makes a picture with these runs out of the rows.
 fn assert_makes<R: Abort + AllocGlobal>(rt: &R, plan: Plan, runs: &[Run]) {
-    let picture = picture_of(rt, APART);
+    assert_makes_from(rt, APART, plan, runs);
+}
+
+/// Asserts that an operation makes a picture with these runs out of one with the runs `old`.
+fn assert_makes_from<R: Abort + AllocGlobal>(rt: &R, old: &[Run], plan: Plan, runs: &[Run]) {
+    let picture = picture_of(rt, old);
     let op = plan.op(rt, &picture);
     let answer = after_while_refused(rt, &picture, &op);
-    assert_runs(rt, &picture, APART);
+    assert_runs(rt, &picture, old);
     plan.assert_is(rt, &op);
     let new = match answer {
         Ok(new) => new,
@@ -82,7 +87,7 @@ fn assert_makes<R: Abort + AllocGlobal>(rt: &R, plan: Plan, runs: &[Run]) {
         }
     };
     assert_runs(rt, &new, runs);
-    assert_runs(rt, &picture, APART);
+    assert_runs(rt, &picture, old);
     plan.assert_is(rt, &op);
 }
 

@@ -3,6 +3,7 @@
 
 use super::texts::picture_of;
 use crate::tests::assertions::assert_same;
+use mf_base::OutOfMemory;
 use mf_rows::{Picture, Run};
 use mf_show::{GridFault, proof_grid, show_runs};
 use mf_testing::{grow_again, refuse_all_growths, refuse_growths};
@@ -42,9 +43,13 @@ fn assert_shown(rt: &impl Abort, alloc: Global, runs: Runs, want: &str) {
     let text = show_runs(alloc, &picture);
     grow_again(alloc);
     assert_picture(rt, &picture, runs);
-    let text = text
-        .or_else(|_| show_runs(alloc, &picture))
-        .expect(rt, "there is room for the text");
+    let text = match text {
+        Ok(text) => text,
+        Err(fault) => {
+            assert_same(rt, fault, OutOfMemory, "the refusal");
+            show_runs(alloc, &picture).expect(rt, "there is room for the text")
+        }
+    };
     assert_same(rt, text.as_slice(), want.as_bytes(), ("the runs", want));
 }
 
@@ -52,6 +57,12 @@ fn assert_shown(rt: &impl Abort, alloc: Global, runs: Runs, want: &str) {
 fn runs_are_shown(rt: HostRuntime) {
     let text = "3 -2 1 12\n1 0 1 1\n1 2 2 3\n0 -1 1 -4\n-2 4 4 -32767\n";
     assert_shown(&rt, rt.alloc(), ROWS, text);
+}
+
+#[test]
+fn runs_of_a_rectangle_are_shown(rt: HostRuntime) {
+    let rectangle: Runs = &[(1, 0, 3, 1), (0, 0, 3, 1)];
+    assert_shown(&rt, rt.alloc(), rectangle, "1 0 2 1\n0 0 2 1\n");
 }
 
 #[test]
@@ -80,6 +91,12 @@ fn assert_drawn(rt: &impl Abort, alloc: Global, runs: Runs, want: &str) {
 fn a_grid_is_drawn(rt: HostRuntime) {
     let grid = "++++...\n.......\n..113..\n.ddd...\n.......\n......-\n";
     assert_drawn(&rt, rt.alloc(), ROWS, grid);
+}
+
+#[test]
+fn a_grid_of_one_row_is_drawn(rt: HostRuntime) {
+    let stairs: Runs = &[(0, 0, 1, 1), (0, 1, 1, 2), (0, 2, 1, 3)];
+    assert_drawn(&rt, rt.alloc(), stairs, "123\n");
 }
 
 #[test]

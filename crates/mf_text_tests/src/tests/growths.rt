@@ -50,6 +50,14 @@ const CORNER: &[Point] = &[
     point_of!(0, 2),
 ];
 
+/// A rectangle. Its list of points allocates once.
+const RECTANGLE: &[Point] = &[
+    point_of!(0, 0),
+    point_of!(3, 0),
+    point_of!(3, 2),
+    point_of!(0, 2),
+];
+
 /// Reads a line while allocations are refused.
 fn read_while_refused(alloc: Global, line: &[u8]) -> Result<Command, TextFault> {
     refuse_growths(alloc);
@@ -75,6 +83,12 @@ fn assert_read(
         }
     };
     assert_is_contour(rt, &command, line, expected, points);
+}
+
+#[test]
+fn a_rectangle_is_read(rt: HostRuntime) {
+    let line = "addto currentpicture contour (0,0)--(3,0)--(3,2)--(0,2)--cycle";
+    assert_read(&rt, rt.alloc(), line, (Name::Current, 1), RECTANGLE);
 }
 
 #[test]

@@ -1,8 +1,9 @@
 //! Shifts, scales and turns, while allocations are refused.
 
 use super::plan::Plan;
-use super::{assert_applies, assert_makes};
+use super::{assert_applies, assert_makes, assert_makes_from};
 use mf_rows::Run;
+use std::process::Abort;
 
 /// The rows shifted by two columns to the right and one row down.
 const SHIFTED: &[Run] = &[
@@ -143,4 +144,31 @@ fn a_picture_is_turned_thrice(rt: HostRuntime) {
         run_of!(-3, 1, 1, 3),
     ];
     assert_makes(&rt, Plan::Turn(270), THRICE);
+}
+
+/// Transforms of the pixel (0, 0), and the runs that they make.
+const OF_A_PIXEL: &[(Plan, &[Run])] = &[
+    (Plan::Scale(-1, 1), &[run_of!(0, -1, 1, 1)]),
+    (Plan::Scale(-2, 1), &[run_of!(0, -2, 2, 1)]),
+    (Plan::Scale(1, -1), &[run_of!(-1, 0, 1, 1)]),
+    (
+        Plan::Scale(2, 2),
+        &[run_of!(1, 0, 2, 1), run_of!(0, 0, 2, 1)],
+    ),
+    (Plan::Turn(90), &[run_of!(0, -1, 1, 1)]),
+    (Plan::Turn(180), &[run_of!(-1, -1, 1, 1)]),
+    (Plan::Turn(270), &[run_of!(-1, 0, 1, 1)]),
+    (Plan::Shift(2, -1), &[run_of!(-1, 2, 1, 1)]),
+];
+
+/// Asserts that these transforms of the pixel make these runs.
+fn assert_all_move_a_pixel<R: Abort + AllocGlobal>(rt: &R, transforms: &[(Plan, &[Run])]) {
+    for (plan, runs) in transforms {
+        assert_makes_from(rt, &[run_of!(0, 0, 1, 1)], *plan, runs);
+    }
+}
+
+#[test]
+fn a_pixel_is_moved(rt: HostRuntime) {
+    assert_all_move_a_pixel(&rt, OF_A_PIXEL);
 }
