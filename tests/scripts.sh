@@ -7,8 +7,8 @@
 #     NAME.viewer      what each viewer sees last, unless that is the blank picture at revision 0
 #     NAME.gf          its font file, for some of the scripts that ship characters
 #
-# A script must print its transcript also without its last line feed, and with a carriage return before each line feed. Beside 16
-# viewers it must print their 16 lines after the transcript, each time.
+# A script must print its transcript also without its last line feed, and with a carriage return before each line feed. Beside 2
+# viewers, and beside 16, it must print their lines after the transcript, each time.
 set -u
 cd "$(dirname "$0")/.."
 
@@ -29,27 +29,27 @@ ships() {
     rm -f "$folder/font" && prints "$expected" --gf "$folder/font" "$@" && cmp "$folder/font" "$font"
 }
 
-# Prints the transcript, and after it the line of each of 16 viewers.
+# Prints the transcript, and after it the line of each of this number of viewers.
 with_viewers() {
-    local name=$1 viewer seen='revision 0 totalweight 0'
+    local name=$1 count=$2 viewer seen='revision 0 totalweight 0'
     if [ -e "$name.viewer" ]; then
         seen=$(cat "$name.viewer")
     fi
     cat "$name.transcript"
-    for viewer in {0..15}; do
+    for ((viewer = 0; viewer < count; viewer++)); do
         echo "viewer $viewer $seen"
     done
 }
 
 # Makes all checks of the script with this name.
 passes() {
-    local name=$1 run
-    with_viewers "$name" > "$folder/viewed" || return
+    local name=$1 viewers
     prints "$name.transcript" < "$name.mfp" || return
     head -c -1 "$name.mfp" | prints "$name.transcript" || return
     sed 's/$/\r/' "$name.mfp" | prints "$name.transcript" || return
-    for run in 1 2; do
-        prints "$folder/viewed" --viewers 16 < "$name.mfp" || return
+    for viewers in 2 16 16; do
+        with_viewers "$name" "$viewers" > "$folder/viewed" || return
+        prints "$folder/viewed" --viewers "$viewers" < "$name.mfp" || return
     done
     if [ -e "$name.gf" ]; then
         ships "$name.gf" "$name.transcript" < "$name.mfp" || return
