@@ -1,4 +1,4 @@
-//! Scripts and their transcripts. Tests cut these into lines and reads, and perform them in sessions, so each form of command and
+//! Scripts, and what they print and show. Tests cut these into lines and reads, and perform them in sessions, so each form of command and
 //! each refusal is among them. Other scripts, which are only run, are in `tests/scripts`.
 
 mod contours;
@@ -8,11 +8,11 @@ mod pictures;
 
 pub use fonts::{RECT, RECT_FILE};
 
-/// A script and its transcript. Every line of both ends with a line feed.
-pub type Script = (&'static str, &'static str);
+/// A script, its transcript, and what viewers see last of it: the number of operations on `currentpicture` that were accepted,
+/// and the total weight of the picture that they make. Every line of the script and of the transcript ends with a line feed.
+pub type Script = (&'static str, &'static str, (u32, i64));
 
-/// The scripts with their transcripts, by subject. Functions return them, so that the prover checks what runs them without their
-/// texts.
+/// The scripts, by subject. Functions return them, so that the prover checks what runs them without their texts.
 pub fn worked_scripts() -> [&'static [Script]; 3] {
     [contours::scripts(), pictures::scripts(), lines::scripts()]
 }

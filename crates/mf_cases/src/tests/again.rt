@@ -5,6 +5,7 @@ mod pictures;
 
 use super::AMPLE;
 use crate::tests::assertions::{assert_holds, assert_same};
+use mf_base::OutOfMemory;
 use mf_desk::{EndFault, Session};
 use mf_gf::{GfBytes, GfFault, GfFile};
 use mf_live::{Closing, Ended};
@@ -19,8 +20,9 @@ const TRIES: u32 = 2;
 /// Opens a session.
 fn open_in_tries<R: Abort + Wait>(rt: &R, alloc: Global) -> Session {
     for _ in 0..TRIES {
-        if let Ok((session, _)) = Session::new(rt, alloc, 1, AMPLE.max_ops, AMPLE.max_bytes) {
-            return session;
+        match Session::new(rt, alloc, 1, AMPLE.max_ops, AMPLE.max_bytes) {
+            Ok((session, _)) => return session,
+            Err(fault) => assert_same(rt, fault, GfFault::OutOfMemory, "a session"),
         }
     }
     panic!(rt; "no session is opened")
@@ -34,8 +36,9 @@ fn perform_in_tries<R: Abort + Wait>(
     line: &str,
 ) -> Vec<u8> {
     for _ in 0..TRIES {
-        if let Ok(text) = session.command(rt, alloc, line.as_bytes()) {
-            return text;
+        match session.command(rt, alloc, line.as_bytes()) {
+            Ok(text) => return text,
+            Err(fault) => assert_same(rt, fault, OutOfMemory, line),
         }
     }
     panic!(rt; "the line is not performed")
@@ -86,7 +89,7 @@ fn file_bytes_in_tries(rt: &impl Abort, file: GfFile) -> GfBytes {
 
 /// Asserts that the lines of a script print its transcript.
 fn assert_performs_in_tries<R: Abort + Wait>(rt: &R, alloc: Global, script: &Script) {
-    let (script, transcript) = *script;
+    let (script, transcript, _) = *script;
     let mut session = open_in_tries(rt, alloc);
     let mut rest = transcript.as_bytes();
     for line in script.lines() {

@@ -87,6 +87,19 @@ fn assert_ends_in<R: Abort + Wait + AllocGlobal, W: Write>(
     assert_same(rt, result.err(), fault, script);
 }
 
+/// A script whose second line prints a total weight. Its first line alone is one of those after which a reader fails above.
+const RECTANGLE: &[u8] = b"addto currentpicture contour (0,0)--(3,0)--(3,2)--(0,2)--cycle\n\
+                           show totalweight currentpicture\n";
+
+/// Five bytes of the only text are written.
+#[test]
+fn writer_fails_in_the_only_text(rt: HostRuntime) {
+    let mut sink = Sink::failing(rt.alloc(), 5);
+    let fault = Some(RunFault::WriteFault(5));
+    assert_ends_in(&rt, RECTANGLE, &mut sink, fault);
+    assert_same(&rt, sink.bytes(), b"total".as_slice(), "bytes");
+}
+
 /// Asserts that the sink has taken the first `count` bytes of these texts.
 fn assert_sink_took(rt: &impl Abort, sink: &Sink, texts: &[u8], count: usize) {
     let taken = sink.bytes();

@@ -250,7 +250,8 @@ fn assert_performs_while_refused<R: Abort + Wait + AllocGlobal>(rt: &R, trial: &
     let answer = command_while_refused(rt, alloc, &mut session, line);
     let text = match answer {
         Ok(text) => text,
-        Err(OutOfMemory) => {
+        Err(fault) => {
+            assert_same(rt, fault, OutOfMemory, line);
             viewer = assert_state(rt, alloc, (&mut session, viewer), &trial.old);
             perform(rt, alloc, &mut session, line)
         }

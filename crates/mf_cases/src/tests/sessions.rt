@@ -55,30 +55,19 @@ pub(crate) fn finish<R: Abort + Wait>(rt: &R, session: Session) -> (Ended, GfFil
     }
 }
 
-/// Whether a line that prints this text is an accepted operation on `currentpicture`: a line for that picture that prints no
-/// refusal.
-fn is_operation(line: &str, text: &[u8]) -> bool {
-    let changes = line.starts_with("addto currentpicture ")
-        || line.starts_with("cull currentpicture ")
-        || line.starts_with("currentpicture := ");
-    changes && text.is_empty()
-}
-
-/// Asserts that the lines of a script print its transcript, and that the notice of its end tells of the accepted operations.
+/// Asserts that the lines of a script print its transcript, that `currentpicture` has its total weight after them, and that the
+/// notice of its end tells of the operations that were accepted.
 fn assert_performs_in_session<R: Abort + Wait>(rt: &R, alloc: Global, script: &Script) {
-    let (script, transcript) = *script;
+    let (script, transcript, (operations, total)) = *script;
     let (mut session, _) = open(rt, alloc, AMPLE.max_ops);
     let mut printed = Vec::new(alloc);
-    let mut operations: u32 = 0;
     for line in script.lines() {
         let text = perform(rt, alloc, &mut session, line);
-        if is_operation(line, &text) {
-            operations = operations.saturating_add(1);
-        }
         printed
             .extend_from_slice(&text)
             .expect(rt, "there is room for the text");
     }
+    assert_total(rt, &session, Name::Current, total);
     let (mut ended, _) = finish(rt, session);
     let revision = ended.notice().revision();
     ended.discard(rt);
@@ -91,6 +80,25 @@ fn perform_scripts(rt: HostRuntime) {
     for script in worked_scripts().iter().copied().flatten() {
         assert_performs_in_session(&rt, rt.alloc(), script);
     }
+}
+
+/// The whole field is filled, reflected and culled.
+const FIELD: &Script = &(
+    "addto a contour (-4095,-4095)--(4095,-4095)--(4095,4095)--(-4095,4095)--cycle\n\
+     show totalweight a\n\
+     a := a xscaled -1\n\
+     show totalweight a\n\
+     cull a keeping (1,1) withweight 3\n\
+     show totalweight a\n",
+    "totalweight 67076100\n\
+     totalweight 67076100\n\
+     totalweight 201228300\n",
+    (0, 0),
+);
+
+#[test]
+fn change_the_whole_field(rt: HostRuntime) {
+    assert_performs_in_session(&rt, rt.alloc(), FIELD);
 }
 
 /// Asserts that the line prints this text.

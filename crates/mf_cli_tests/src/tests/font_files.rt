@@ -1,8 +1,7 @@
 //! The font file that `--gf` asks for.
 
-use super::{End, LINE, TEXT, assert_ends};
+use super::{DONE, End, LINE, STREAM_FAULT, TEXT, assert_ends};
 use crate::tests::assertions::{assert_holds, assert_same};
-use mf_options::{DONE, STREAM_FAULT};
 use mf_testing::Pieces;
 use std::path::PathBuf;
 use std::process::Abort;

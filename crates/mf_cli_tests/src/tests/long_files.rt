@@ -2,8 +2,7 @@
 //! built as the program is. As `rt try` builds it, it is not done after six minutes.
 
 use super::font_files::{KEPT, assert_file, path_of, put, remove};
-use super::{End, assert_ends};
-use mf_options::STREAM_FAULT;
+use super::{End, STREAM_FAULT, assert_ends};
 use mf_testing::Pieces;
 use std::alloc::{AllocError, Global};
 use std::test::Fail;

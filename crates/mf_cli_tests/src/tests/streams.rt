@@ -2,9 +2,8 @@
 //! script has shipped a character, and a font file that was there stays as it was.
 
 use super::font_files::{KEPT, assert_file, path_of, put, remove};
-use super::{End, USAGE, assert_ends, assert_ends_in, status_of};
+use super::{BAD_WORDS, DONE, End, STREAM_FAULT, USAGE, assert_ends, assert_ends_in, status_of};
 use crate::tests::assertions::assert_same;
-use mf_options::{BAD_WORDS, DONE, STREAM_FAULT};
 use mf_testing::{FailsOnce, FlushFails, LineFeeds, Pieces, RECT_FILE, Remembers, Sink};
 use std::io::Read;
 use std::process::Abort;

@@ -16,6 +16,7 @@ const SCRIPTS: &[Script] = &[
          show currentpicture\n",
         "totalweight 12\n\
          blank\n",
+        (3, 0),
     ),
     (
         "addto a contour (0,0)--(1,0)--(1,1)--(0,1)--cycle withweight -3\n\
@@ -36,6 +37,31 @@ const SCRIPTS: &[Script] = &[
          show totalweight a\n",
         "refused WeightTooLarge\n\
          totalweight -24576\n",
+        (0, 0),
+    ),
+    // A pixel of weight 3 that is doubled 13 times, and once more, which would be too much.
+    (
+        "addto currentpicture contour (0,0)--(1,0)--(1,1)--(0,1)--cycle withweight 3\n\
+         addto currentpicture also currentpicture\n\
+         addto currentpicture also currentpicture\n\
+         addto currentpicture also currentpicture\n\
+         addto currentpicture also currentpicture\n\
+         addto currentpicture also currentpicture\n\
+         addto currentpicture also currentpicture\n\
+         addto currentpicture also currentpicture\n\
+         addto currentpicture also currentpicture\n\
+         addto currentpicture also currentpicture\n\
+         addto currentpicture also currentpicture\n\
+         addto currentpicture also currentpicture\n\
+         addto currentpicture also currentpicture\n\
+         addto currentpicture also currentpicture\n\
+         show totalweight currentpicture\n\
+         addto currentpicture also currentpicture\n\
+         show totalweight currentpicture\n",
+        "totalweight 24576\n\
+         refused WeightTooLarge\n\
+         totalweight 24576\n",
+        (14, 24_576),
     ),
     // Each register has its own picture.
     (
@@ -60,6 +86,7 @@ const SCRIPTS: &[Script] = &[
          blank\n\
          0 0 0 2\n\
          0 0 0 1\n",
+        (2, 1),
     ),
     // The blank picture is added, subtracted and shipped. Adding and subtracting it are operations, too.
     (
@@ -84,6 +111,7 @@ const SCRIPTS: &[Script] = &[
          published 2\n\
          [3]\n\
          blank\n",
+        (2, 0),
     ),
     // Culls, and weights as the characters of a grid.
     (
@@ -111,6 +139,7 @@ const SCRIPTS: &[Script] = &[
          0 1 2 2\n\
          b\n\
          0 0 0 1\n",
+        (0, 0),
     ),
     (
         "addto b contour (0,0)--(1,0)--(1,1)--(0,1)--cycle withweight 3\n\
@@ -124,12 +153,14 @@ const SCRIPTS: &[Script] = &[
         "+\n\
          -\n\
          blank\n",
+        (0, 0),
     ),
     (
         "addto a contour (0,0)--(1,0)--(1,1)--(0,1)--cycle\n\
          a := a xscaled 129\n\
          proof a\n",
         "refused ProofTooLarge\n",
+        (0, 0),
     ),
     // The pixel (0, 0) under transforms.
     (
@@ -137,12 +168,21 @@ const SCRIPTS: &[Script] = &[
          a := a xscaled -1\n\
          show a\n",
         "0 -1 -1 1\n",
+        (0, 0),
+    ),
+    (
+        "addto a contour (0,0)--(1,0)--(1,1)--(0,1)--cycle\n\
+         a := a xscaled -2\n\
+         show a\n",
+        "0 -2 -1 1\n",
+        (0, 0),
     ),
     (
         "addto a contour (0,0)--(1,0)--(1,1)--(0,1)--cycle\n\
          a := a yscaled -1\n\
          show a\n",
         "-1 0 0 1\n",
+        (0, 0),
     ),
     (
         "addto a contour (0,0)--(1,0)--(1,1)--(0,1)--cycle\n\
@@ -150,18 +190,35 @@ const SCRIPTS: &[Script] = &[
          show a\n",
         "1 0 1 1\n\
          0 0 1 1\n",
+        (0, 0),
     ),
     (
         "addto a contour (0,0)--(1,0)--(1,1)--(0,1)--cycle\n\
          a := a rotated 90\n\
          show a\n",
         "0 -1 -1 1\n",
+        (0, 0),
+    ),
+    (
+        "addto a contour (0,0)--(1,0)--(1,1)--(0,1)--cycle\n\
+         a := a rotated 180\n\
+         show a\n",
+        "-1 -1 -1 1\n",
+        (0, 0),
+    ),
+    (
+        "addto a contour (0,0)--(1,0)--(1,1)--(0,1)--cycle\n\
+         a := a rotated 270\n\
+         show a\n",
+        "-1 0 0 1\n",
+        (0, 0),
     ),
     (
         "addto a contour (0,0)--(1,0)--(1,1)--(0,1)--cycle\n\
          a := a shifted (2,-1)\n\
          show a\n",
         "-1 2 2 1\n",
+        (0, 0),
     ),
     (
         "addto a contour (0,0)--(1,0)--(1,1)--(0,1)--cycle\n\
@@ -169,6 +226,7 @@ const SCRIPTS: &[Script] = &[
          show a\n",
         "refused BadScale\n\
          0 0 0 1\n",
+        (0, 0),
     ),
     (
         "addto a contour (0,0)--(1,0)--(1,1)--(0,1)--cycle\n\
@@ -176,6 +234,7 @@ const SCRIPTS: &[Script] = &[
          show a\n",
         "refused BadTurn\n\
          0 0 0 1\n",
+        (0, 0),
     ),
     // Transforms at the ends of the field.
     (
@@ -187,6 +246,14 @@ const SCRIPTS: &[Script] = &[
         "refused OutOfField\n\
          0 4094 4094 1\n\
          0 -4095 -4095 1\n",
+        (0, 0),
+    ),
+    (
+        "addto b contour (0,0)--(1,0)--(1,1)--(0,1)--cycle\n\
+         b := b xscaled 4095\n\
+         show totalweight b\n",
+        "totalweight 4095\n",
+        (0, 0),
     ),
     // Publishing.
     (
@@ -195,6 +262,7 @@ const SCRIPTS: &[Script] = &[
          publish\n",
         "published 1\n\
          published 1\n",
+        (1, 1),
     ),
     // Operations on registers and refused operations are not counted.
     (
@@ -210,6 +278,7 @@ const SCRIPTS: &[Script] = &[
          refused Backtracks 0\n\
          refused OutOfField\n\
          published 3\n",
+        (3, 0),
     ),
     // A code may be shipped again. Shipping is not an operation.
     (
@@ -224,6 +293,7 @@ const SCRIPTS: &[Script] = &[
          [0]\n\
          [0]\n\
          published 1\n",
+        (1, 6),
     ),
     (
         "shipout a code255dx-999999999width999999999;\n\
@@ -238,5 +308,6 @@ const SCRIPTS: &[Script] = &[
          refused Syntax 16\n\
          refused Syntax 17\n\
          refused Syntax 22\n",
+        (0, 0),
     ),
 ];

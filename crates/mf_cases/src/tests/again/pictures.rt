@@ -79,8 +79,9 @@ fn copy_cycle(rt: &impl Abort, alloc: Global, cycle: &Cycle) -> Cycle {
     for _ in 0..TRIES {
         let copy = cycle.copy(alloc);
         assert_cycle(rt, cycle);
-        if let Ok(copy) = copy {
-            return copy;
+        match copy {
+            Ok(copy) => return copy,
+            Err(fault) => assert_same(rt, fault, OutOfMemory, "a cycle"),
         }
     }
     panic!(rt; "no cycle is copied")
@@ -91,8 +92,9 @@ fn copy_op(rt: &impl Abort, alloc: Global, op: &Op) -> Op {
     for _ in 0..TRIES {
         let copy = op.copy(alloc);
         assert_op(rt, op);
-        if let Ok(copy) = copy {
-            return copy;
+        match copy {
+            Ok(copy) => return copy,
+            Err(fault) => assert_same(rt, fault, OutOfMemory, "an operation"),
         }
     }
     panic!(rt; "no operation is copied")
@@ -102,8 +104,9 @@ fn copy_op(rt: &impl Abort, alloc: Global, op: &Op) -> Op {
 fn push(rt: &impl Abort, builder: &mut RowBuilder, run: Run) {
     for _ in 0..TRIES {
         assert!(rt; builder.fits(&run), "the run does not fit");
-        if builder.push_run(run).is_ok() {
-            return;
+        match builder.push_run(run) {
+            Ok(()) => return,
+            Err(fault) => assert_same(rt, fault, OutOfMemory, run),
         }
     }
     panic!(rt; "the run is not pushed")
@@ -116,8 +119,9 @@ fn picture_of(rt: &impl Abort, alloc: Global, runs: &[Run]) -> Picture {
         for run in runs {
             push(rt, &mut builder, *run);
         }
-        if let Ok(picture) = builder.finish() {
-            return picture;
+        match builder.finish() {
+            Ok(picture) => return picture,
+            Err(fault) => assert_same(rt, fault, OutOfMemory, runs),
         }
     }
     panic!(rt; "no picture is built")

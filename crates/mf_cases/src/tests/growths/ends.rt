@@ -6,6 +6,7 @@ use super::{
 };
 use crate::tests::assertions::assert_same;
 use crate::tests::sessions::{finish, perform};
+use mf_base::OutOfMemory;
 use mf_desk::{EndFault, Session};
 use mf_gf::{GfFault, GfFile};
 use mf_live::{Desk, Ended, Viewer};
@@ -188,8 +189,9 @@ fn assert_allocate_nothing<R: Abort + Wait>(rt: &R, alloc: Global) {
     let count = count_without_text(rt, alloc, &mut session, NOT_ALLOCATING);
     grow_again(alloc);
     assert_same(rt, count, NOT_ALLOCATING.len(), "lines that take no memory");
-    if let Ok(text) = shown {
-        assert_same(rt, text.as_slice(), STATE.a.as_bytes(), "show a");
+    match shown {
+        Ok(text) => assert_same(rt, text.as_slice(), STATE.a.as_bytes(), "show a"),
+        Err(fault) => assert_same(rt, fault, OutOfMemory, "show a"),
     }
     let viewer = assert_state(rt, alloc, (&mut session, viewer), &CLEARED);
     assert_goes_on_from(rt, alloc, (session, viewer), &CLEARED);

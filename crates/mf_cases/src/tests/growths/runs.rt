@@ -45,6 +45,13 @@ const COMMANDS: &Case = &Case {
     ],
 };
 
+/// A rectangle and its total weight.
+const RECTANGLE: &Case = &Case {
+    script: b"addto currentpicture contour (0,0)--(3,0)--(3,2)--(0,2)--cycle\n\
+              show totalweight currentpicture\n",
+    texts: &["totalweight 6\n"],
+};
+
 /// Lines that ship nothing. The last one prints, and has no line feed.
 const SHOWS: &Case = &Case {
     script: b"show a\n\
@@ -137,4 +144,10 @@ fn script_is_read_byte_by_byte(rt: HostRuntime) {
 #[test]
 fn script_ships_nothing(rt: HostRuntime) {
     assert_runs_to_its_end(&rt, SHOWS, false, None);
+}
+
+#[test]
+fn rectangle_is_filled(rt: HostRuntime) {
+    assert_runs_to_its_end(&rt, RECTANGLE, false, None);
+    assert_runs_to_its_end(&rt, RECTANGLE, true, None);
 }

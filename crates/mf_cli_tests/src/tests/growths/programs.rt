@@ -2,9 +2,8 @@
 
 use crate::tests::assertions::{assert_holds, assert_same};
 use crate::tests::font_files::{KEPT, assert_file, path_of, put, remove};
-use crate::tests::{End, USAGE, assert_ends};
+use crate::tests::{BAD_WORDS, DONE, End, USAGE, WANTING, assert_ends};
 use mf_cli::program;
-use mf_options::{BAD_WORDS, DONE, WANTING};
 use mf_testing::{
     Pieces, RECT_FILE, Remembers, Sink, count_of_texts, grow_again, refuse_growths, words_of,
 };

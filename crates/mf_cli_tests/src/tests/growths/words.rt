@@ -46,6 +46,11 @@ fn no_words_are_read(rt: HostRuntime) {
 }
 
 #[test]
+fn the_number_of_viewers_is_read(rt: HostRuntime) {
+    assert_reads_while_refused(&rt, &["--viewers", "16"], 16, None);
+}
+
+#[test]
 fn words_for_both_are_read(rt: HostRuntime) {
     let words = ["--viewers", "16", "--gf", "größe π.gf"];
     assert_reads_while_refused(&rt, &words, 16, Some("größe π.gf"));
