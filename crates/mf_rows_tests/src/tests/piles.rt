@@ -45,7 +45,7 @@ const AREA: [Rectangle; 1] = [Rectangle {
     left: -24,
     bottom: -24,
     right: 284,
-    top: 20,
+    top: 24,
     weight: 0,
 }];
 
@@ -96,6 +96,20 @@ impl Drawing {
         let mut drawing = Drawing::blank(rt);
         for comb in combs {
             drawing.draw(rt, comb);
+        }
+        drawing
+    }
+
+    /// A picture that is to be the sum of these combs.
+    pub(crate) fn with_combs<R: Abort + AllocGlobal>(
+        rt: &R,
+        picture: Picture,
+        combs: &[Comb],
+    ) -> Drawing {
+        let mut drawing = Drawing::blank(rt);
+        drawing.picture = picture;
+        for comb in combs {
+            drawing.note(rt, comb);
         }
         drawing
     }
@@ -257,6 +271,29 @@ pub(crate) const APART: [Comb; 5] = [
     comb_of!(0, 4, 10, -2, -1, -1),
     comb_of!(3, 1, 4, 18, 19, 3),
     comb_of!(-9, 1, 3, -22, -21, -2),
+];
+
+/// The sum of `APART` in which weights 1 and 2 become 3, and all others 0. In rows -2 to 0 the even columns have weight 1 at first.
+/// Rows -2 and -1 have 2 more in columns 1, 4, 7 and so on to 43, and row -2 has 1 less in columns 0, 4, 8 and so on to 36. So all odd
+/// ones of these columns have weight 2. Of the even ones, columns 4, 10, 16 and so on to 40 of row -1 have weight 3, and so have 10, 22,
+/// 34 and 40 of row -2, whose columns 0, 8, 12, 20, 24, 32 and 36 have weight 0. The rows above and below have no weight 1 or 2.
+pub(crate) const APART_CHOSEN: [Comb; 7] = [
+    comb_of!(0, 2, 120, -2, 1, 3),
+    comb_of!(1, 6, 8, -2, 0, 3),
+    comb_of!(4, 6, 7, -1, 0, -3),
+    comb_of!(10, 12, 3, -2, -1, -3),
+    comb_of!(40, 1, 1, -2, -1, -3),
+    comb_of!(0, 12, 4, -2, -1, -3),
+    comb_of!(8, 12, 3, -2, -1, -3),
+];
+
+/// The sum of `APART` with its rows mirrored: row y becomes row -1 - y.
+pub(crate) const APART_MIRRORED: [Comb; 5] = [
+    comb_of!(0, 2, 120, -1, 2, 1),
+    comb_of!(1, 3, 15, 0, 2, 2),
+    comb_of!(0, 4, 10, 1, 2, -1),
+    comb_of!(3, 1, 4, -19, -18, 3),
+    comb_of!(-9, 1, 3, 21, 22, -2),
 ];
 
 /// Long rows and contours apart from them with 180 edges, so many that the next contour finds too little room.

@@ -1,6 +1,7 @@
 //! Builders of pictures in which allocations fail.
 
 use super::APART;
+use crate::tests::assertions::assert_same;
 use crate::tests::runs::assert_fits;
 use crate::tests::{assert_runs, assert_weights, builder_of, expect_picture, push_all};
 use mf_base::OutOfMemory;
@@ -103,17 +104,35 @@ const TOUCHING: Push = Push {
     ],
 };
 
-/// Pushes a run, which must fit, while allocations fail.
-fn push_while_refused<R: Abort + AllocGlobal>(
+/// Two rows of three pixels.
+const RECTANGLE: &[Run] = &[run_of!(1, 0, 3, 1), run_of!(0, 0, 3, 1)];
+
+/// The lower one of these rows. After it no run of the upper one fits.
+const LOWER_ROW: Push = Push {
+    before: &[run_of!(1, 0, 3, 1)],
+    run: run_of!(0, 0, 3, 1),
+    after: &[],
+    fitting: &[run_of!(0, 0, 3, 1), run_of!(1, 5, 1, 1)],
+    others: &[run_of!(1, 2, 1, 1), run_of!(2, 0, 1, 1)],
+    all: RECTANGLE,
+};
+
+/// Pushes a run, which must fit, while allocations fail. Returns whether it was pushed, and asserts that it was refused with
+/// `OutOfMemory` where it was not.
+fn is_pushed_while_refused<R: Abort + AllocGlobal>(
     rt: &R,
     builder: &mut RowBuilder,
     run: Run,
-) -> Result<(), OutOfMemory> {
+) -> bool {
     assert!(rt; builder.fits(&run), "{run:?} does not fit");
     refuse_growths(rt.alloc());
     let pushed = builder.push_run(run);
     grow_again(rt.alloc());
-    pushed
+    if let Err(fault) = pushed {
+        assert_same(rt, fault, OutOfMemory, run);
+        return false;
+    }
+    true
 }
 
 /// Asserts that the same runs fit a builder as before the push.
@@ -127,7 +146,7 @@ fn assert_fits_as_before(rt: &impl Abort, builder: &RowBuilder, push: &Push) {
 fn assert_pushed<R: Abort + AllocGlobal>(rt: &R, push: &Push) {
     let mut builder = builder_of(rt, push.before);
     assert_fits_as_before(rt, &builder, push);
-    if push_while_refused(rt, &mut builder, push.run).is_err() {
+    if !is_pushed_while_refused(rt, &mut builder, push.run) {
         assert_fits_as_before(rt, &builder, push);
         push_all(rt, &mut builder, &[push.run]);
     }
@@ -139,9 +158,10 @@ fn assert_pushed<R: Abort + AllocGlobal>(rt: &R, push: &Push) {
 /// would be in no run, but would show in the weight of the run's pixels.
 fn assert_left_out<R: Abort + AllocGlobal>(rt: &R, push: &Push) {
     let mut builder = builder_of(rt, push.before);
-    let (runs, weight) = match push_while_refused(rt, &mut builder, push.run) {
-        Ok(()) => (push.all, push.run.weight),
-        Err(_) => (push.before, 0),
+    let (runs, weight) = if is_pushed_while_refused(rt, &mut builder, push.run) {
+        (push.all, push.run.weight)
+    } else {
+        (push.before, 0)
     };
     let picture = expect_picture(rt, builder.finish());
     assert_runs(rt, &picture, runs);
@@ -151,6 +171,11 @@ fn assert_left_out<R: Abort + AllocGlobal>(rt: &R, push: &Push) {
 #[test]
 fn a_first_run_is_pushed(rt: HostRuntime) {
     assert_pushed(&rt, &FIRST);
+}
+
+#[test]
+fn a_run_of_a_second_row_is_pushed(rt: HostRuntime) {
+    assert_pushed(&rt, &LOWER_ROW);
 }
 
 #[test]
@@ -192,8 +217,19 @@ fn assert_finished<R: Abort + AllocGlobal>(rt: &R, runs: &[Run]) {
     refuse_growths(rt.alloc());
     let picture = builder.finish();
     grow_again(rt.alloc());
-    let picture = picture.or_else(|_| builder_of(rt, runs).finish());
-    assert_runs(rt, &expect_picture(rt, picture), runs);
+    let picture = match picture {
+        Ok(picture) => picture,
+        Err(fault) => {
+            assert_same(rt, fault, OutOfMemory, "the end");
+            expect_picture(rt, builder_of(rt, runs).finish())
+        }
+    };
+    assert_runs(rt, &picture, runs);
+}
+
+#[test]
+fn a_rectangle_is_finished(rt: HostRuntime) {
+    assert_finished(&rt, RECTANGLE);
 }
 
 #[test]

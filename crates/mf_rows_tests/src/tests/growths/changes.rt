@@ -1,9 +1,11 @@
 //! Copies of pictures, and pictures that are made from one, in which allocations fail.
 
 use super::APART;
+use crate::tests::assertions::assert_same;
 use crate::tests::derived::Derived;
 use crate::tests::moves::assert_stays_inside;
 use crate::tests::{assert_runs, expect_picture, picture_of};
+use mf_base::OutOfMemory;
 use mf_edges::Stretch;
 use mf_rows::Run;
 use mf_testing::{grow_again, refuse_growths};
@@ -16,7 +18,13 @@ fn assert_makes<R: Abort + AllocGlobal>(rt: &R, what: Derived, runs: &[Run]) {
     let new = what.of(rt.alloc(), &picture);
     grow_again(rt.alloc());
     assert_runs(rt, &picture, APART);
-    let new = expect_picture(rt, new.or_else(|_| what.of(rt.alloc(), &picture)));
+    let new = match new {
+        Ok(new) => new,
+        Err(fault) => {
+            assert_same(rt, fault, OutOfMemory, what);
+            expect_picture(rt, what.of(rt.alloc(), &picture))
+        }
+    };
     assert_runs(rt, &new, runs);
     assert_runs(rt, &picture, APART);
 }
@@ -98,7 +106,10 @@ fn assert_stretches<R: Abort + AllocGlobal>(
     assert_runs(rt, &picture, APART);
     let new = match new {
         Ok(new) => new,
-        Err(_) => expect_picture(rt, picture.stretch(rt.alloc(), columns, rows)),
+        Err(fault) => {
+            assert_same(rt, fault, OutOfMemory, "the stretch");
+            expect_picture(rt, picture.stretch(rt.alloc(), columns, rows))
+        }
     };
     assert_runs(rt, &new, runs);
     assert_runs(rt, &picture, APART);

@@ -2,8 +2,11 @@
 
 use crate::tests::assertions::{assert_holds, assert_same};
 use crate::tests::derived::Derived;
-use crate::tests::piles::{APART, Comb, Drawing, LAST, MANY_APART, OTHERS};
-use crate::tests::{assert_equality, expect_picture};
+use crate::tests::expect_picture;
+use crate::tests::piles::{
+    APART, APART_CHOSEN, APART_MIRRORED, Comb, Drawing, LAST, MANY_APART, OTHERS,
+};
+use mf_base::OutOfMemory;
 use mf_rows::AddFault;
 use mf_testing::{grow_again, refuse_growths};
 use std::process::Abort;
@@ -74,30 +77,36 @@ fn pictures_with_contours_apart_are_added(rt: HostRuntime) {
     assert_combs_added(&rt, &APART, &OTHERS);
 }
 
-/// Asserts what is made from a picture with contours apart while allocations fail, and that this one stays as it is.
-fn assert_makes_apart<R: Abort + AllocGlobal>(rt: &R, what: Derived) {
+/// Asserts that what is made from a picture with contours apart while allocations fail is the sum of these combs, and that this
+/// one stays as it is.
+fn assert_makes_apart<R: Abort + AllocGlobal>(rt: &R, what: Derived, combs: &[Comb]) {
     let drawing = Drawing::of(rt, &APART);
-    let expected = expect_picture(rt, what.of(rt.alloc(), &drawing.picture_of_runs(rt)));
     refuse_growths(rt.alloc());
     let new = what.of(rt.alloc(), &drawing.picture);
     grow_again(rt.alloc());
     drawing.assert_answers(rt, 0);
-    let new = expect_picture(rt, new.or_else(|_| what.of(rt.alloc(), &drawing.picture)));
-    assert_equality(rt, &new, &expected, true, what);
-    drawing.assert_answers(rt, 1);
+    let new = match new {
+        Ok(new) => new,
+        Err(fault) => {
+            assert_same(rt, fault, OutOfMemory, what);
+            expect_picture(rt, what.of(rt.alloc(), &drawing.picture))
+        }
+    };
+    Drawing::with_combs(rt, new, combs).assert_answers(rt, 1);
+    drawing.assert_answers(rt, 2);
 }
 
 #[test]
 fn a_picture_with_contours_apart_is_copied(rt: HostRuntime) {
-    assert_makes_apart(&rt, Derived::Copy);
+    assert_makes_apart(&rt, Derived::Copy, &APART);
 }
 
 #[test]
 fn weights_with_contours_apart_are_chosen(rt: HostRuntime) {
-    assert_makes_apart(&rt, Derived::Chosen);
+    assert_makes_apart(&rt, Derived::Chosen, &APART_CHOSEN);
 }
 
 #[test]
 fn contours_apart_are_mirrored(rt: HostRuntime) {
-    assert_makes_apart(&rt, Derived::RowsMirrored);
+    assert_makes_apart(&rt, Derived::RowsMirrored, &APART_MIRRORED);
 }
