@@ -1,7 +1,7 @@
 #!/bin/bash
 # Tests the exit statuses and messages of the programs where they fail: words that it does not know, a word that is not UTF-8, a
-# folder as its script, an output that is full or closed, a font file without a character, one that cannot be created or written, and
-# an image that would be too large. After a fault of the words or of the script, or in a terminal that is too small, a file that was
+# folder as its script, an output that is full or closed, a font file without a character, one that cannot be created or written,
+# memory or threads that are wanting, and an image that would be too large. After a fault of the words or of the script, or in a terminal that is too small, a file that was
 # there before is there as it was. And `--pause` makes a script rest.
 set -u
 cd "$(dirname "$0")/.."
@@ -47,6 +47,27 @@ ends_with 2 'usage: mfpic [--viewers 0..16] [--gf FILE]' ./mfpic $'\xff'
 ends_with 3 'mfpic: ReadFault' bash -c './mfpic < /'
 ends_with 3 'mfpic: WriteFault' bash -c './mfpic < examples/rectangle.mfp > /dev/full'
 ends_with 3 'mfpic: NoCharacters' bash -c './mfpic --gf /dev/null < examples/rectangle.mfp'
+
+# Doubles a row of 1,024 pixels with gaps between them, upwards and to the right, until there are 2,048 rows, all of them different.
+doublings() {
+    local size
+    echo 'addto a contour (0,0)--(1,0)--(1,1)--(0,1)--cycle'
+    for ((size = 2; size < 2048; size *= 2)); do
+        printf '%s\n' 'b := nullpicture' 'addto b also a' "b := b shifted ($size,0)" 'addto a also b'
+    done
+    for ((size = 1; size < 2048; size *= 2)); do
+        printf '%s\n' 'b := nullpicture' 'addto b also a' "b := b shifted ($size,$size)" 'addto a also b'
+    done
+    echo 'shipout a code 65 dx 0 width 0'
+}
+
+# These rows take about 40 MB, so with 20 MB memory is wanting. A thread with a stack of 2 GB does not fit into 1 GB.
+doublings > "$folder/doublings.mfp"
+export DOUBLINGS=$folder/doublings.mfp
+ends_with 0 '' bash -c 'crates/mfpic/out/mfpic < "$DOUBLINGS"'
+keeps_font /dev/null 4 'mfpic: OutOfMemory' 'ulimit -v 20000; crates/mfpic/out/mfpic --gf "$FONT" < "$DOUBLINGS"'
+viewed='ulimit -s 2000000; ulimit -v 1000000; crates/mfpic/out/mfpic --viewers 2 --gf "$FONT" < examples/font.mfp'
+keeps_font /dev/null 4 'mfpic: NoPlace' "$viewed"
 
 ends_with 0 '' bash -c './mfpic --gf "$FONT" < examples/font.mfp'
 cmp "$FONT" examples/font.gf || fails 'another font file'

@@ -11,7 +11,8 @@ refusal.
 A run must exit by itself, as docs/user/PROGRAM.md says of `OutOfMemory`: with status 4 and one message, after printing what the
 lines before the refused allocation print, and with the old font file untouched. Or it does what it does with ample memory, if
 nothing depends on that one allocation: one for the points of a line that is refused as `Syntax` or `TooManyPoints`, one that
-would give back spare room, or one for a guess at what refused words mean.
+would give back spare room, or one for a guess at what refused words mean. Beside viewers the message may be `NoPlace`, before
+anything is read, and in some run it must be: where no thread starts. It is never `NoLook`, since a look does not allocate.
 
 Tests are run in the same way, by the programs of tests that `rt ci` has built (crates/NAME/out/NAME_tests), and must pass. Tests
 in modules `growths` make one call while allocations are refused, check what is left after it, and make the call again. In these
@@ -70,6 +71,8 @@ LONG = b"%" + 70_000 * b"x" + b"\nshow a\naddto a contour " + 4097 * b"(1,1)--" 
 
 # What the first lines of a script print, for each number of lines.
 Texts = list[bytes]
+# The messages of a refused allocation.
+OUT_OF_MEMORY, NO_PLACE = b"mfpic: OutOfMemory\n", b"mfpic: NoPlace\n"
 
 
 class Fault(Exception):
@@ -85,6 +88,11 @@ def wrong_with_ample_memory(case: Case, ample: Answer) -> str | None:
     return None
 
 
+def has_viewers(case: Case) -> bool:
+    """Whether viewers look on."""
+    return case.status != 2 and "--viewers" in " ".join(case.words)
+
+
 def wrong(case: Case, texts: Texts, ample: Answer, answer: Answer) -> str | None:
     """What is wrong with a run to which memory was refused, if anything is. `texts` has what the first lines print."""
     if answer == ample:
@@ -96,10 +104,9 @@ def wrong(case: Case, texts: Texts, ample: Answer, answer: Answer) -> str | None
     lines = ample.out[len(texts[-1]) :].splitlines(keepends=True)
     ended = [texts[-1] + b"".join(lines[:shown]) for shown in range(len(lines) + 1)]
     at_end = ended if answer.taken == len(case.script) else []
-    may_be = {b"mfpic: OutOfMemory\n": ready + at_end}
-    if "--viewers" in " ".join(case.words):
-        may_be[b"mfpic: NoPlace\n"] = [b""] if answer.taken == 0 else []
-        may_be[b"mfpic: NoLook\n"] = at_end
+    may_be = {OUT_OF_MEMORY: ready + at_end}
+    if has_viewers(case):
+        may_be[NO_PLACE] = [b""] if answer.taken == 0 else []
     if answer.message not in may_be:
         return "the message is not one of a refused allocation"
     return None if answer.out in may_be[answer.message] else "the output is not what the lines before print"
@@ -110,7 +117,7 @@ def try_case(runner: Runner, case: Case) -> str:
     lines = case.script.splitlines(keepends=True)
     fronts = [b"".join(lines[:count]) for count in range(len(lines) + 1)]
     texts = [runner.run(dataclasses.replace(case, words=(), script=front)).out for front in fronts]
-    ample, traceless = runner.run(case), 0
+    ample, traceless, messages = runner.run(case), 0, set()
     if fault := wrong_with_ample_memory(case, ample):
         raise Fault(f"{case}\n{ample}\n{fault}")
     for and_later in (False, True):
@@ -128,6 +135,9 @@ def try_case(runner: Runner, case: Case) -> str:
             if answer.refused == 0:
                 break
             traceless += answer == ample
+            messages.add(answer.message)
+    if missing := {OUT_OF_MEMORY, *([NO_PLACE] if has_viewers(case) else [])} - messages:
+        raise Fault(f"{case}\nno run ends with {missing}")
     return f"{case.about} {' '.join(case.words)}: {growth - 1} allocations, {traceless} of them not needed"
 
 
