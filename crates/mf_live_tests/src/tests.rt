@@ -15,7 +15,7 @@ mod writing;
 
 use assertions::{assert_holds, assert_same};
 use mf_geom::{Cycle, Point};
-use mf_live::{CloseFault, Desk, Ended, Notice, Viewer, Writer, open_picture};
+use mf_live::{CloseFault, Desk, Ended, NoPlace, Notice, Viewer, Writer, open_picture};
 use mf_ops::{Check, Op, Weight};
 use mf_rows::{Picture, RowBuilder, Run};
 use std::alloc::{AllocError, Global};
@@ -112,8 +112,10 @@ pub(crate) fn take_viewer(rt: &impl Abort, desk: &mut Desk) -> Viewer
 }
 
 /// Asserts that no viewer is left.
-pub(crate) fn assert_no_place(rt: &impl Abort, desk: &mut Desk) {
-    assert_holds(rt, desk.viewer().is_err(), "no place is left");
+pub(crate) fn assert_no_place(rt: &impl Abort, desk: &mut Desk)
+    ensures { desk_identity desk.new ≡ desk_identity desk.old }
+{
+    assert_same(rt, desk.viewer().err(), Some(NoPlace), "a viewer");
 }
 
 /// A copy of the working picture.
@@ -183,6 +185,11 @@ pub(crate) fn assert_working(rt: &impl Abort, writer: &Writer, pending: u32, tot
     );
 }
 
+/// Asserts that a picture is blank.
+pub(crate) fn assert_blank(rt: &impl Abort, alloc: Global, picture: &Picture, case: &'static str) {
+    assert_holds(rt, picture.equal(&Picture::blank(alloc)), case);
+}
+
 /// Asserts that a picture has exactly these runs.
 pub(crate) fn assert_runs(rt: &impl Abort, picture: &Picture, runs: &[Pixels], case: &'static str) {
     let mut found = picture.runs();
@@ -200,6 +207,25 @@ pub(crate) fn assert_sees(rt: &impl Abort, viewer: Viewer, revision: u32, runs: 
         Ok(look) => {
             assert_same(rt, look.revision(), revision, "the revision of a look");
             assert_runs(rt, look.picture(), runs, "the runs of a look");
+            look.leave()
+        }
+        Err(_) => panic!(rt; "the look is not answered"),
+    }
+}
+
+/// Asserts that a look shows this many operations, and a blank picture.
+pub(crate) fn assert_shows_blank(
+    rt: &impl Abort,
+    alloc: Global,
+    viewer: Viewer,
+    revision: u32,
+) -> Viewer
+    ensures { viewers.identity result ≡ viewers.identity viewer }
+{
+    match viewer.look() {
+        Ok(look) => {
+            assert_same(rt, look.revision(), revision, "the revision of a look");
+            assert_blank(rt, alloc, look.picture(), "a look is blank");
             look.leave()
         }
         Err(_) => panic!(rt; "the look is not answered"),

@@ -1,8 +1,8 @@
 //! Pictures that are closed or discarded.
 
 use super::{
-    RECT_RUNS, assert_sees, assert_shows, assert_tells, close, fill, open, publish_rectangle,
-    take_viewer,
+    RECT_RUNS, assert_sees, assert_shows, assert_shows_blank, assert_tells, close, fill, open,
+    publish_rectangle, take_viewer,
 };
 use crate::tests::assertions::assert_holds;
 use mf_live::{SheetFault, Viewer};
@@ -35,7 +35,7 @@ fn shows_the_end_of_a_picture_that_nothing_changed(rt: HostRuntime) {
     let notice = ended.notice();
     assert_tells(&rt, &notice, 0);
     viewer.learn(notice);
-    assert_sees(&rt, viewer, 0, &[]);
+    assert_shows_blank(&rt, alloc, viewer, 0);
     ended.discard(&rt);
 }
 

@@ -1,10 +1,13 @@
 //! What looks show, and what notices say.
 
-ghost use Rattle.std.specs.Prelude.{◌≤◌};
+ghost use Rattle.std.specs.Prelude.{◌≡◌, ◌≤◌};
+ghost use Rattle.mf_live.specs.Viewers as viewers;
+ghost use Rattle.mf_live.specs.Writers as writers;
 
 use super::{
-    Pixels, RECT, RECT_RUNS, apply, assert_no_place, assert_sees, assert_shows, assert_tells,
-    assert_working, close, contour, fill, open, publish, publish_rectangle, take_viewer,
+    Pixels, RECT, RECT_RUNS, apply, assert_no_place, assert_sees, assert_shows, assert_shows_blank,
+    assert_tells, assert_working, close, contour, fill, open, publish, publish_rectangle,
+    take_viewer,
 };
 use crate::tests::assertions::assert_same;
 use mf_live::{Desk, Viewer, Writer, open_picture};
@@ -39,19 +42,34 @@ fn both_operations_are_shown_at_once(rt: HostRuntime) -> Result<(), Fail> {
     Ok(())
 }
 
+/// Fills the rectangle in a blank picture, and publishes it. Asserts that a viewer of that picture sees nothing of it until then,
+/// and all of it from then on, before it has learnt of the publish and after that.
+pub(crate) fn assert_publish_is_shown<R: Abort + Wait>(
+    rt: &R,
+    alloc: Global,
+    writer: &mut Writer,
+    viewer: Viewer,
+) -> Viewer
+    requires { viewers.identity viewer ≡ writers.identity writer.old }
+    ensures viewer { viewers.identity result ≡ viewers.identity viewer }
+    ensures writer { writers.identity writer.new ≡ writers.identity writer.old }
+{
+    let viewer = assert_shows_blank(rt, alloc, viewer, 0);
+    fill(rt, alloc, writer);
+    let viewer = assert_shows_blank(rt, alloc, viewer, 0);
+    publish(rt, writer);
+    let mut viewer = assert_shows(rt, viewer, 1, 6);
+    viewer.learn(writer.tell());
+    let viewer = assert_shows(rt, viewer, 1, 6);
+    assert_shows(rt, viewer, 1, 6)
+}
+
 #[test]
 fn shows_what_is_published(rt: HostRuntime) {
     let alloc = rt.alloc();
     let (mut writer, mut desk) = open(&rt, alloc, 1, 10);
     let viewer = take_viewer(&rt, &mut desk);
-    let viewer = assert_shows(&rt, viewer, 0, 0);
-    fill(&rt, alloc, &mut writer);
-    let viewer = assert_shows(&rt, viewer, 0, 0);
-    publish(&rt, &mut writer);
-    let mut viewer = assert_shows(&rt, viewer, 1, 6);
-    viewer.learn(writer.tell());
-    let viewer = assert_shows(&rt, viewer, 1, 6);
-    assert_shows(&rt, viewer, 1, 6);
+    assert_publish_is_shown(&rt, alloc, &mut writer, viewer);
     writer.discard(&rt);
 }
 
@@ -65,7 +83,7 @@ fn each_desk_has_its_own_picture(rt: HostRuntime) {
     let there = take_viewer(&rt, &mut second_desk);
     publish_rectangle(&rt, alloc, &mut first);
     assert_shows(&rt, here, 1, 6);
-    assert_shows(&rt, there, 0, 0);
+    assert_shows_blank(&rt, alloc, there, 0);
     first.discard(&rt);
     second.discard(&rt);
 }

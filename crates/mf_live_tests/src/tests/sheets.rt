@@ -2,8 +2,9 @@
 ghost use Rattle.std.specs.Prelude.{◌≡◌};
 ghost use Rattle.mf_live.specs.Viewers.{identity};
 
+use super::looking::assert_publish_is_shown;
 use super::{
-    Pixels, apply, assert_shows, open, publish, publish_rectangle, push, run_of, take_viewer,
+    Pixels, apply, assert_blank, assert_shows_blank, open, publish, push, run_of, take_viewer,
 };
 use crate::tests::assertions::assert_same;
 use mf_live::{Sheet, Viewer};
@@ -19,25 +20,28 @@ pub(crate) fn take(rt: &impl Abort, alloc: Global, viewer: &mut Viewer) -> Sheet
     viewer.sheet(alloc).expect(rt, "there is room for a sheet")
 }
 
+/// Asserts that a sheet has this many operations, and a picture of this total weight.
 fn assert_sheet(rt: &impl Abort, sheet: &Sheet, revision: u32, total: i64) {
     let found = (sheet.revision(), sheet.picture().total());
     assert_same(rt, found, (revision, total), "the sheet");
 }
 
+/// A sheet shows what is published, whether the viewer has learnt of it or not, and it stays when something else is published.
 #[test]
 fn sheets_stay(rt: HostRuntime) {
     let alloc = rt.alloc();
     let (mut writer, mut desk) = open(&rt, alloc, 1, 10);
-    let mut viewer = take_viewer(&rt, &mut desk);
-    publish_rectangle(&rt, alloc, &mut writer);
+    let viewer = take_viewer(&rt, &mut desk);
+    let mut viewer = assert_publish_is_shown(&rt, alloc, &mut writer, viewer);
     let first = take(&rt, alloc, &mut viewer);
     assert_sheet(&rt, &first, 1, 6);
     apply(&rt, alloc, &mut writer, Op::Clear);
     publish(&rt, &mut writer);
     let second = take(&rt, alloc, &mut viewer);
     assert_sheet(&rt, &second, 2, 0);
+    assert_blank(&rt, alloc, second.picture(), "the second sheet is blank");
     viewer.learn(writer.tell());
-    assert_shows(&rt, viewer, 2, 0);
+    assert_shows_blank(&rt, alloc, viewer, 2);
     assert_sheet(&rt, &first, 1, 6);
     writer.discard(&rt);
 }

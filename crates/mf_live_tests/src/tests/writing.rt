@@ -1,8 +1,8 @@
 //! What a writer does, and what is refused.
 
 use super::{
-    UNIT, apply, assert_tells, assert_working, close, contour, copy_working, fill, open, publish,
-    unchecked_contour,
+    UNIT, apply, assert_blank, assert_no_place, assert_tells, assert_working, close, contour,
+    copy_working, fill, open, publish, take_viewer, unchecked_contour,
 };
 use crate::tests::assertions::{assert_holds, assert_same};
 use mf_geom::CycleFault;
@@ -17,8 +17,8 @@ fn double(rt: &impl Abort, alloc: Global, writer: &mut Writer) {
     apply(rt, alloc, writer, Op::Also(copy, Sign::Plus));
 }
 
-/// Asserts that no more operations are accepted.
-fn assert_full(rt: &impl Abort, alloc: Global, writer: &mut Writer) {
+/// Asserts that no more operations are accepted: a clear is handed back.
+pub(crate) fn assert_full(rt: &impl Abort, alloc: Global, writer: &mut Writer) {
     let refused = writer.apply(alloc, Op::Clear);
     let too_many = matches!(&refused, Err((Op::Clear, Fault::TooManyOperations)));
     assert_holds(rt, too_many, "no more operations are accepted");
@@ -27,7 +27,7 @@ fn assert_full(rt: &impl Abort, alloc: Global, writer: &mut Writer) {
 #[test]
 fn accepts_operations_up_to_the_limit(rt: HostRuntime) {
     let alloc = rt.alloc();
-    let (mut writer, _desk) = open(&rt, alloc, 1, 2);
+    let (mut writer, mut desk) = open(&rt, alloc, 1, 2);
     fill(&rt, alloc, &mut writer);
     double(&rt, alloc, &mut writer);
     assert_working(&rt, &writer, 2, 12);
@@ -42,6 +42,9 @@ fn accepts_operations_up_to_the_limit(rt: HostRuntime) {
     assert_working(&rt, &writer, 0, 12);
     assert_tells(&rt, &writer.tell(), 2);
 
+    let _viewer = take_viewer(&rt, &mut desk);
+    assert_no_place(&rt, &mut desk);
+
     let mut ended = close(&rt, writer);
     assert_tells(&rt, &ended.notice(), 2);
     ended.discard(&rt);
@@ -53,6 +56,7 @@ fn accepts_no_operation(rt: HostRuntime) {
     let (mut writer, _desk) = open(&rt, alloc, 1, 0);
     assert_full(&rt, alloc, &mut writer);
     assert_working(&rt, &writer, 0, 0);
+    assert_blank(&rt, alloc, writer.working(), "nothing is accepted");
     let mut ended = close(&rt, writer);
     assert_tells(&rt, &ended.notice(), 0);
     ended.discard(&rt);
@@ -143,6 +147,7 @@ fn counts_contours_that_change_no_pixel(rt: HostRuntime) {
             unchecked_contour(&rt, alloc, THERE_AND_BACK, 1),
         );
         assert_working(&rt, &writer, pending, 0);
+        assert_blank(&rt, alloc, writer.working(), "no pixel is changed");
     }
     // The limit of operations comes before the turning check.
     assert_refuses_a_contour(&rt, alloc, &mut writer, Fault::TooManyOperations);
