@@ -2,10 +2,13 @@
 //! refuses each allocation of this one in turn.
 
 use super::{
-    RECT, assert_shows, assert_tells, assert_working, contour_through, points, take_viewer,
+    RECT, assert_shows, assert_shows_blank, assert_tells, assert_working, contour_through, points,
+    take_viewer,
 };
 use crate::tests::assertions::assert_same;
-use mf_live::{CloseFault, Closing, Desk, Ended, Fault, SheetFault, Viewer, Writer, open_picture};
+use mf_live::{
+    CloseFault, Closing, Desk, Ended, Fault, OutOfMemory, SheetFault, Viewer, Writer, open_picture,
+};
 use mf_ops::{Check, Op, OpFault, Sign};
 use mf_rows::Picture;
 use std::alloc::Global;
@@ -18,8 +21,9 @@ const TRIES: u32 = 2;
 /// The writer of a picture of at most 10 operations, and a desk of at most 2 viewers.
 fn open_in_tries<R: Abort + Wait>(rt: &R, alloc: Global) -> (Writer, Desk) {
     for _ in 0..TRIES {
-        if let Ok(opened) = open_picture(rt, alloc, 2, 10) {
-            return opened;
+        match open_picture(rt, alloc, 2, 10) {
+            Ok(opened) => return opened,
+            Err(fault) => assert_same(rt, fault, OutOfMemory, "a new picture"),
         }
     }
     panic!(rt; "no picture is opened")
@@ -38,18 +42,24 @@ fn rectangle_in_tries(rt: &impl Abort, alloc: Global) -> Op {
 /// A copy of a picture.
 fn copy_in_tries(rt: &impl Abort, alloc: Global, picture: &Picture) -> Picture {
     for _ in 0..TRIES {
-        if let Ok(copy) = picture.copy(alloc) {
-            return copy;
+        match picture.copy(alloc) {
+            Ok(copy) => return copy,
+            Err(fault) => assert_same(rt, fault, OutOfMemory, "the copy"),
         }
     }
     panic!(rt; "no picture is copied")
 }
 
-/// Applies an operation. A refused one leaves the picture as it was.
-fn apply_in_tries(rt: &impl Abort, alloc: Global, writer: &mut Writer, op: Op) {
+/// Applies an operation. Until it is accepted this many operations are pending, and the working picture has this total weight.
+fn apply_in_tries(
+    rt: &impl Abort,
+    alloc: Global,
+    writer: &mut Writer,
+    op: Op,
+    (pending, total): (u32, i64),
+) {
     let mut op = op;
     for _ in 0..TRIES {
-        let (pending, total) = (writer.pending(), writer.working().total());
         match writer.apply(alloc, op) {
             Ok(()) => return,
             Err((back, fault)) => {
@@ -63,14 +73,14 @@ fn apply_in_tries(rt: &impl Abort, alloc: Global, writer: &mut Writer, op: Op) {
     panic!(rt; "the operation is not accepted")
 }
 
-/// Publishes. After a refusal the same is published as before.
-fn publish_in_tries<R: Abort + Wait>(rt: &R, writer: &mut Writer) {
+/// Publishes. Until that succeeds this many operations are published.
+fn publish_in_tries<R: Abort + Wait>(rt: &R, writer: &mut Writer, published: u32) {
     for _ in 0..TRIES {
-        let revision = writer.tell().revision();
-        if writer.publish(rt).is_ok() {
-            return;
+        match writer.publish(rt) {
+            Ok(()) => return,
+            Err(fault) => assert_same(rt, fault, OutOfMemory, "the publish"),
         }
-        assert_tells(rt, &writer.tell(), revision);
+        assert_tells(rt, &writer.tell(), published);
     }
     panic!(rt; "nothing is published")
 }
@@ -96,13 +106,16 @@ fn assert_sheet_in_tries(
     panic!(rt; "no sheet is taken")
 }
 
-/// Closes the picture.
-fn close_in_tries<R: Abort + Wait>(rt: &R, writer: Writer) -> Ended {
+/// Closes the picture. Until that succeeds this many operations are pending, and the working picture has this total weight.
+fn close_in_tries<R: Abort + Wait>(rt: &R, writer: Writer, (pending, total): (u32, i64)) -> Ended {
     let mut writer = writer;
     for _ in 0..TRIES {
         match writer.close(rt) {
             Ok(ended) => return ended,
-            Err(CloseFault::Kept(back)) => writer = back,
+            Err(CloseFault::Kept(back)) => {
+                assert_working(rt, &back, pending, total);
+                writer = back;
+            }
             Err(CloseFault::Halfway(closing)) => return publish_end_in_tries(rt, closing),
         }
     }
@@ -129,20 +142,21 @@ fn calls_are_made_again(rt: HostRuntime) {
     let (mut writer, mut desk) = open_in_tries(&rt, alloc);
     let viewer = take_viewer(&rt, &mut desk);
     let rectangle = rectangle_in_tries(&rt, alloc);
-    apply_in_tries(&rt, alloc, &mut writer, rectangle);
-    publish_in_tries(&rt, &mut writer);
+    apply_in_tries(&rt, alloc, &mut writer, rectangle, (0, 0));
+    publish_in_tries(&rt, &mut writer, 0);
     let mut viewer = assert_shows(&rt, viewer, 1, 6);
     assert_sheet_in_tries(&rt, alloc, &mut viewer, 1, 6);
 
     let copy = copy_in_tries(&rt, alloc, writer.working());
-    apply_in_tries(&rt, alloc, &mut writer, Op::Also(copy, Sign::Plus));
-    apply_in_tries(&rt, alloc, &mut writer, Op::Shift(1, -1));
-    publish_in_tries(&rt, &mut writer);
+    let doubled = Op::Also(copy, Sign::Plus);
+    apply_in_tries(&rt, alloc, &mut writer, doubled, (0, 6));
+    apply_in_tries(&rt, alloc, &mut writer, Op::Shift(1, -1), (1, 12));
+    publish_in_tries(&rt, &mut writer, 1);
     let viewer = assert_shows(&rt, viewer, 3, 12);
 
-    apply_in_tries(&rt, alloc, &mut writer, Op::Clear);
-    let mut ended = close_in_tries(&rt, writer);
+    apply_in_tries(&rt, alloc, &mut writer, Op::Clear, (0, 12));
+    let mut ended = close_in_tries(&rt, writer, (1, 0));
     assert_tells(&rt, &ended.notice(), 4);
-    assert_shows(&rt, viewer, 4, 0);
+    assert_shows_blank(&rt, alloc, viewer, 4);
     ended.discard(&rt);
 }

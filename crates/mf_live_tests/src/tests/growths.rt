@@ -1,6 +1,7 @@
 //! Calls whose allocations are refused, one after another. A call that failed leaves the picture, and what viewers see of it, as
 //! they were; the same call with ample memory does what it should.
 
+mod doubling;
 mod ending;
 mod opening;
 mod operations;

@@ -11,7 +11,11 @@ use std::process::Abort;
 use std::sync::Wait;
 
 /// Applies an operation while allocations are refused.
-fn apply_while_refused(alloc: Global, writer: &mut Writer, op: Op) -> Result<(), (Op, Fault)> {
+pub(super) fn apply_while_refused(
+    alloc: Global,
+    writer: &mut Writer,
+    op: Op,
+) -> Result<(), (Op, Fault)> {
     refuse_growths(alloc);
     let applied = writer.apply(alloc, op);
     grow_again(alloc);
@@ -19,7 +23,7 @@ fn apply_while_refused(alloc: Global, writer: &mut Writer, op: Op) -> Result<(),
 }
 
 /// Whether two operations are the same in each part.
-fn is_same(one: &Op, other: &Op) -> bool {
+pub(super) fn is_same(one: &Op, other: &Op) -> bool {
     match (one, other) {
         (Op::Contour(one, weight, check), Op::Contour(other, other_weight, other_check)) => {
             one.points() == other.points() && *weight == *other_weight && *check == *other_check

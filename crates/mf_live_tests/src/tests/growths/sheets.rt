@@ -4,9 +4,11 @@ use super::{MOVED, open_and_move};
 use crate::tests::assertions::assert_same;
 use crate::tests::sheets::take;
 use crate::tests::{
-    Pixels, RECT_RUNS, assert_runs, assert_sees, open, publish, publish_rectangle, take_viewer,
+    Pixels, RECT_RUNS, apply, assert_runs, assert_sees, assert_shows_blank, open, publish,
+    publish_rectangle, take_viewer,
 };
 use mf_live::{Sheet, SheetFault, Viewer};
+use mf_ops::Op;
 use mf_testing::{grow_again, refuse_growths};
 use std::alloc::Global;
 use std::process::Abort;
@@ -41,12 +43,17 @@ fn assert_taken(
     assert_sees(rt, viewer, revision, runs)
 }
 
+/// The first sheet shows the rectangle, and the second, after a clear, a blank picture.
 #[test]
-fn a_first_sheet_is_taken(rt: HostRuntime) {
+fn sheets_are_taken_before_and_after_a_clear(rt: HostRuntime) {
     let alloc = rt.alloc();
     let (mut writer, mut desk) = open(&rt, alloc, 1, 10);
     publish_rectangle(&rt, alloc, &mut writer);
-    assert_taken(&rt, alloc, take_viewer(&rt, &mut desk), 1, RECT_RUNS);
+    let viewer = assert_taken(&rt, alloc, take_viewer(&rt, &mut desk), 1, RECT_RUNS);
+    apply(&rt, alloc, &mut writer, Op::Clear);
+    publish(&rt, &mut writer);
+    let viewer = assert_taken(&rt, alloc, viewer, 2, &[]);
+    assert_shows_blank(&rt, alloc, viewer, 2);
     writer.discard(&rt);
 }
 
