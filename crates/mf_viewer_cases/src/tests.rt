@@ -52,6 +52,10 @@ const PUBLISHED_TEXT: &str = "published 1\n\
                               viewer 0 revision 1 totalweight 6\n\
                               viewer 1 revision 1 totalweight 6\n";
 
+/// What two viewers print where nothing is drawn.
+const BOTH_SEE_NOTHING: &str = "viewer 0 revision 0 totalweight 0\n\
+                                viewer 1 revision 0 totalweight 0\n";
+
 /// What a viewer sees before the rectangle is published, and after that.
 const BLANK: Glance = Glance {
     revision: 0,

@@ -1,6 +1,6 @@
 //! Readers that fail while there are viewers, and how much is read.
 
-use super::{AMPLE, BOTH_SEE_SIX, End, FILLED, PUBLISHED, perform_beside};
+use super::{AMPLE, BOTH_SEE_NOTHING, BOTH_SEE_SIX, End, FILLED, PUBLISHED, perform_beside};
 use crate::tests::assertions::{assert_holds, assert_same};
 use mf_desk::RunFault;
 use mf_testing::{LineFeeds, Pieces, Remembers, Sink};
@@ -57,15 +57,11 @@ fn reader_fails_after_a_publish(rt: HostRuntime) {
     assert_read_fault(&rt, PUBLISHED, "published 1\n");
 }
 
-/// The lines of two viewers where nothing is drawn.
-const BOTH_SEE_NOTHING: &[u8] = b"viewer 0 revision 0 totalweight 0\n\
-                                  viewer 1 revision 0 totalweight 0\n";
-
 /// The last read that is allowed reports the end.
 #[test]
 fn end_comes_with_read_1_048_576(rt: HostRuntime) {
     let reader = LineFeeds { left: 1_048_575 };
-    assert_reads(&rt, reader, 1_048_576, (None, BOTH_SEE_NOTHING));
+    assert_reads(&rt, reader, 1_048_576, (None, BOTH_SEE_NOTHING.as_bytes()));
 }
 
 #[test]

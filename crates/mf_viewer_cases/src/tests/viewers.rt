@@ -2,7 +2,10 @@
 ghost use Rattle.std.specs.Prelude.{◌≤◌};
 
 use super::lines::{blank_lines, line};
-use super::{AMPLE, BLANK, BOTH_SEE_SIX, FILLED, PUBLISHED, PUBLISHED_TEXT, SIX, perform_beside};
+use super::{
+    AMPLE, BLANK, BOTH_SEE_NOTHING, BOTH_SEE_SIX, FILLED, PUBLISHED, PUBLISHED_TEXT, SIX,
+    perform_beside,
+};
 use crate::tests::assertions::{assert_holds, assert_same};
 use mf_desk::{Glance, Outcome};
 use mf_testing::{Pieces, RECT, RECT_FILE, Script, Sink, worked_scripts};
@@ -80,10 +83,6 @@ fn see_what_was_not_published_or_nothing(rt: HostRuntime) {
     let outcome = outcome_beside(&rt, 2, 1, FILLED, BOTH_SEE_SIX);
     assert_saw_whole_pictures(&rt, &outcome);
 }
-
-/// The lines of two viewers where nothing is drawn.
-const BOTH_SEE_NOTHING: &str = "viewer 0 revision 0 totalweight 0\n\
-                                viewer 1 revision 0 totalweight 0\n";
 
 #[test]
 fn see_nothing_of_an_empty_script(rt: HostRuntime) {
