@@ -2,7 +2,8 @@
 
 An edit is a file with a line `file: src/lib.rt`, followed by pairs of lines `old: TEXT` and `new: TEXT`. A TEXT is one line, and
 the old one must be in that file exactly once when the pairs before it have been applied. This is the form that the toolchain
-reads. A line `why: TEXT`, which the toolchain ignores, says why an edit is not refused, or cannot be judged.
+reads. A line `why: TEXT`, which the toolchain ignores, says in an edit of must-fail which clause is false for it, and in one of wrong
+why it is not refused, or cannot be judged.
 """
 
 import dataclasses
@@ -40,11 +41,21 @@ class Function:
 
 @dataclasses.dataclass(frozen=True)
 class Edit:
-    """An edit: its pairs of texts, each with its file, and why it is not refused, if that is known."""
+    """An edit: its pairs of texts, each with its file, and what its line `why:` says, if it has one."""
 
     label: str
     pairs: tuple[tuple[str, str, str], ...]
     why: str
+
+    @property
+    def must_fail(self) -> bool:
+        """Whether it is one of must-fail, where the line `why:` names a clause."""
+        return self.label.startswith("must-fail/")
+
+    @property
+    def excuse(self) -> str:
+        """Why it is not refused, or cannot be judged, if that is known. An edit of must-fail has no excuse."""
+        return "" if self.must_fail else self.why
 
     def apply(self, texts: Mapping[str, str]) -> dict[str, str]:
         """The files that it changes, by their path, with their new texts."""

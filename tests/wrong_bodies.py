@@ -21,7 +21,9 @@ refuses is tried once more without the answers of the functions that it changes,
 goal that only the wrong body leaves open, or for which the prover finds values only there, is what refuses it.
 
 Every body that is proved, not judged, or refused by an answer alone is printed, with the line `why:` of its edit if it has one.
-The last line counts all bodies. The exit status is 1 if a body without such a line is proved or not judged.
+In wrong/ that line says why the body is not refused, or cannot be judged; in must-fail/ it names the clause that is false for the body.
+The last line counts all bodies. The exit status is 1 if a body of must-fail, or one of wrong without such a line, is proved or not
+judged.
 """
 
 import argparse
@@ -202,7 +204,7 @@ class Trial:
     def counts(self) -> str:
         """The counts in words."""
         count = collections.Counter(body.verdict for body in self.bodies)
-        why = collections.Counter(body.verdict for body in self.bodies if body.edit.why)
+        why = collections.Counter(body.verdict for body in self.bodies if body.edit.excuse)
         bare, alone = (sum(body.meets_answer() and bool(body.bare) == it for body in self.bodies) for it in (True, False))
         gone = sum(bool(body.gone) for body in self.bodies)
         misfit = f"{bare} once answers were dropped, {alone} by an answer alone, {gone} with answers to goals that are gone"
@@ -212,7 +214,7 @@ class Trial:
 
     def lacks_reasons(self) -> bool:
         """Whether a body is proved or not judged without a reason."""
-        return any(body.verdict != REFUSED and not body.edit.why for body in self.bodies)
+        return any(body.verdict != REFUSED and not body.edit.excuse for body in self.bodies)
 
 
 def trial_of(crate: str) -> Trial:
@@ -253,8 +255,8 @@ def print_trial(crate: str, trial: Trial) -> None:
         if body.verdict != REFUSED:
             print(f"{label}: {body.verdict}: {body.told}")
             print(f"  why: {body.edit.why}" if body.edit.why else "  it gives no reason")
-        elif body.edit.why:
-            print(f"{label}: refused, although it gives a reason why it is not: {body.edit.why}")
+        elif body.edit.excuse:
+            print(f"{label}: refused, although it gives a reason why it is not: {body.edit.excuse}")
         elif body.meets_answer() and not body.bare:
             print(f"{label}: refused by an answer alone: {body.told}")
         elif body.gone:
