@@ -2,8 +2,8 @@
 
 An edit is a file with a line `file: src/lib.rt`, followed by pairs of lines `old: TEXT` and `new: TEXT`. A TEXT is one line, and
 the old one must be in that file exactly once when the pairs before it have been applied. This is the form that the toolchain
-reads. A line `why: TEXT`, which the toolchain ignores, says in an edit of must-fail which clause is false for it, and in one of wrong
-why it is not refused, or cannot be judged.
+reads. A line `why: TEXT`, which the toolchain ignores, says in an edit of must-fail which clause is false for it, and in one of
+wrong why it is not refused, or cannot be judged.
 """
 
 import dataclasses

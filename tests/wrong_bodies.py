@@ -21,9 +21,9 @@ refuses is tried once more without the answers of the functions that it changes,
 goal that only the wrong body leaves open, or for which the prover finds values only there, is what refuses it.
 
 Every body that is proved, not judged, or refused by an answer alone is printed, with the line `why:` of its edit if it has one.
-In wrong/ that line says why the body is not refused, or cannot be judged; in must-fail/ it names the clause that is false for the body.
-The last line counts all bodies. The exit status is 1 if a body of must-fail, or one of wrong without such a line, is proved or not
-judged.
+In wrong/ that line says why the body is not refused, or cannot be judged; in must-fail/ it names the clause that is false for it.
+The last line counts all bodies. The exit status is 1 if a body of must-fail, or one of wrong without such a line, is proved or
+not judged.
 """
 
 import argparse
