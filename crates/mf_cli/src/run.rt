@@ -1,6 +1,6 @@
 //! The program that `main` calls: from its words and streams to its exit status.
-ghost use Rattle.std.specs.Io.KnownBytes.{Appends, IsAtEnd};
-ghost use Rattle.std.specs.Prelude.{◌≡◌, ◌<◌, ◌≤◌, ◌⊎◌, ℕ, IfErr, IfOk, OnOk, length, take};
+ghost use Rattle.std.specs.Io.KnownBytes.{IsAtEnd};
+ghost use Rattle.std.specs.Prelude.{◌≡◌, ◌<◌, ◌≤◌, ◌⊎◌, ℕ, IfErr, IfOk, OnOk, length};
 ghost use Rattle.mf_base.specs.Messages.{GetsFront};
 ghost use Rattle.mf_options.specs.Values.{texts_of};
 ghost use Rattle.mf_words.specs.CommandLine.{IsCommandLine, greatest_viewers};
@@ -19,7 +19,6 @@ use mf_options::{BAD_WORDS, DONE, STREAM_FAULT, WANTING, WordsFault, refuse_word
 use mf_session::{MAX_BYTES, MAX_OPS};
 use mf_words::{USAGE, Words, read_words};
 use std::alloc::Global;
-use std::fs;
 use std::io::{Read, Write};
 use std::rt::Files;
 use std::sync::{Arc, Wait};
@@ -92,13 +91,42 @@ fn perform<S: Wait + Threads + Files, R: Read, W: Write>(
     ensures fault { IfErr result (λ fault. TellsOfProgram (request_of words.now) fault
         (streams (R.remaining reader.old) (R.remaining reader.new) (W.contents writer.old) (W.contents writer.new))) }
 {
-    let Outcome { gf, .. } = run_script(rt, alloc, reader, writer, words.viewers)?;
+    let Outcome { gf, .. } = run_and_flush(rt, alloc, reader, writer, words.viewers)?;
     let Some(path) = &words.gf else {
         return Ok(());
     };
     match gf {
-        Some(file) => Ok(write_file(rt, path, &file)?),
+        Some(file) => Ok(write_font(rt, path, &file)?),
         None => Err(ProgramFault::NoCharacters),
+    }
+}
+
+/// Runs the script beside this many viewers, and flushes the writer where it ends with a fault. But nothing more goes out after a
+/// fault of the writer, whose number counts what did.
+fn run_and_flush<S: Wait + Threads, R: Read, W: Write>(
+    rt: &S,
+    alloc: Global,
+    reader: &mut R,
+    writer: &mut W,
+    viewers: u32,
+) -> Result<Outcome, RunFault>
+    requires { viewers ≤ greatest_viewers }
+    ensures performance { IfOk result
+        (Performs (task settings viewers looks)
+        (streams (R.remaining reader.old) (R.remaining reader.new) (W.contents writer.old) (W.contents writer.new))) }
+    ensures fault { IfErr result (λ fault.
+        Passes (streams (R.remaining reader.old) (R.remaining reader.new) (W.contents writer.old) (W.contents writer.new))
+        (TellsOfRun settings viewers fault)) }
+    ensures end { OnOk result (IsAtEnd (R.remaining reader.new)) }
+{
+    match run_script(rt, alloc, reader, writer, viewers) {
+        Ok(outcome) => Ok(outcome),
+        Err(RunFault::WriteFault(count)) => Err(RunFault::WriteFault(count)),
+        Err(fault) => {
+            // The fault is told, and not that this fails.
+            let _ = writer.flush();
+            Err(fault)
+        }
     }
 }
 
@@ -126,24 +154,11 @@ fn run_script<S: Wait + Threads, R: Read, W: Write>(
     mf_desk::perform(rt, alloc, reader, writer, &SETTINGS, viewers, LOOKS, &gate)
 }
 
-/// Writes a font file, and replaces what was there. Refused with `WriteFault`, whose number is less than that of its bytes, and 0
-/// where the file cannot be created.
-fn write_file<S: Files>(rt: &S, path: &str, file: &GfBytes) -> Result<(), RunFault>
+/// Writes the font file. Refused with `WriteFault`, whose number is 0 or less than that of its bytes.
+fn write_font<S: Files>(rt: &S, path: &str, file: &GfBytes) -> Result<(), RunFault>
     ensures { IfErr result (λ fault. (count : ℕ) × (fault ≡ RunFault.WriteFault count) × ((count ≡ 0) ⊎ (count < length file.now))) }
 {
-    let Ok(mut out) = fs::create(rt, path) else {
-        return Err(RunFault::WriteFault(0));
-    };
-    write_bytes(&mut out, file)
-}
-
-/// Writes the bytes of a font file. Refused with `WriteFault`, whose number counts the bytes that were written: never all of them.
-fn write_bytes<W: Write>(out: &mut W, file: &GfBytes) -> Result<(), RunFault>
-    ensures all { OnOk result (Appends (W.contents out.old) (W.contents out.new) file.now) }
-    ensures front { IfErr result (λ fault. (count : ℕ) × (fault ≡ RunFault.WriteFault count) × (count < length file.now)
-        × Appends (W.contents out.old) (W.contents out.new) (take count file.now)) }
-{
-    match file.write_to(out) {
+    match file.write_file(rt, path) {
         Ok(()) => Ok(()),
         Err(fault) => Err(RunFault::WriteFault(fault.0)),
     }

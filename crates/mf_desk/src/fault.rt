@@ -20,12 +20,12 @@ pub enum RunFault {
     /// The font file of the shipped characters would have more bytes than it may have: the writer has got the complete transcript
     /// and the line of each viewer. Or the limit is below the 3 bytes of the shortest preamble: nothing was read or written.
     FileTooLong,
-    /// The reader answered with an error, or 1,048,576 reads did not reach the end of the script. An interrupted read is an
-    /// error, too, and is not tried again. The writer has got exactly the texts of the lines that a line feed ended.
+    /// The reader answered with an error, or 1,048,576 reads did not reach the end of the script. A read that was interrupted is one of
+    /// these and is tried again. The writer has got exactly the texts of the lines that a line feed ended.
     ReadFault,
-    /// The writer answered with an error, also where it was flushed, or took no byte. An interrupted write is an error, too, and
-    /// is not tried again. The number counts the bytes that the writer took in this run. These bytes are a prefix of the
-    /// transcript and the lines of the viewers, maybe all of them.
+    /// The writer answered with an error, also where it was flushed, or took no byte. A write that was interrupted is tried again. The
+    /// number counts the bytes that the writer took in this run. These bytes are a prefix of the transcript and the lines of the
+    /// viewers, maybe all of them.
     WriteFault(u128),
     /// A look was refused. The writer has got the complete transcript and the lines of the first viewers, but not of all. No line
     /// is cut.

@@ -23,7 +23,7 @@ use memchr::memchr;
 use mf_live::Desk;
 use mf_session::before_line_feed;
 use std::alloc::Global;
-use std::io::{Read, Write};
+use std::io::{ErrorKind, Read, Write};
 use std::sync::Wait;
 
 /// The greatest number of reads of a run, including the one that reports the end. A read gives at most 2^16 bytes, each of
@@ -96,7 +96,7 @@ impl Progress {
     }
 
     /// Reads a script to its end, performs its lines and writes their texts. The writer is flushed before each read: whoever
-    /// gives the script may be waiting for these texts.
+    /// gives the script may be waiting for these texts. A read that was interrupted counts, and is tried again.
     fn read_all<S: Wait, R: Read, W: Write>(
         &mut self,
         rt: &S,
@@ -123,7 +123,12 @@ impl Progress {
         'reads: for _ in 0..MAX_READS {
             flush(writer, self.performer.written)?;
             match reader.read(chunk) {
-                Err(_) => return Err(RunFault::ReadFault),
+                Err(fault) => {
+                    if fault.kind() == ErrorKind::Interrupted {
+                        continue 'reads;
+                    }
+                    return Err(RunFault::ReadFault);
+                }
                 Ok(0) => return self.finish(rt, alloc, writer),
                 Ok(count) => self.take(rt, alloc, writer, &chunk[..count])?,
             }

@@ -7,7 +7,6 @@ ghost use Rattle.mf_view_words.specs.Ranges.{greatest_design_size, greatest_reso
 
 use crate::fault::ProgramFault;
 use mf_gf::{FontWords, GfBytes, GfFault, GfFile};
-use std::fs;
 use std::rt::Files;
 
 /// Units of the design size in a point (gftype.web).
@@ -54,7 +53,7 @@ pub fn finish(file: GfFile, font: FontWords) -> Result<Option<GfBytes>, ProgramF
 }
 
 /// Writes a font file, and replaces what was there. Refused with `NoCharacters` where there is none, and with `WriteFault` where
-/// it cannot be created or not be written to its end.
+/// it cannot be created, or not be written to its end, or not be stored.
 pub fn write_font<S: Files>(rt: &S, path: &str, file: Option<GfBytes>) -> Result<(), ProgramFault>
     ensures none { file ≡ None ↔ (result ≡ Err ProgramFault.NoCharacters) }
     ensures fault { IfSome file (λ _. IfErr result (λ fault. fault ≡ ProgramFault.WriteFault)) }
@@ -62,10 +61,7 @@ pub fn write_font<S: Files>(rt: &S, path: &str, file: Option<GfBytes>) -> Result
     let Some(file) = file else {
         return Err(ProgramFault::NoCharacters);
     };
-    let Ok(mut out) = fs::create(rt, path) else {
-        return Err(ProgramFault::WriteFault);
-    };
-    match file.write_to(&mut out) {
+    match file.write_file(rt, path) {
         Ok(()) => Ok(()),
         Err(_) => Err(ProgramFault::WriteFault),
     }

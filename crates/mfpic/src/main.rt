@@ -15,14 +15,13 @@ const OUTPUT_SIZE: usize = 65_536;
 fn main(rt: HostRuntime) -> ExitCode {
     let mut errors = rt.stderr();
     let status = match words_and_output(&rt) {
-        Ok((words, mut output)) => program(
-            &rt,
-            rt.alloc(),
-            words,
-            &mut rt.stdin(),
-            &mut output,
-            &mut errors,
-        ),
+        Ok((words, mut output)) => {
+            let (input, alloc) = (&mut rt.stdin(), rt.alloc());
+            let status = program(&rt, alloc, words, input, &mut output, &mut errors);
+            // What is still in the buffer could not be written, and dropping the buffer would try again.
+            let _unwritten = output.into_parts();
+            status
+        }
         Err(fault) if fault.kind() == ErrorKind::OutOfMemory => report(
             &mut errors,
             ProgramFault::Run(RunFault::OutOfMemory),

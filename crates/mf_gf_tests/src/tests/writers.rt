@@ -119,14 +119,23 @@ fn an_error_is_not_tried_again(rt: HostRuntime) {
     assert_asked_no_more(&rt, alloc, &file, (0, 72), failure);
 }
 
-/// The standard library would try such a write again.
+/// Asserts that all of the file is written where a write of this size after so many bytes is interrupted once.
+fn assert_tried_again(rt: &impl Abort, alloc: Global, file: &GfBytes, at: (usize, usize)) {
+    let (sent, size) = at;
+    let sink = Sink::new(alloc).in_pieces(size);
+    let mut writer = FailsOnce::over(sink, sent, Failure::Error(ErrorKind::Interrupted));
+    assert_same(rt, file.write_to(&mut writer), Ok(()), at);
+    assert_same(rt, writer.bytes(), file.bytes(), at);
+}
+
+/// The standard library tries such a write again, too.
 #[test]
-fn a_write_that_was_interrupted_is_not_tried_again(rt: HostRuntime) {
+fn a_write_that_was_interrupted_is_tried_again(rt: HostRuntime) {
     let alloc = rt.alloc();
     let file = rectangle_bytes(&rt, alloc);
-    let failure = Failure::Error(ErrorKind::Interrupted);
-    assert_asked_no_more(&rt, alloc, &file, (0, 72), failure);
-    assert_asked_no_more(&rt, alloc, &file, (1, 71), failure);
+    assert_tried_again(&rt, alloc, &file, (0, 72));
+    assert_tried_again(&rt, alloc, &file, (1, 71));
+    assert_tried_again(&rt, alloc, &file, (71, 1));
 }
 
 #[test]

@@ -1,4 +1,4 @@
-//! Streams that fail: the name of the fault, and what was written by then. A read that is interrupted is tried again.
+//! Streams that fail: the name of the fault, and what was written by then. A read or a write that is interrupted is tried again.
 use super::assertions::assert_same;
 use super::paces::Held;
 use mf_frame::{Canvas, Style};
@@ -117,17 +117,33 @@ fn assert_write_fault<S: Abort + Wait + Threads + Files + Sync, W: Write + Send,
     assert_same(rt, found, Some(ProgramFault::WriteFault), "fault");
 }
 
-/// This writer is interrupted after so many bytes, and would then take more.
+/// This writer is interrupted after so many bytes.
 fn interrupted(alloc: Global, room: usize) -> FailsOnce {
     let failure = Failure::Error(ErrorKind::Interrupted);
     FailsOnce::over(Sink::new(alloc), room, failure)
 }
 
-/// The screen is interrupted in the first frame.
+/// The screen is interrupted in the first frame, and the transcript in the text of the second line.
+#[test]
+fn an_interrupted_write_is_tried_again(rt: HostRuntime) {
+    let alloc = rt.alloc();
+    let (mut screen, mut transcript) = (interrupted(alloc, 10), interrupted(alloc, 20));
+    let found = fault_of(
+        &rt,
+        alloc,
+        Pieces::whole(SCRIPT),
+        &mut screen,
+        &mut transcript,
+    );
+    assert_same(&rt, found, None, "fault");
+    assert_same(&rt, transcript.bytes(), TOLD, "told");
+}
+
+/// The screen fails once in the first frame, and would then take more.
 #[test]
 fn no_frame_comes_after_one_that_was_cut(rt: HostRuntime) {
     let alloc = rt.alloc();
-    let (mut screen, mut transcript) = (interrupted(alloc, 10), Vec::new(alloc));
+    let (mut screen, mut transcript) = (FailsOnce::new(alloc, 10), Vec::new(alloc));
     assert_write_fault(&rt, alloc, &mut screen, &mut transcript);
     assert_same(&rt, screen.calls_after(), 0, "calls after the fault");
     assert_same(&rt, transcript.as_slice(), TOLD, "told");
@@ -145,11 +161,11 @@ fn no_frame_comes_after_a_flush_that_failed(rt: HostRuntime) {
     }
 }
 
-/// The transcript is interrupted in the text of the second line.
+/// The transcript fails once in the text of the second line, and would then take more.
 #[test]
 fn no_line_comes_after_one_whose_text_was_cut(rt: HostRuntime) {
     let alloc = rt.alloc();
-    let (mut screen, mut transcript) = (Sink::new(alloc), interrupted(alloc, 20));
+    let (mut screen, mut transcript) = (Sink::new(alloc), FailsOnce::new(alloc, 20));
     assert_write_fault(&rt, alloc, &mut screen, &mut transcript);
     let told: &[u8] = b"totalweight 0\npublis";
     assert_same(

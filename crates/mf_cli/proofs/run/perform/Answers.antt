@@ -7,10 +7,10 @@ returns-in_default-clause-done g c =
     let outcome = c.in_ok-gf.field-0 in
     (outcome.gf, record { all_read = c.in_ok-gf.ensures.end; outcome = outcome; gf_is = refl; performed = c.in_ok-gf.ensures.performance }, search rules)
 
-pub returns-in_err-write_file-in-Some-gf-clause-fault : goal.returns-in_err-write_file-in-Some-gf-clause-fault
-returns-in_err-write_file-in-Some-gf-clause-fault g c =
-    let (count, fault_is, few) = c.in_err-write_file-in-Some-gf.ensures in
-    IfErr-raised c.from_residual-in_err-write_file-in-Some-gf.result _ c.from_residual-in_err-write_file-in-Some-gf.ensures.1
+pub returns-in_err-write_font-in-Some-gf-clause-fault : goal.returns-in_err-write_font-in-Some-gf-clause-fault
+returns-in_err-write_font-in-Some-gf-clause-fault g c =
+    let (count, fault_is, few) = c.in_err-write_font-in-Some-gf.ensures in
+    IfErr-raised c.from_residual-in_err-write_font-in-Some-gf.result _ c.from_residual-in_err-write_font-in-Some-gf.ensures.1
     (inr (record {
       asked = search rules;
       count = count;
@@ -20,8 +20,8 @@ returns-in_err-write_file-in-Some-gf-clause-fault g c =
       output = record { all_read = c.in_ok-gf.ensures.end; outcome = c.in_ok-gf.field-0; gf_is = search rules; performed = c.in_ok-gf.ensures.performance };
     }))
 
-pub returns-in_ok-write_file-in-Some-gf-clause-done : goal.returns-in_ok-write_file-in-Some-gf-clause-done
-returns-in_ok-write_file-in-Some-gf-clause-done g c =
+pub returns-in_ok-write_font-in-Some-gf-clause-done : goal.returns-in_ok-write_font-in-Some-gf-clause-done
+returns-in_ok-write_font-in-Some-gf-clause-done g c =
     let outcome = c.in_ok-gf.field-0 in (
       outcome.gf,
       record { all_read = c.in_ok-gf.ensures.end; outcome = outcome; gf_is = refl; performed = c.in_ok-gf.ensures.performance },

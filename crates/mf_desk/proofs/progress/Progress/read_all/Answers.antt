@@ -78,5 +78,15 @@ reads-preserved g c =
       c.take.ensures.identity ∙ c.reads.invariant.3,
     )
 
+-- an interrupted read gives no byte
+pub reads-preserved-then-eq : goal.reads-preserved-then-eq
+reads-preserved-then-eq g c =
+    let (read, consumed, before) = c.reads.invariant.1 in (
+      omega (arith, c.reads.invariant.0),
+      (read, Consumes-kept _ _ _ read consumed c.in-Err.ensures.bytes, IsAfter-flushed _ _ _ read c.reads.self c.flush.ensures.kept before),
+      c.reads.invariant.2,
+      c.reads.invariant.3,
+    )
+
 pub returns-clause-fault : goal.returns-clause-fault
 returns-clause-fault g c = grind arith
