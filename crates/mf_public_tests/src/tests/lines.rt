@@ -5,8 +5,8 @@ ghost use Rattle.mf_text.specs.RunText.{run_text};
 
 use super::pictures;
 use crate::tests::assertions::assert_same;
-use mf_geom::{Cycle, CycleFault};
-use mf_ops::{Cull, Quarter, Scale, Sign, Weight};
+use mf_geom::CycleFault;
+use mf_ops::Op;
 use mf_rows::Picture;
 use mf_text::{
     Check, Command, GridFault, Name, OutOfMemory, Source, TextFault, proof_grid, read_command,
@@ -16,64 +16,63 @@ use std::alloc::Global;
 use std::process::Abort;
 
 /// The name of a command.
-fn name_of(command: Command) -> &'static str {
+fn name_of(command: &Command) -> &'static str {
     match command {
         Command::Nothing => "Nothing",
-        Command::Contour(name, cycle, weight) => {
-            let _: (Name, Cycle, Weight) = (name, cycle, weight);
-            "Contour"
-        }
-        Command::Also(name, source, sign) => {
-            let _: (Name, Source, Sign) = (name, source, sign);
-            "Also"
-        }
-        Command::Cull(name, cull) => {
-            let _: (Name, Cull) = (name, cull);
-            "Cull"
-        }
-        Command::Clear(name) => {
-            let _: Name = name;
-            "Clear"
-        }
-        Command::Shift(name, dx, dy) => {
-            let _: (Name, i32, i32) = (name, dx, dy);
-            "Shift"
-        }
-        Command::Scale(name, scale) => {
-            let _: (Name, Scale) = (name, scale);
-            "Scale"
-        }
-        Command::Quarter(name, quarter) => {
-            let _: (Name, Quarter) = (name, quarter);
-            "Quarter"
-        }
-        Command::Total(source) => {
-            let _: Source = source;
-            "Total"
-        }
-        Command::Show(source) => {
-            let _: Source = source;
-            "Show"
-        }
-        Command::Proof(source) => {
-            let _: Source = source;
-            "Proof"
-        }
-        Command::Ship(source, code, dx, width) => {
-            let _: (Source, u8, i32, i32) = (source, code, dx, width);
-            "Ship"
-        }
+        Command::Contour(_, _, _) => "Contour",
+        Command::Also(_, _, _) => "Also",
+        Command::Cull(_, _) => "Cull",
+        Command::Clear(_) => "Clear",
+        Command::Shift(_, _, _) => "Shift",
+        Command::Scale(_, _) => "Scale",
+        Command::Quarter(_, _) => "Quarter",
+        Command::Total(_) => "Total",
+        Command::Show(_) => "Show",
+        Command::Proof(_) => "Proof",
+        Command::Ship(_, _, _, _) => "Ship",
         Command::Turning(Check::Off) => "Turning off",
         Command::Turning(Check::On) => "Turning on",
         Command::Publish => "Publish",
     }
 }
 
-/// The number of the register that a source names, if it names one.
-fn register_of(source: Source) -> Option<u8> {
-    match source {
-        Source::Null | Source::Named(Name::Current) => None,
-        Source::Named(Name::Register(number)) => Some(number),
+/// The picture that a command changes.
+fn target_of(command: &Command) -> Option<Name> {
+    match command {
+        Command::Contour(name, _, _) => Some(*name),
+        Command::Also(name, _, _) => Some(*name),
+        Command::Cull(name, _) => Some(*name),
+        Command::Clear(name) => Some(*name),
+        Command::Shift(name, _, _) => Some(*name),
+        Command::Scale(name, _) => Some(*name),
+        Command::Quarter(name, _) => Some(*name),
+        _ => None,
+    }
+}
+
+/// The picture that a command reads.
+fn source_of(command: &Command) -> Option<Source> {
+    match command {
+        Command::Also(_, source, _) => Some(*source),
+        Command::Total(source) => Some(*source),
+        Command::Show(source) => Some(*source),
+        Command::Proof(source) => Some(*source),
+        Command::Ship(source, _, _, _) => Some(*source),
+        _ => None,
+    }
+}
+
+/// The operation that a command asks for, if it asks for one. A picture that it adds is taken to be blank.
+fn operation_of(alloc: Global, command: Command) -> Option<Op> {
+    match command {
+        Command::Contour(_, cycle, weight) => Some(Op::Contour(cycle, weight, Check::On)),
+        Command::Also(_, _, sign) => Some(Op::Also(Picture::blank(alloc), sign)),
+        Command::Cull(_, cull) => Some(Op::Cull(cull)),
+        Command::Clear(_) => Some(Op::Clear),
+        Command::Shift(_, dx, dy) => Some(Op::Shift(dx, dy)),
+        Command::Scale(_, scale) => Some(Op::Scale(scale)),
+        Command::Quarter(_, quarter) => Some(Op::Quarter(quarter)),
+        _ => None,
     }
 }
 
@@ -102,56 +101,80 @@ fn read(alloc: Global, line: &str) -> Result<Command, TextFault> {
     read
 }
 
-/// Lines, and the names of their commands.
-const LINES: &[(&str, &str)] = &[
-    ("", "Nothing"),
+/// A line, the name of its command, and the pictures that it changes and reads.
+type Case = (&'static str, &'static str, Option<Name>, Option<Source>);
+
+const A: Option<Name> = Some(Name::Register(0));
+
+const OF_A: Option<Source> = Some(Source::Named(Name::Register(0)));
+
+/// Lines whose commands ask for an operation.
+const OPERATIONS: &[Case] = &[
     (
         "addto a contour (0,0)--(1,0)--(1,1)--(0,1)--cycle withweight 2",
         "Contour",
+        A,
+        None,
     ),
-    ("addto a also -currentpicture", "Also"),
-    ("cull a keeping (1,3)", "Cull"),
-    ("a := nullpicture", "Clear"),
-    ("a := a shifted (2,-1)", "Shift"),
-    ("a := a xscaled -1", "Scale"),
-    ("a := a rotated 90", "Quarter"),
-    ("show totalweight a", "Total"),
-    ("show nullpicture", "Show"),
-    ("proof a", "Proof"),
-    ("shipout a code 65 dx 327680 width 0", "Ship"),
-    ("turningcheck := 0", "Turning off"),
-    ("turningcheck := 1", "Turning on"),
-    ("publish", "Publish"),
+    (
+        "addto a also -currentpicture",
+        "Also",
+        A,
+        Some(Source::Named(Name::Current)),
+    ),
+    ("cull a keeping (1,3)", "Cull", A, None),
+    ("a := nullpicture", "Clear", A, None),
+    ("a := a shifted (2,-1)", "Shift", A, None),
+    ("a := a xscaled -1", "Scale", A, None),
+    ("a := a rotated 90", "Quarter", A, None),
 ];
 
-/// Asserts that a line gives the command of this name.
-fn assert_gives(rt: &impl Abort, alloc: Global, line: &str, name: &str) {
+/// Lines whose commands ask for no operation.
+const OTHERS: &[Case] = &[
+    ("", "Nothing", None, None),
+    ("show totalweight a", "Total", None, OF_A),
+    ("show nullpicture", "Show", None, Some(Source::Null)),
+    ("proof a", "Proof", None, OF_A),
+    ("shipout a code 65 dx 327680 width 0", "Ship", None, OF_A),
+    ("turningcheck := 0", "Turning off", None, None),
+    ("turningcheck := 1", "Turning on", None, None),
+    ("publish", "Publish", None, None),
+];
+
+/// Asserts that a line gives its command, which asks for an operation or does not.
+fn assert_gives(rt: &impl Abort, alloc: Global, case: &Case, is_operation: bool) {
+    let (line, name, target, source) = *case;
     match read(alloc, line) {
-        Ok(command) => assert_same(rt, name_of(command), name, line),
+        Ok(command) => {
+            let found = (name_of(&command), target_of(&command), source_of(&command));
+            assert_same(rt, found, (name, target, source), line);
+            let operation = operation_of(alloc, command);
+            assert_same(rt, operation.is_some(), is_operation, line);
+        }
         Err(fault) => panic!(rt; "{line} is refused: {fault:?}"),
     }
 }
 
 #[test]
 fn reads_each_command(rt: HostRuntime) {
-    for (line, name) in LINES {
-        assert_gives(&rt, rt.alloc(), line, name);
+    for case in OPERATIONS {
+        assert_gives(&rt, rt.alloc(), case, true);
+    }
+    for case in OTHERS {
+        assert_gives(&rt, rt.alloc(), case, false);
     }
 }
 
-/// Asserts that a line shows the register with this number.
-fn assert_shows(rt: &impl Abort, alloc: Global, line: &str, number: Option<u8>) {
-    match read(alloc, line) {
-        Ok(Command::Show(source)) => assert_same(rt, register_of(source), number, line),
-        _ => panic!(rt; "{line} shows no picture"),
-    }
-}
+/// A code, an escapement and a width.
+type Numbers = (u8, i32, i32);
 
 #[test]
-fn reads_names(rt: HostRuntime) {
-    assert_shows(&rt, rt.alloc(), "show z", Some(25));
-    assert_shows(&rt, rt.alloc(), "show currentpicture", None);
-    assert_shows(&rt, rt.alloc(), "show nullpicture", None);
+fn reads_the_numbers_of_a_character(rt: HostRuntime) {
+    let line = "shipout a code 65 dx 327680 width -1";
+    if let Ok(Command::Ship(_, code, dx, width)) = read(rt.alloc(), line) {
+        let numbers: Numbers = (code, dx, width);
+        assert_same(&rt, numbers, (65, 327680, -1), line);
+    }
 }
 
 #[test]
