@@ -10,7 +10,7 @@ use Rattle.mf_live.proofs.Histories.{lawful}
 use Rattle.std.proofs.lemmas.Int.{ints}
 
 -- no more is published than is accepted
-pub published_list-few : (h : Holder) → (version h).notice.number ≤ h.revision
+pub published_list-few : (h : Holder) → (version h).notice.revision ≤ h.revision
 published_list-few h = grind (arith, ints, revision_at-whole (published_list h) (accepted_list h) (lawful h).whole, lawful)
 
 module _ (old new : Holder) (n : ℕ) where

@@ -1,64 +1,96 @@
--- The history of what a picture's writer holds: how long it is, and what one more event does to it.
-use Rattle.std.proofs.Common.{◌≡◌, ◌≤◌, ◌+◌, ◌*◌, false, [], ◌∷◌, ◌++◌, length, ap, sym, ◌∙◌, append_assoc, arith, length-append}
-use Rattle.left_right.specs.Sides.{view}
-use Rattle.left_right.specs.declared.part.Part.{Part}
-use Rattle.mf_live.specs.declared.event.Event.{Event}
+-- The history of a picture: how long its lists are, and what one more event does to them.
+use Rattle.std.proofs.Common.{◌≡◌, ◌≤◌, ◌+◌, false, List, [], ◌∷◌, ◌++◌, length, take, drop, ap, refl, sym, ◌∙◌, subst, arith, length-append}
+use Rattle.std.proofs.Math.Seq.{take-append_seam}
+use Rattle.std.proofs.lemmas.List.{take-append-drop}
+use mathlib.Core.List.{IsPrefix}
+use Rattle.mf_live.specs.declared.event.Line.{Line}
+use Rattle.mf_live.specs.declared.event.WriterEvent.{WriterEvent}
+use Rattle.mf_live.specs.declared.event.WriterEvent.TheVariants as writer
+use Rattle.mf_live.specs.declared.history.History.{History}
 use Rattle.mf_live.specs.declared.holder.Holder.{Holder}
-use Rattle.mf_live.specs.declared.version.Version.{Version}
-use Rattle.mf_live.specs.declared.view.View.{View}
-use Rattle.mf_live.specs.Books.{greatest_limit}
-use Rattle.mf_live.specs.Entries.{Entry}
+use Rattle.mf_live.specs.Books.{greatest_limit, BeginsWith}
+use Rattle.mf_live.specs.Entries.{Change, Entry, entry, accepted_list_with, next_label}
+use Rattle.mf_live.specs.Events.{Event, Accept, Close, Publish, event_of, events_of}
 use Rattle.mf_live.specs.Holders.{events, accepted_list, published_list, version}
-use Rattle.mf_live.specs.Rule.{events_of, history, version_list, with_event}
+use Rattle.mf_live.specs.Rule.{book_of, lines_of, version_list}
 use Rattle.mf_live.specs.World.{World, IsLawful, Happen, May, new_world, after_event, world_after, accepted_list_of, published_list_of}
 use Rattle.mf_live.proofs.EntryLists.{length-revision_at}
+use Rattle.mf_live.proofs.ListPrefixes.{prefix-trans}
 use Rattle.mf_live.proofs.Worlds.{world_after-push, Happen-push, lawful-after}
 
+pub events_of-append : (xs ys : List Line) → events_of (xs ++ ys) ≡ events_of xs ++ events_of ys
+events_of-append [] ys = refl
+events_of-append (l ∷ ls) ys = ap (λ es. event_of l.event ∷ es) (events_of-append ls ys)
+
+pub events_of-push : (xs : List Line) (l : Line) → events_of (xs ++ l ∷ []) ≡ events_of xs ++ event_of l.event ∷ []
+events_of-push xs l = events_of-append xs (l ∷ [])
+
+pub Happen-line : (lines : List Line) (l : Line) → Happen greatest_limit new_world (events_of lines)
+    → May greatest_limit (world_after new_world (events_of lines)) (event_of l.event) → Happen greatest_limit new_world (events_of (lines ++ l ∷ []))
+Happen-line lines l happen may = rw (events_of-push lines l) (Happen-push greatest_limit new_world (events_of lines) (event_of l.event) happen may)
+
+-- a writer never writes that it has gone
+stays-event : (w : World) (e : WriterEvent) → w.gone ≡ false → (after_event w (event_of e)).gone ≡ false
+stays-event w (writer.Accept op) here = here
+stays-event w writer.Close here = here
+stays-event w writer.Publish here = here
+
+stays : (w : World) (lines : List Line) → w.gone ≡ false → (world_after w (events_of lines)).gone ≡ false
+stays w [] here = here
+stays w (l ∷ ls) here = stays (after_event w (event_of l.event)) ls (stays-event w l.event here)
+
+pub is_there : (lines : List Line) → (world_after new_world (events_of lines)).gone ≡ false
+is_there lines = stays new_world lines refl
+
+-- a list begins with its prefixes
+pub begins_from : (xs ys : List Line) → IsPrefix xs ys → BeginsWith ys xs
+begins_from xs ys prefix = ap (take (length xs)) (sym prefix.1) ∙ take-append_seam xs prefix.0
+
+pub prefix_from : (xs ys : List Line) → BeginsWith ys xs → IsPrefix xs ys
+prefix_from xs ys begins = (drop (length xs) ys, ap (λ L. L ++ drop (length xs) ys) (sym begins) ∙ take-append-drop (length xs) ys)
+
 pub lawful : (h : Holder) → IsLawful greatest_limit (world_after new_world (events h))
-lawful h = lawful-after greatest_limit (events h) h.lawful
+lawful h = lawful-after greatest_limit (events h) h.history.lawful
 
 -- at most `greatest_limit` operations and the end mark were accepted
-pub few_entries : (h : Holder) → length (accepted_list h) ≤ greatest_limit + 1
-few_entries h = omega (arith, length-revision_at (accepted_list h) (lawful h).ended, (lawful h).few)
+pub few_entries : (h : Holder) → h.entries ≤ greatest_limit + 1
+few_entries h = omega (arith, h.counted, length-revision_at (accepted_list h) (lawful h).ended, (lawful h).few)
 
--- the shown version knows of at most two events for each entry
-pub few_events : (h : Holder) → length (events_of (version h)) ≤ 2 * (greatest_limit + 1)
-few_events h = omega (arith, h.short, h.since, few_entries h)
+-- what one more event does to the lists
+module _ (old new : List Event) (e : Event) (more : new ≡ old ++ e ∷ []) where
+  world_is : world_after new_world new ≡ after_event (world_after new_world old) e
+  world_is = ap (world_after new_world) more ∙ world_after-push new_world old e
 
-pub few_unwritten : (h : Holder) → h.unwritten ≤ greatest_limit + 1
-few_unwritten h = omega (arith, h.since, few_entries h)
+  pub accepted-more : accepted_list_of new ≡ (after_event (world_after new_world old) e).accepted
+  accepted-more = ap (λ (w : World). w.accepted) world_is
 
--- the writer has one more event to write, by which the entry e is accepted
-pub record HasOneMore (h : Holder) (x : Version) (w : View) (e : Entry) : Type 0 where
-  pub accepted : accepted_list_of (history x w) ≡ accepted_list h ++ e ∷ []
-  pub published : published_list_of (history x w) ≡ published_list h
-  pub shown_is : version_list x ≡ published_list_of (history x w)
-  pub lawful : Happen greatest_limit new_world (history x w)
-  pub alive : (world_after new_world (history x w)).gone ≡ false
-  pub counted : h.unwritten + 1 ≡ length w.unwritten
-  pub since : h.unwritten + 1 + length (version_list x) ≡ length (accepted_list_of (history x w))
+  pub published-more : published_list_of new ≡ (after_event (world_after new_world old) e).published
+  published-more = ap (λ (w : World). w.published) world_is
 
-abbrev with_entry : World → Entry → World
-with_entry w e = record w { accepted = w.accepted ++ e ∷ [] }
+abbrev with_change : World → Change → World
+with_change w c = record w { accepted = accepted_list_with w.accepted w.published c }
 
-pub HasOneMore-event : (h : Holder) (shown : Part Version) (w : View) (happens : Event) (e : Entry) → shown ≡ h.swap.desk.shown
-    → w ≡ with_event (view h.swap.desk.place) happens → May greatest_limit (world_after new_world (events h)) happens
-    → after_event (world_after new_world (events h)) happens ≡ with_entry (world_after new_world (events h)) e → HasOneMore h shown.value w e
-HasOneMore-event h shown w happens e stays more may accepts =
-    let x = shown.value in
-    let same : x ≡ version h = ap (λ (part : Part Version). part.value) stays in
-    let unwritten = (view h.swap.desk.place).unwritten in
-    let log : history x w ≡ events h ++ happens ∷ [] = (λ i. history (same i) (more i)) ∙ sym (append_assoc (events_of (version h)) unwritten (happens ∷ [])) in
-    let world : world_after new_world (history x w) ≡ with_entry (world_after new_world (events h)) e =
-    ap (world_after new_world) log ∙ world_after-push new_world (events h) happens ∙ accepts in
-    let accepted_is : accepted_list_of (history x w) ≡ accepted_list h ++ e ∷ [] = ap (λ (u : World). u.accepted) world in
-    let published_is : published_list_of (history x w) ≡ published_list h = ap (λ (u : World). u.published) world in
+-- one more change is accepted, and the same version is shown
+pub record HasOneMore (h : Holder) (next : History) (c : Change) : Type 0 where
+  pub book : book_of (version h) ≡ next.known.seen.book
+  pub shown : BeginsWith next.known.seen.log (lines_of (version h))
+  pub accepted : accepted_list_of (events_of next.known.seen.log) ≡ accepted_list_with (accepted_list h) (published_list h) c
+  pub published : published_list_of (events_of next.known.seen.log) ≡ published_list h
+  pub shown_is : version_list (version h) ≡ published_list_of (events_of next.known.seen.log)
+  pub counted : h.entries + 1 ≡ length (accepted_list_of (events_of next.known.seen.log))
+
+pub one_more : (h : Holder) (next : History) (e : Event) (c : Change) → next.known.seen.book ≡ h.history.known.seen.book
+    → events_of next.known.seen.log ≡ events h ++ e ∷ [] → IsPrefix h.history.known.seen.log next.known.seen.log
+    → after_event (world_after new_world (events h)) e ≡ with_change (world_after new_world (events h)) c → HasOneMore h next c
+one_more h next e c book more prefix accepts =
+    let accepted : accepted_list_of (events_of next.known.seen.log) ≡ accepted_list_with (accepted_list h) (published_list h) c =
+    accepted-more (events h) _ e more ∙ ap (λ (w : World). w.accepted) accepts in
+    let published : published_list_of (events_of next.known.seen.log) ≡ published_list h = published-more (events h) _ e more ∙ ap (λ (w : World). w.published) accepts in
     record {
-      accepted = accepted_is;
-      published = published_is;
-      shown_is = ap version_list same ∙ h.shown_is ∙ sym published_is;
-      lawful = rw log (Happen-push greatest_limit new_world (events h) happens h.lawful may);
-      alive = ap (λ (u : World). u.gone) world ∙ h.alive;
-      counted = omega (arith, h.counted, ap (λ (v : View). length v.unwritten) more, length-append unwritten (happens ∷ []));
-      since = omega (arith, h.since, ap (λ (y : Version). length (version_list y)) same, ap length accepted_is, length-append (accepted_list h) (e ∷ []));
+      book = h.book ∙ sym book;
+      shown = begins_from _ _ (prefix-trans _ h.history.known.seen.log _ (prefix_from _ _ h.shown) prefix);
+      accepted = accepted;
+      published = published;
+      shown_is = h.shown_is ∙ sym published;
+      counted = omega (arith, h.counted, ap length accepted, length-append (accepted_list h) (entry (next_label (published_list h)) c ∷ []));
     }

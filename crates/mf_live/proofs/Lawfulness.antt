@@ -6,8 +6,7 @@ use Rattle.std.proofs.Math.ListN.{get_or-append}
 use Rattle.std.proofs.lemmas.Bool.{cond_both, cond-true, eq-eqb}
 use Rattle.std.proofs.lemmas.List.{append_assoc, append-nil, length-append}
 use Rattle.std.proofs.lemmas.List.Elements.{All-nil, All-head, All-tail, All-push, All-weaker}
-use Rattle.mf_live.specs.declared.event.Event.{Event}
-use Rattle.mf_live.specs.declared.event.Event.TheVariants.{Accept, Refuse, Close, Publish, Discard, Look, Tell, Learn}
+use Rattle.mf_live.specs.Events.{Event, Accept, Refuse, Close, Publish, Discard, Look, Tell, Learn}
 use Rattle.mf_live.specs.Entries.{Change, Operation, Entry, entry, revision_at, accepted_list_with, next_label, next_label_after, is_closed, IsUnrefused}
 use Rattle.mf_live.specs.Prefixes.{IsWholePrefix, labels}
 use Rattle.mf_live.specs.World.{World, May, after_event, notice_at, with_seen, IsPending, IsLawful, ShowsMore}

@@ -5,7 +5,6 @@ pub mod Histories
 pub mod Lawfulness
 pub mod ListPrefixes
 pub mod Looking
-pub mod Publishing
 pub mod Seats
 pub mod WholePrefixes
 pub mod WholePublishes

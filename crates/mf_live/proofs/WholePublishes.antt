@@ -4,8 +4,7 @@ use Rattle.std.proofs.Common.{length, get_or, refl, sym, ap, arith, length-appen
 use Rattle.std.proofs.lemmas.Bool.{ne_eqb}
 use Rattle.std.proofs.lemmas.List.{append-nil, get_or_append_left, get_or_at, nil_from_length}
 use Rattle.std.proofs.lemmas.List.Elements.{filter-append}
-use Rattle.mf_live.specs.declared.event.Event.{Event}
-use Rattle.mf_live.specs.declared.event.Event.TheVariants.{Accept, Close, Publish, Discard}
+use Rattle.mf_live.specs.Events.{Event, Accept, Close, Publish, Discard}
 use Rattle.mf_live.specs.Entries.{Change, Operation, End, Entry, entry, next_label_after, next_label}
 use Rattle.mf_live.specs.Prefixes.{labels, IsCut, IsWholePrefix, entries_labelled, HasWholePublishes}
 use Rattle.mf_live.specs.World.{World, new_world, after_event, world_after, published_list_of}

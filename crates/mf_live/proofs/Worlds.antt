@@ -1,6 +1,6 @@
 -- Lists of events and the worlds after them.
 use Rattle.std.proofs.Common.{◌≡◌, ℕ, List, [], ◌∷◌, ◌++◌, refl, arith}
-use Rattle.mf_live.specs.declared.event.Event.{Event}
+use Rattle.mf_live.specs.Events.{Event}
 use Rattle.mf_live.specs.Prefixes.{IsWholePrefix}
 use Rattle.mf_live.specs.World.{World, new_world, Happen, May, after_event, world_after, IsLawful, EverySchedule, StaysLawful, published_list_of}
 use Rattle.mf_live.proofs.Lawfulness.{lawful_event, published-event, shows_more, none_pending}

@@ -1,8 +1,7 @@
 -- The fact that events can happen has at most one proof, as a type's invariant requires.
 use Rattle.std.specs.Prelude.{ℕ, List, [], ◌∷◌}
 use Rattle.std.proofs.Props.{props}
-use Rattle.mf_live.specs.declared.event.Event.{Event}
-use Rattle.mf_live.specs.declared.event.Event.TheVariants.{Accept, Refuse, Close, Publish, Discard, Look, Tell, Learn}
+use Rattle.mf_live.specs.Events.{Event, Accept, Refuse, Close, Publish, Discard, Look, Tell, Learn}
 use Rattle.mf_live.specs.World.{World, May, Happen, after_event}
 
 May-prop : (max_ops : ℕ) (w : World) (e : Event) → IsProp (May max_ops w e)

@@ -1,6 +1,7 @@
 pub mod Books
 pub mod Desks
 pub mod Entries
+pub mod Events
 pub mod FreshViewers
 pub mod Happening
 pub mod Holders

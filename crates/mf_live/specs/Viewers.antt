@@ -2,24 +2,23 @@
 use Rattle.std.specs.Prelude.{◌≡◌, false, List, []}
 use Rattle.logbook.specs.Pages.{Book}
 use Rattle.left_right.specs.Sides.{view}
-use Rattle.mf_live.specs.declared.event.Event.{Event}
 use Rattle.mf_live.specs.declared.history.Knowledge.{Knowledge}
 use Rattle.mf_live.specs.declared.look.Look.{Look}
 use Rattle.mf_live.specs.declared.notice.Notice.{Notice}
 use Rattle.mf_live.specs.declared.viewer.Viewer.{Viewer}
 use Rattle.mf_live.specs.Books.{greatest_limit}
 use Rattle.mf_live.specs.Entries.{Entry}
+use Rattle.mf_live.specs.Events.{Event, events_of}
 use Rattle.mf_live.specs.Prefixes.{IsWholePrefix, longer}
-use Rattle.mf_live.specs.Rule.{seen_knowledge}
 use Rattle.mf_live.specs.World.{Happen, new_world, world_after, accepted_list_of, published_list_of}
 
 -- which picture a notice is of
 abbrev pub notice_identity : Notice → Book
-notice_identity n = n.prefix.knowledge.seen.book
+notice_identity n = n.knowledge.seen.book
 
 -- the events of its picture that it knows
 abbrev pub notice_events : Notice → List Event
-notice_events n = n.prefix.knowledge.seen.log
+notice_events n = events_of n.knowledge.seen.log
 
 -- the list that a notice says is published
 abbrev pub told_list : Notice → List Entry
@@ -31,7 +30,7 @@ identity v = notice_identity v.known
 
 -- the events of its picture that a viewer knew in its last look that was answered
 abbrev pub looked_at_events : Viewer → List Event
-looked_at_events v = (seen_knowledge v.missed (view v.reader.place)).seen.log
+looked_at_events v = events_of v.looked.seen.log
 
 -- the list of the last look that was answered
 abbrev pub looked_at_list : Viewer → List Entry
@@ -74,7 +73,7 @@ look_learnt_list l = told_list l.known
 
 -- the events of its picture that a look knows: all up to the publish that it shows
 abbrev pub look_events : Look → List Event
-look_events l = (view l.reading.place).latest.seen.log
+look_events l = events_of (view l.reading.place).knowledge.seen.log
 
 -- the list that a look shows
 abbrev pub shown_list : Look → List Entry

@@ -1,9 +1,8 @@
 -- The world of one picture: what is accepted and published, what viewers have seen, and what may happen to it.
 use Rattle.std.specs.Prelude.{◌≡◌, ◌<◌, ◌≤◌, ◌++◌, ◌==◌, Bool, true, false, ℕ, zero, suc, List, [], ◌∷◌, All, length, None, if◌then◌else◌}
 use Rattle.mf_ops.specs.Step.{op_fault}
-use Rattle.mf_live.specs.declared.event.Event.{Event}
-use Rattle.mf_live.specs.declared.event.Event.TheVariants.{Accept, Refuse, Close, Publish, Discard, Look, Tell, Learn}
 use Rattle.mf_live.specs.Entries.{Operation, End, Entry, picture_at, revision_at, accepted_list_with, next_label, is_closed, is_nothing_after_end, IsUnrefused}
+use Rattle.mf_live.specs.Events.{Event, Accept, Refuse, Close, Publish, Discard, Look, Tell, Learn}
 use Rattle.mf_live.specs.Prefixes.{IsWholePrefix, longer}
 
 -- what the writer has accepted, what of that is published, what viewers have seen, and what notices say

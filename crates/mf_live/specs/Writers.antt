@@ -9,7 +9,6 @@ use Rattle.mf_live.specs.declared.closing.Ended.{Ended}
 use Rattle.mf_live.specs.declared.writer.Writer.{Writer}
 use Rattle.mf_live.specs.Entries.{End, Entry, accepted_list_with, picture_at, revision_at}
 use Rattle.mf_live.specs.Holders as holders
-use Rattle.mf_live.specs.Rule.{book_of, version_list}
 
 -- which picture it is
 abbrev pub identity : Writer → Book
@@ -58,11 +57,11 @@ closing_visible_list c = holders.visible_list c.holder
 
 -- which picture has ended
 abbrev pub ended_identity : Ended → Book
-ended_identity e = book_of e.swap.desk.shown.value
+ended_identity e = holders.identity e.holder
 
--- what its copies show
+-- what it has published
 abbrev pub ended_published_list : Ended → List Entry
-ended_published_list e = version_list e.swap.desk.shown.value
+ended_published_list e = holders.published_list e.holder
 
 -- the writer is as it was
 pub record IsSameWriter (before after : Writer) : Type 0 where
@@ -70,6 +69,16 @@ pub record IsSameWriter (before after : Writer) : Type 0 where
   pub accepted : accepted_list after ≡ accepted_list before
   pub published : published_list after ≡ published_list before
   pub max_ops : max_ops after ≡ max_ops before
+
+-- the same of a picture whose end mark is set but not published, and of one that was closed
+pub record IsSameClosing (before after : Closing) : Type 0 where
+  pub identity : closing_identity after ≡ closing_identity before
+  pub accepted : closing_accepted_list after ≡ closing_accepted_list before
+  pub published : closing_published_list after ≡ closing_published_list before
+
+pub record IsSameEnded (before after : Ended) : Type 0 where
+  pub identity : ended_identity after ≡ ended_identity before
+  pub published : ended_published_list after ≡ ended_published_list before
 
 -- the end mark is set, and nothing was published
 pub record IsHalfway (before : Writer) (after : Closing) : Type 0 where

@@ -1,26 +1,26 @@
-//! The book in which a picture's events are kept, and the steps that write into it.
+//! The book in which a picture's history is kept, and the steps of its writer.
 
-use crate::event::Event;
+use crate::event::{Line, WriterEvent};
 use logbook::{Gain, Plain, Play, Rule, Word};
 use std::marker::{Brand, PhantomData};
 
-/// The rule of a book: its events could happen, in their order.
+/// The rule of a book: its events could happen, in their order, and each pen that has written a line is used up.
 pub struct Law;
 
-impl Rule<Event, u64> for Law {
+impl Rule<Line, u64> for Law {
     ghost use Rattle.std.specs.Prelude.{[]};
     ghost use base.Fml.{ftrue};
     ghost use Rattle.mf_live.specs.Books.{IsLawfulBook};
 
-    ghost holds = { λ cells events. IsLawfulBook cells events };
+    ghost holds = { λ cells lines. IsLawfulBook cells lines };
 
     ghost first = { [] };
 
-    ghost hinted = { λ n events. Unit {0} };
+    ghost hinted = { λ n lines. Unit {0} };
 
-    ghost shows = { λ events. [] };
+    ghost shows = { λ lines. [] };
 
-    ghost keeps = { λ names events. ftrue };
+    ghost keeps = { λ names lines. ftrue };
 
     ghost moves = { λ ask before after answer. Unit {0} };
 }
@@ -28,49 +28,94 @@ impl Rule<Event, u64> for Law {
 /// A step gains nothing.
 pub struct Nothing;
 
-impl Gain<Event, u64> for Nothing {
+impl Gain<Line, u64> for Nothing {
     ghost use base.Fml.{ftrue};
 
     ghost after = { λ names about answer. ftrue };
 }
 
-/// The events that a step writes, chosen at each call.
-pub trait Happening {
-    ghost use Rattle.std.specs.Prelude.{List};
-    ghost use Rattle.mf_live.specs.declared.event.Event.{Event};
-
-    ghost more: { List Event };
-}
-
-impl Happening for Brand {
-    ghost use Rattle.std.specs.Prelude.{[]};
-
-    ghost more = { [] };
-}
-
-/// A step that writes events.
-pub struct Write<N> {
-    events: PhantomData<N>,
-}
-
-impl<N: Happening> Play<Event, u64> for Write<N> {
-    ghost use Rattle.std.specs.Prelude.{◌==◌};
-    ghost use Rattle.mf_live.specs.Books.{Writes};
-
-    ghost then = { λ s v found w. Writes N.more (found == s.old) v w };
-}
-
-/// What a step asks for: no event of its own.
+/// What a step asks for: no line of its own.
 pub struct Asks;
 
-impl Plain<(), Event, u64> for Asks {
+impl Plain<(), Line, u64> for Asks {
     ghost use Rattle.std.specs.Prelude.{None};
-    ghost use Rattle.mf_live.specs.declared.event.Event.TheVariants.{Refuse};
+    ghost use Rattle.mf_live.specs.declared.event.WriterEvent.TheVariants.{Publish};
 
-    ghost ask = { λ _. Refuse };
+    ghost ask = { λ _. record { event = Publish; next = 0 } };
 
     ghost state = { λ _. None };
 }
 
-/// The number of events in a book.
-pub type Head = Word<Event, u64, Law>;
+/// The event that a step writes, chosen at each call.
+pub trait Happening {
+    ghost use Rattle.mf_live.specs.declared.event.WriterEvent.{WriterEvent};
+
+    ghost event: { WriterEvent };
+}
+
+impl Happening for Brand {
+    ghost use Rattle.mf_live.specs.declared.event.WriterEvent.TheVariants.{Publish};
+
+    ghost event = { Publish };
+}
+
+/// The writer sets the end mark.
+pub struct Closes;
+
+impl Happening for Closes {
+    ghost use Rattle.mf_live.specs.declared.event.WriterEvent.TheVariants.{Close};
+
+    ghost event = { Close };
+}
+
+/// The writer publishes.
+pub struct Publishes;
+
+impl Happening for Publishes {
+    ghost use Rattle.mf_live.specs.declared.event.WriterEvent.TheVariants.{Publish};
+
+    ghost event = { Publish };
+}
+
+/// The key of the pen that writes next, chosen at each call.
+pub trait Key {
+    ghost use Rattle.std.specs.Prelude.{ℕ};
+
+    ghost key: { ℕ };
+}
+
+impl Key for Brand {
+    ghost key = { 0 };
+}
+
+/// A step that makes a pen.
+pub struct Make;
+
+impl Play<Line, u64> for Make {
+    ghost use Rattle.mf_live.specs.Books.{Makes};
+
+    ghost then = { λ s v found w. Makes found w };
+}
+
+/// A step that writes a line.
+pub struct Add<N, K> {
+    line: PhantomData<(N, K)>,
+}
+
+impl<N: Happening, K: Key> Play<Line, u64> for Add<N, K> {
+    ghost use Rattle.mf_live.specs.Books.{Adds};
+
+    ghost then = { λ s v found w. Adds (record { event = N.event; next = K.key }) v w };
+}
+
+/// A step that changes nothing.
+pub struct Confirm;
+
+impl Play<Line, u64> for Confirm {
+    ghost use Rattle.mf_live.specs.Books.{Confirms};
+
+    ghost then = { λ s v found w. Confirms v w };
+}
+
+/// The first word of a book. Only its steps matter, and not its number.
+pub type Head = Word<Line, u64, Law>;

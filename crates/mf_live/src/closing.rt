@@ -1,11 +1,9 @@
 //! The end of a picture.
 ghost use Rattle.std.specs.Prelude.{◌≡◌, true};
 ghost use Rattle.mf_live.specs.Entries.{is_closed};
-ghost use Rattle.mf_live.specs.Holders.{accepted_list};
-ghost use Rattle.mf_live.specs.Rule.{version_list};
+ghost use Rattle.mf_live.specs.Holders.{accepted_list, published_list};
 
 use crate::holder::Holder;
-use crate::rule::Swap;
 use crate::writer::Writer;
 
 mod ending;
@@ -20,8 +18,8 @@ pub struct Closing {
 /// A picture whose end mark is published: no call changes it any more. Viewers may look at it until `discard` ends it. It is not
 /// `Drop`, since ending it may mean waiting for looks.
 pub struct Ended {
-    pub(crate) swap: Swap,
-    ghost closed: { is_closed (version_list swap.desk.shown.value) ≡ true },
+    pub(crate) holder: Holder,
+    ghost closed: { is_closed (published_list holder) ≡ true },
 }
 
 /// What is handed back where an allocation fails while a picture is closed.

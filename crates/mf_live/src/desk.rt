@@ -22,5 +22,5 @@ pub struct Desk {
     pub(crate) viewers: Vec<Viewer>,
     /// A notice from when the picture was opened and nothing was published. It says which picture this is.
     pub(crate) known: Notice,
-    ghost fresh: { All (IsFresh known.prefix.knowledge) viewers.items } by { are_fresh-prop known.prefix.knowledge viewers.items },
+    ghost fresh: { All (IsFresh known.knowledge) viewers.items } by { are_fresh-prop known.knowledge viewers.items },
 }

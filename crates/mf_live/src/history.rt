@@ -1,29 +1,29 @@
-//! How much of the history of a picture is known.
-ghost use Rattle.std.specs.Prelude.{◌≡◌, false, length};
-ghost use Rattle.mf_live.specs.World.{Happen, new_world, world_after};
-ghost use Rattle.mf_live.specs.Books.{greatest_limit};
+//! The history of a picture: what is known of it, and who writes it.
+ghost use Rattle.std.specs.Prelude.{◌≡◌};
+ghost use Rattle.mf_live.specs.Books.{greatest_limit, word_of, IsPenOf};
+ghost use Rattle.mf_live.specs.Events.{events_of};
 ghost use Rattle.mf_live.specs.Happening.{Happen-prop};
+ghost use Rattle.mf_live.specs.World.{Happen, new_world};
 
-use crate::book::Law;
-use crate::event::Event;
-use logbook::Seen;
+use crate::book::{Head, Law};
+use crate::event::Line;
+use logbook::{Pen, Seen};
 
 mod writing;
 
-pub(crate) use writing::{open_history, write};
-
-/// A known prefix of a picture's history.
+/// The first lines of a picture's book, as far as they are known.
 #[derive(Drop)]
 pub struct Knowledge {
-    pub(crate) seen: Seen<Event, u64, Law>,
+    pub(crate) seen: Seen<Line, u64, Law>,
 }
 
-/// A known prefix of a picture's history, and how many events it has.
+/// All of a picture's book, and the one pen that can write on. None of it but the word has bytes.
 #[derive(Drop)]
-pub struct Prefix {
-    pub(crate) events: u64,
-    pub(crate) knowledge: Knowledge,
-    ghost counted: { events ≡ length knowledge.seen.log },
-    ghost lawful: { Happen greatest_limit new_world knowledge.seen.log } by { Happen-prop greatest_limit new_world knowledge.seen.log },
-    ghost alive: { (world_after new_world knowledge.seen.log).gone ≡ false },
+pub struct History {
+    pub(crate) word: Head,
+    pub(crate) pen: Pen,
+    pub(crate) known: Knowledge,
+    ghost word_is: { word ≡ word_of known.seen.book },
+    ghost pen_is: { IsPenOf known.seen.book known.seen.log pen.book pen.nib },
+    ghost lawful: { Happen greatest_limit new_world (events_of known.seen.log) } by { Happen-prop greatest_limit new_world (events_of known.seen.log) },
 }

@@ -2,14 +2,20 @@
 //! proves a statement only where a function's contract names it.
 ghost use mathlib.Core.List.{IsPrefix};
 ghost use Rattle.std.specs.Prelude.{◌≡◌, ◌⊎◌, ◌≤◌, true, false, List, ◌++◌, IfErr, IfOk, MatchResult, OnOk};
-ghost use Rattle.mf_live.specs.declared.event.Event.{Event};
 ghost use Rattle.mf_live.specs.Books.{greatest_limit};
 ghost use Rattle.mf_live.specs.Entries.{Entry, revision_at, is_closed, picture_at, IsUnrefused};
+ghost use Rattle.mf_live.specs.Events.{Event};
 ghost use Rattle.mf_live.specs.Prefixes.{IsWholePrefix, HasWholePublishes};
 ghost use Rattle.mf_live.specs.Sheets.{HasLearnt, HasLookedAt, IsLastNotTaken, sheet_picture, sheet_revision};
 ghost use Rattle.mf_live.specs.Viewers as viewers;
 ghost use Rattle.mf_live.specs.Writers as writers;
 ghost use Rattle.mf_live.specs.World.{new_world, Happen, EverySchedule, IsPending, published_list_of};
+
+mod one_writer;
+
+pub use one_writer::{ended_published_look, ended_published_notice, ended_published_seen};
+pub use one_writer::{halfway_published_look, halfway_published_notice, halfway_published_seen};
+pub use one_writer::{writer_published_look, writer_published_notice, writer_published_seen};
 
 use crate::closing::Closing;
 use crate::look::{Look, NoLook};
@@ -85,18 +91,14 @@ pub fn notice_is_published(notice: &Notice)
     ensures { viewers.IsPublished (viewers.notice_events notice.now) (viewers.told_list notice.now) }
 {}
 
-/// Take a look and a notice of one picture: the events that one of them knows are a prefix of those that the other knows, and the
-/// list of the one is a whole prefix of the list of the other. So a look at a picture that was closed shows nothing that its
-/// writer has not published: the notice of the end has all of that.
-#[tactic(auto, using(crate::proofs::Looking::one_lists, std::proofs::lemmas::Bool::cases_lt))]
+/// Take a look and a notice of one picture: the list of the one is a whole prefix of the list of the other.
+#[tactic(auto, using(std::proofs::lemmas::Bool::cases_lt))]
 pub fn one_history(look: &Look, notice: &Notice)
     requires { viewers.notice_identity notice.now ≡ viewers.look_identity look.now }
-    ensures events { IsPrefix (viewers.notice_events notice.now) (viewers.look_events look.now)
-        ⊎ IsPrefix (viewers.look_events look.now) (viewers.notice_events notice.now) }
-    ensures lists { IsWholePrefix (viewers.told_list notice.now) (viewers.shown_list look.now)
+    ensures { IsWholePrefix (viewers.told_list notice.now) (viewers.shown_list look.now)
         ⊎ IsWholePrefix (viewers.shown_list look.now) (viewers.told_list notice.now) }
 {
-    look.reading.get().notice.prefix.meets(&notice.prefix);
+    look.reading.get().notice.meets(notice);
 }
 
 /// A viewer that has learnt of the end sees the complete list. The events that its look knows have published it, and everything

@@ -1,8 +1,7 @@
 //! Looks.
-ghost use Rattle.std.specs.Prelude.{◌≡◌, ◌≤◌, true, length};
+ghost use Rattle.std.specs.Prelude.{◌≡◌, ◌≤◌, true};
 ghost use Rattle.left_right.specs.Sides.{view};
 ghost use Rattle.mf_live.specs.Rule.{knowledge_of};
-ghost use Rattle.mf_live.specs.World.{published_list_of};
 
 use crate::notice::Notice;
 use crate::rule::Lists;
@@ -25,9 +24,9 @@ pub struct Look {
     pub(crate) reading: Reading<Version, View, Lists>,
     pub(crate) known: Notice,
     ghost identified: { (view reading.place).identified ≡ true },
-    ghost book: { (view reading.place).latest.seen.book ≡ known.prefix.knowledge.seen.book },
-    ghost knowledge: { (view reading.place).latest ≡ knowledge_of reading.part.value },
-    ghost enough: { length (published_list_of known.prefix.knowledge.seen.log) ≤ length (published_list_of (view reading.place).latest.seen.log) },
+    ghost book: { (view reading.place).knowledge.seen.book ≡ known.knowledge.seen.book },
+    ghost knowledge: { (view reading.place).knowledge ≡ knowledge_of reading.part.value },
+    ghost enough: { known.entries ≤ reading.part.value.notice.entries },
 }
 
 impl Drop for Look {

@@ -113,31 +113,3 @@ fn publishes_the_end_later(rt: HostRuntime) {
     assert_shows(&rt, viewer, 1, 6);
     ended.discard(&rt);
 }
-
-/// A viewer whose last look was not answered, since the copy that it had entered was older than a notice.
-fn miss_look(viewer: Viewer) -> Viewer
-    ensures { viewers.identity result ≡ viewers.identity viewer }
-{
-    let Viewer {
-        reader,
-        known,
-        missed: _,
-    } = viewer;
-    Viewer {
-        reader,
-        known,
-        missed: true,
-    }
-}
-
-#[test]
-fn looks_again_after_a_look_that_was_missed(rt: HostRuntime) {
-    let alloc = rt.alloc();
-    let (mut writer, viewer) = open(&rt, alloc);
-    let viewer = assert_shows(&rt, viewer, 0, 0);
-    fill(&rt, alloc, &mut writer);
-    writer.publish(&rt).expect(&rt, "there is room to publish");
-    let viewer = assert_shows(&rt, miss_look(viewer), 1, 6);
-    assert_shows(&rt, viewer, 1, 6);
-    writer.discard(&rt);
-}

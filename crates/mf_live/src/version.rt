@@ -1,6 +1,7 @@
 //! Versions of a picture.
 ghost use Rattle.std.specs.Prelude.{◌≡◌};
 ghost use Rattle.mf_live.specs.Entries.{picture_at};
+ghost use Rattle.mf_live.specs.Events.{events_of};
 ghost use Rattle.mf_live.specs.World.{published_list_of};
 
 use crate::notice::Notice;
@@ -13,7 +14,7 @@ use std::alloc::AllocError;
 pub struct Version {
     pub(crate) picture: Picture,
     pub(crate) notice: Notice,
-    ghost pictured: { picture ≡ picture_at (published_list_of notice.prefix.knowledge.seen.log) },
+    ghost pictured: { picture ≡ picture_at (published_list_of (events_of notice.knowledge.seen.log)) },
 }
 
 /// A publish puts a complete version into a copy, so a copy has no operations to take over from the other: the queue of

@@ -1,7 +1,9 @@
 //! Viewers.
 ghost use Rattle.std.specs.Prelude.{◌≡◌, true};
 ghost use Rattle.left_right.specs.Sides.{view};
+ghost use Rattle.mf_live.specs.Books.{BeginsWith};
 
+use crate::history::Knowledge;
 use crate::notice::Notice;
 use crate::rule::Lists;
 use crate::version::Version;
@@ -16,9 +18,12 @@ pub struct Viewer {
     pub(crate) reader: Reader<Version, View, Lists>,
     /// The longest notice that it has learnt.
     pub(crate) known: Notice,
-    /// Whether the copy that it entered last was not shown, because that copy was older than a notice.
-    pub(crate) missed: bool,
+    /// What its last look that was answered knew.
+    pub(crate) looked: Knowledge,
     ghost identified: { (view reader.place).identified ≡ true },
     // Only the book ties a viewer to its picture: `left_right` says of which table a new reader is, but not once it has looked.
-    ghost book: { (view reader.place).latest.seen.book ≡ known.prefix.knowledge.seen.book },
+    ghost book: { (view reader.place).knowledge.seen.book ≡ known.knowledge.seen.book },
+    ghost same: { looked.seen.book ≡ known.knowledge.seen.book },
+    // A copy that it has entered but not shown, because it was older than a notice, knows more.
+    ghost kept: { BeginsWith (view reader.place).knowledge.seen.log looked.seen.log },
 }

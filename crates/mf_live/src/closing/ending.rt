@@ -33,9 +33,7 @@ impl Writer {
         };
         holder.end();
         holder.publish_picture(rt, picture);
-        Ok(Ended {
-            swap: holder.into_swap(),
-        })
+        Ok(Ended { holder })
     }
 }
 
@@ -51,9 +49,7 @@ impl Closing {
     {
         let Closing { mut holder } = self;
         match holder.publish(rt) {
-            Ok(()) => Ok(Ended {
-                swap: holder.into_swap(),
-            }),
+            Ok(()) => Ok(Ended { holder }),
             Err(_) => Err(Closing { holder }),
         }
     }
@@ -81,7 +77,7 @@ impl Ended {
         ensures told { told_list result ≡ ended_published_list self.old }
         ensures closed { is_closed (told_list result) ≡ true }
     {
-        self.swap.published().notice.copy()
+        self.holder.swap.published().notice.copy()
     }
 
     /// Ends the picture. It may wait for looks that are held, and looks may be refused from then on. Nothing is left that a clause
@@ -92,9 +88,9 @@ impl Ended {
 
     /// Its copies, unchanged.
     fn into_swap(self) -> Swap
-        ensures { result ≡ self.swap }
+        ensures { result ≡ self.holder.swap }
     {
-        let Ended { swap } = self;
-        swap
+        let Ended { holder } = self;
+        holder.into_swap()
     }
 }

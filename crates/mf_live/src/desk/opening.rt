@@ -78,6 +78,6 @@ fn seat_one(holder: &mut Holder) -> Option<Viewer>
     Some(Viewer {
         reader,
         known: holder.swap.published().notice.copy(),
-        missed: false,
+        looked: holder.history.known.copy(),
     })
 }

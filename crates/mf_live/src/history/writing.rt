@@ -1,26 +1,15 @@
-//! Opening, copying and writing histories.
-ghost use Rattle.std.specs.Prelude.{◌≡◌, ◌+◌, ◌^◌, ◌<◌, ◌≤◌, ◌++◌, [], false, length, MatchBool};
+//! Opening, writing and confirming histories.
+ghost use Rattle.std.specs.Prelude.{◌≡◌, ◌++◌, [], ◌∷◌, IfSome};
 ghost use mathlib.Core.List.{IsPrefix};
-ghost use Rattle.mf_live.specs.Books.{greatest_limit, counter_of};
-ghost use Rattle.mf_live.specs.World.{Happen, new_world, world_after};
+ghost use Rattle.logbook.specs.Pages.{may_write};
+ghost use Rattle.mf_live.specs.Books.{greatest_limit, first_pen, word_of, IsPenOf};
+ghost use Rattle.mf_live.specs.Events.{event_of, events_of};
+ghost use Rattle.mf_live.specs.World.{May, new_world, world_after};
 
-use super::{Knowledge, Prefix};
-use crate::book::{Asks, Happening, Head, Nothing, Write};
-use logbook::{Seen, Start, Word};
-use std::sync::Wait;
-
-/// A new history, in which nothing has happened, and the word that counts its events.
-pub(crate) fn open_history() -> (Head, Prefix)
-    ensures head { result.0 ≡ counter_of result.1.knowledge.seen.book }
-    ensures empty { result.1.knowledge.seen.log ≡ [] }
-{
-    let (seen, mut first, _second) = Seen::open(Start::alone(), 0, 0);
-    let prefix = Prefix {
-        events: 0,
-        knowledge: Knowledge { seen },
-    };
-    (Word::tracked(0, &mut first), prefix)
-}
+use super::{History, Knowledge};
+use crate::book::{Add, Asks, Confirm, Happening, Head, Key, Make, Nothing};
+use logbook::{Pen, Seen, Start, Word};
+use std::marker::Brand;
 
 impl Knowledge {
     /// A copy.
@@ -33,74 +22,78 @@ impl Knowledge {
     }
 }
 
-impl Prefix {
-    /// A copy.
-    pub(crate) fn copy(&self) -> Prefix
-        ensures { result.knowledge ≡ self.now.knowledge }
-    {
-        Prefix {
-            events: self.events,
-            knowledge: self.knowledge.copy(),
-        }
-    }
-
-    /// Of two known prefixes of the same history, the one with fewer events is a prefix of the other.
-    pub(crate) fn meets(&self, other: &Prefix)
-        requires { other.now.knowledge.seen.book ≡ self.now.knowledge.seen.book }
-        ensures this { self.now.events ≤ other.now.events → IsPrefix self.now.knowledge.seen.log other.now.knowledge.seen.log }
-        ensures that { other.now.events ≤ self.now.events → IsPrefix other.now.knowledge.seen.log self.now.knowledge.seen.log }
-    {
-        let mut both = self.knowledge.copy();
-        both.seen.learn(&other.knowledge.seen);
-    }
+/// A new pen, which is the first where the number is 0.
+fn make_pen(word: &Head, known: &Knowledge) -> (u64, Pen)
+    requires word { word.now ≡ word_of known.now.seen.book }
+    ensures pen { (result.1.book ≡ known.now.seen.book) × (result.1.nib.right ≡ may_write) }
+    ensures first { result.0 ≡ 0 → result.1.nib.key ≡ first_pen }
+{
+    let mut at = known.copy();
+    let mut offer = at.seen.plain::<Nothing, (), Asks>(&());
+    let mut pen = at.seen.no_pen();
+    let found = word.compare_exchange::<Make, Nothing>(0, 1, &mut at.seen, &mut offer, &mut pen);
+    let _cell: Head = Word::tracked(0, &mut pen);
+    (found, pen)
 }
 
-/// Writes events after everything that is known, unless others are there already. Answers whether it has.
-fn try_write<N: Happening>(head: &Head, prefix: &mut Prefix, count: u64) -> bool
-    requires head { head.now ≡ counter_of prefix.old.knowledge.seen.book }
-    requires count { count ≡ length N.more }
-    requires room { prefix.old.events + count < 2 ^ 64 }
-    requires lawful { Happen greatest_limit (world_after new_world prefix.old.knowledge.seen.log) N.more }
-    requires alive { (world_after new_world (prefix.old.knowledge.seen.log ++ N.more)).gone ≡ false }
-    ensures book { prefix.new.knowledge.seen.book ≡ prefix.old.knowledge.seen.book }
-    ensures log { MatchBool result (prefix.new.knowledge.seen.log ≡ prefix.old.knowledge.seen.log ++ N.more)
-        (prefix.new.knowledge.seen.log ≡ prefix.old.knowledge.seen.log) }
+/// Writes a line after all lines. The pen is used up, and the line names the next one.
+fn add_line<N: Happening, K: Key>(word: &Head, known: &mut Knowledge, pen: &mut Pen, next: &Pen)
+    requires word { word.now ≡ word_of known.old.seen.book }
+    requires pen { IsPenOf known.old.seen.book known.old.seen.log pen.old.book pen.old.nib }
+    requires next { K.key ≡ next.now.nib.key }
+    requires may { May greatest_limit (world_after new_world (events_of known.old.seen.log)) (event_of N.event) }
+    ensures book { known.new.seen.book ≡ known.old.seen.book }
+    ensures log { known.new.seen.log ≡ known.old.seen.log ++ record { event = N.event; next = next.now.nib.key } ∷ [] }
 {
-    let mut knowledge = prefix.knowledge.copy();
-    let mut offer = knowledge.seen.plain::<Nothing, (), Asks>(&());
-    let mut pen = knowledge.seen.no_pen();
-    let found = head.compare_exchange::<Write<N>, Nothing>(
-        prefix.events,
-        prefix.events + count,
-        &mut knowledge.seen,
-        &mut offer,
-        &mut pen,
-    );
-    if found != prefix.events {
-        return false;
-    }
-    *prefix = Prefix {
-        events: prefix.events + count,
-        knowledge,
-    };
-    true
+    // `next` is only there to choose the key.
+    let _ = next;
+    let mut offer = known.seen.plain::<Nothing, (), Asks>(&());
+    word.compare_exchange::<Add<N, K>, Nothing>(0, 1, &mut known.seen, &mut offer, pen);
 }
 
-/// Writes events into a history. Only the writer of a picture writes there, so the first try succeeds; but no type says so, so
-/// the loop needs the right to wait.
-pub(crate) fn write<N: Happening, R: Wait>(rt: &R, head: &Head, prefix: &mut Prefix, count: u64)
-    requires head { head.now ≡ counter_of prefix.old.knowledge.seen.book }
-    requires count { count ≡ length N.more }
-    requires room { prefix.old.events + count < 2 ^ 64 }
-    requires lawful { Happen greatest_limit (world_after new_world prefix.old.knowledge.seen.log) N.more }
-    requires alive { (world_after new_world (prefix.old.knowledge.seen.log ++ N.more)).gone ≡ false }
-    ensures book { prefix.new.knowledge.seen.book ≡ prefix.old.knowledge.seen.book }
-    ensures log { prefix.new.knowledge.seen.log ≡ prefix.old.knowledge.seen.log ++ N.more }
-{
-    for _ in rt.forever() {
-        if try_write::<N>(head, prefix, count) {
-            return;
+impl History {
+    /// A new history, in which nothing has happened. Nobody else has its word, so the first pen is the writer's; but no type says
+    /// so, and there is no history where it is not.
+    pub(crate) fn open() -> Option<History>
+        ensures { IfSome result (λ history. history.known.seen.log ≡ []) }
+    {
+        let (seen, mut first, _second) = Seen::open(Start::alone(), 0, 0);
+        let known = Knowledge { seen };
+        let word = Word::tracked(0, &mut first);
+        let (found, pen) = make_pen(&word, &known);
+        if found != 0 {
+            return None;
         }
+        Some(History { word, pen, known })
     }
-    unreachable!()
+
+    /// Writes an event after all others.
+    pub(crate) fn write<N: Happening>(&mut self)
+        requires { May greatest_limit (world_after new_world (events_of self.old.known.seen.log)) (event_of N.event) }
+        ensures book { self.new.known.seen.book ≡ self.old.known.seen.book }
+        ensures events { events_of self.new.known.seen.log ≡ events_of self.old.known.seen.log ++ event_of N.event ∷ [] }
+        ensures prefix { IsPrefix self.old.known.seen.log self.new.known.seen.log }
+    {
+        let (_, next) = make_pen(&self.word, &self.known);
+        add_line::<N, Brand>(&self.word, &mut self.known, &mut self.pen, &next);
+        self.pen = next;
+    }
+
+    /// Whatever anybody knows of the history was written here: nobody else can write.
+    pub(crate) fn confirm(&mut self, knowledge: &Knowledge)
+        requires { knowledge.now.seen.book ≡ self.old.known.seen.book }
+        ensures same { self.new.known ≡ self.old.known }
+        ensures prefix { IsPrefix knowledge.now.seen.log self.new.known.seen.log }
+    {
+        let mut both = self.known.copy();
+        both.seen.learn(&knowledge.seen);
+        let mut offer = both.seen.plain::<Nothing, (), Asks>(&());
+        self.word.compare_exchange::<Confirm, Nothing>(
+            0,
+            1,
+            &mut both.seen,
+            &mut offer,
+            &mut self.pen,
+        );
+    }
 }

@@ -1,20 +1,25 @@
 //! Opening a picture, and accepting operations and the end mark.
-ghost use Rattle.std.specs.Prelude.{◌≡◌, ◌<◌, ◌^◌, [], false, None, Some, Err, IfOk, IfErr, IsOk, OnOk, MatchResult};
+ghost use Rattle.std.specs.Prelude.{◌≡◌, ◌<◌, ◌^◌, ◌++◌, [], ◌∷◌, false, None, Some, Err, IfOk, IfErr, IsOk, OnOk, MatchResult};
+ghost use mathlib.Core.List.{IsPrefix};
 ghost use Rattle.left_right.specs.Sides.{view};
 ghost use Rattle.mf_geom.specs.declared.cycle.CycleFault.{CycleFault};
 ghost use Rattle.mf_ops.specs.Step.{IsRefusal, op_fault};
 ghost use Rattle.mf_ops.specs.declared.op.Op.TheVariants.{Clear};
 ghost use Rattle.mf_live.specs.Books.{greatest_limit};
 ghost use Rattle.mf_live.specs.Entries.{picture_at, revision_at, accepted_list_with, is_closed, Operation, End};
+ghost use Rattle.mf_live.specs.Events as events;
+ghost use Rattle.mf_live.specs.Events.{events_of};
 ghost use Rattle.mf_live.specs.Holders.{identity, accepted_list, knowledge, published_list};
-ghost use Rattle.mf_live.specs.Rule.{view_knowing, knowledge_of, with_event};
-ghost use Rattle.mf_live.specs.declared.event.Event.TheVariants.{Accept};
+ghost use Rattle.mf_live.specs.Rule.{view_knowing, knowledge_of};
+ghost use Rattle.mf_live.specs.World.{May, new_world, world_after};
+ghost use Rattle.mf_live.specs.declared.event.WriterEvent.TheVariants.{Accept};
 
 use super::Holder;
 use super::publishing::show;
-use crate::history::{Prefix, open_history};
+use crate::book::{Closes, Happening};
+use crate::history::{History, Knowledge};
 use crate::notice::Notice;
-use crate::rule::{Accepting, Accepts, Ends, Swap};
+use crate::rule::Swap;
 use crate::version::Version;
 use mf_base::OutOfMemory;
 use mf_ops::{Op, OpFault, apply};
@@ -25,28 +30,31 @@ use std::sync::Wait;
 
 /// The blank version of a history in which nothing has happened.
 #[tactic(auto, using(crate::proofs::Blank::blank_picture, crate::proofs::Blank::blank_revision))]
-fn blank(alloc: Global, prefix: &Prefix) -> Version
-    requires { prefix.now.knowledge.seen.log ≡ [] }
-    ensures { knowledge_of result ≡ prefix.now.knowledge }
+fn blank(alloc: Global, knowledge: &Knowledge) -> Version
+    requires { knowledge.now.seen.log ≡ [] }
+    ensures { knowledge_of result ≡ knowledge.now }
 {
     Version {
         picture: Picture::blank(alloc),
         notice: Notice {
-            prefix: prefix.copy(),
-            number: 0,
+            knowledge: knowledge.copy(),
+            entries: 0,
+            revision: 0,
         },
     }
 }
 
-/// Notes in the writer's view that it has accepted an operation.
-fn note_operation<N: Accepting>(swap: &mut Swap, op: &Op)
-    requires { N.op ≡ op.now }
-    ensures shown { swap.new.desk.shown ≡ swap.old.desk.shown }
-    ensures view { view swap.new.desk.place ≡ with_event (view swap.old.desk.place) (Accept op.now) }
+/// Writes that the operation is accepted.
+fn write_operation<N: Happening>(history: &mut History, op: &Op)
+    requires op { N.event ≡ Accept op.now }
+    requires may { May greatest_limit (world_after new_world (events_of history.old.known.seen.log)) (events.Accept op.now) }
+    ensures book { history.new.known.seen.book ≡ history.old.known.seen.book }
+    ensures events { events_of history.new.known.seen.log ≡ events_of history.old.known.seen.log ++ events.Accept op.now ∷ [] }
+    ensures prefix { IsPrefix history.old.known.seen.log history.new.known.seen.log }
 {
-    // `op` is only there to choose the operation that the writer's view gets.
+    // `op` is only there to choose the event.
     let _ = op;
-    let _none = swap.tell::<Accepts<N>>();
+    history.write::<N>();
 }
 
 impl Holder {
@@ -61,18 +69,23 @@ impl Holder {
         ensures identified { IfOk result (λ h. view h.swap.desk.place ≡ view_knowing (knowledge h)) }
         ensures empty { IfOk result (λ h. (knowledge h).seen.log ≡ []) }
     {
-        let (head, prefix) = open_history();
-        let (first, second) = (blank(alloc, &prefix), blank(alloc, &prefix));
+        let Some(history) = History::open() else {
+            return Err(OutOfMemory);
+        };
+        let (first, second) = (
+            blank(alloc, &history.known),
+            blank(alloc, &history.known),
+        );
         let mut swap = Swap::new(alloc, first, second, readers)?;
         // Only a publish can put into the writer's view which picture this is, so the blank picture is shown once more.
-        show(rt, &mut swap, blank(alloc, &prefix));
+        show(rt, &mut swap, blank(alloc, &history.known));
         Ok(Holder {
             alloc,
             swap,
-            head,
+            history,
             working: Picture::blank(alloc),
             revision: 0,
-            unwritten: 0,
+            entries: 0,
         })
     }
 
@@ -93,8 +106,8 @@ impl Holder {
         ensures clears { op.now ≡ Clear → IsOk result }
     {
         apply(alloc, &mut self.working, op)?;
-        note_operation::<Brand>(&mut self.swap, op);
-        self.unwritten += 1;
+        write_operation::<Brand>(&mut self.history, op);
+        self.entries += 1;
         self.revision += 1;
         Ok(())
     }
@@ -106,10 +119,9 @@ impl Holder {
         ensures accepted { accepted_list self.new ≡ accepted_list_with (accepted_list self.old) (published_list self.old) End }
         ensures published { published_list self.new ≡ published_list self.old }
         ensures working { self.new.working ≡ self.old.working }
-        ensures waits { 0 < self.new.unwritten }
     {
-        let _none = self.swap.tell::<Ends>();
-        self.unwritten += 1;
+        self.history.write::<Closes>();
+        self.entries += 1;
     }
 
     /// The copies, unchanged, once nothing is accepted or published any more.
@@ -119,10 +131,10 @@ impl Holder {
         let Holder {
             alloc: _,
             swap,
-            head: _,
+            history: _,
             working: _,
             revision: _,
-            unwritten: _,
+            entries: _,
         } = self;
         swap
     }

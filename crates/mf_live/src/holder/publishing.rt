@@ -1,52 +1,26 @@
 //! Publishing.
 ghost use mathlib.Core.List.{IsPrefix};
-ghost use Rattle.std.specs.Prelude.{◌≡◌, ◌+◌, ◌<◌, ◌^◌, ◌++◌, false, length, IsOk, MatchResult};
+ghost use Rattle.std.specs.Prelude.{◌≡◌, IsOk, MatchResult};
 ghost use Rattle.crossbeam_utils.specs.Register.{TurnsAt};
 ghost use Rattle.left_right.specs.Sides.{view};
-ghost use Rattle.mf_live.specs.Books.{greatest_limit, counter_of};
 ghost use Rattle.mf_live.specs.Entries.{picture_at};
 ghost use Rattle.mf_live.specs.Holders.{identity, accepted_list, published_list};
-ghost use Rattle.mf_live.specs.Rule.{EachSeatKnows, IsShow, book_of, events_of, view_knowing, publish_events, knowledge_of};
-ghost use Rattle.mf_live.specs.World.{Happen, new_world, world_after};
+ghost use Rattle.mf_live.specs.Rule.{EachSeatKnows, IsShow, book_of, lines_of, view_knowing, knowledge_of};
 
 use super::Holder;
-use crate::book::{Happening, Head};
-use crate::history::{Prefix, write};
+use crate::book::Publishes;
 use crate::notice::Notice;
 use crate::rule::{Shows, Swap};
 use crate::version::Version;
 use core::mem::replace_with;
 use mf_base::OutOfMemory;
 use mf_rows::Picture;
-use std::marker::Brand;
 use std::sync::Wait;
-
-/// Writes into the book, in one step, the events that wait and the publish itself.
-fn write_publish<N: Happening, R: Wait>(
-    rt: &R,
-    swap: &Swap,
-    head: &Head,
-    prefix: &mut Prefix,
-    count: u64,
-)
-    requires events { N.more ≡ publish_events (view swap.now.desk.place) }
-    requires head { head.now ≡ counter_of prefix.old.knowledge.seen.book }
-    requires count { count ≡ length (publish_events (view swap.now.desk.place)) }
-    requires room { prefix.old.events + count < 2 ^ 64 }
-    requires lawful { Happen greatest_limit (world_after new_world prefix.old.knowledge.seen.log) (publish_events (view swap.now.desk.place)) }
-    requires alive { (world_after new_world (prefix.old.knowledge.seen.log ++ publish_events (view swap.now.desk.place))).gone ≡ false }
-    ensures book { prefix.new.knowledge.seen.book ≡ prefix.old.knowledge.seen.book }
-    ensures log { prefix.new.knowledge.seen.log ≡ prefix.old.knowledge.seen.log ++ publish_events (view swap.now.desk.place) }
-{
-    // `swap` is only there to choose the events: they are in the writer's own view.
-    let _ = swap;
-    write::<N, R>(rt, head, prefix, count);
-}
 
 /// Shows viewers this version from now on. It waits for those that still look at the version before the last.
 pub(crate) fn show<R: Wait>(rt: &R, swap: &mut Swap, version: Version)
     requires book { book_of version ≡ book_of swap.old.desk.shown.value }
-    requires prefix { IsPrefix (events_of swap.old.desk.shown.value) (events_of version) }
+    requires prefix { IsPrefix (lines_of swap.old.desk.shown.value) (lines_of version) }
     ensures shown { swap.new.desk.shown.value ≡ version }
     ensures view { view swap.new.desk.place ≡ view_knowing (knowledge_of version) }
 {
@@ -75,7 +49,7 @@ impl Holder {
             (λ _. published_list self.new ≡ published_list self.old) }
         ensures nothing { published_list self.old ≡ accepted_list self.old → IsOk result }
     {
-        if self.unwritten == 0 {
+        if self.entries == self.swap.published().notice.entries {
             return Ok(());
         }
         // An operation is worked out once, in `accept`: the copy shares its rows with the working picture.
@@ -87,20 +61,18 @@ impl Holder {
     /// Publishes everything that was accepted. `picture` is the picture of that.
     pub(crate) fn publish_picture<R: Wait>(&mut self, rt: &R, picture: Picture)
         requires picture { picture ≡ picture_at (accepted_list self.old) }
-        requires waits { 0 < self.old.unwritten }
         ensures identity { identity self.new ≡ identity self.old }
         ensures accepted { accepted_list self.new ≡ accepted_list self.old }
         ensures published { published_list self.new ≡ accepted_list self.old }
     {
         // The book comes before the swap, which may wait for a held look: until then a look shows the list before, which is
         // published, too.
-        let mut prefix = self.swap.published().notice.prefix.copy();
-        write_publish::<Brand, R>(rt, &self.swap, &self.head, &mut prefix, self.unwritten + 1);
+        self.history.write::<Publishes>();
         let notice = Notice {
-            prefix,
-            number: self.revision,
+            knowledge: self.history.known.copy(),
+            entries: self.entries,
+            revision: self.revision,
         };
         show(rt, &mut self.swap, Version { picture, notice });
-        self.unwritten = 0;
     }
 }

@@ -20,7 +20,7 @@ impl Look {
     pub fn revision(&self) -> u32
         ensures { result ≡ revision_at (shown_list self.now) }
     {
-        self.reading.get().notice.number
+        self.reading.get().notice.revision
     }
 
     /// Ends the look and gives its viewer back, which has then seen what the look showed.
@@ -32,10 +32,11 @@ impl Look {
         ensures seen { seen_list result ≡ shown_list self }
     {
         let Look { reading, known } = self;
+        let looked = reading.get().notice.knowledge.copy();
         Viewer {
             reader: reading.leave(),
             known,
-            missed: false,
+            looked,
         }
     }
 }

@@ -1,33 +1,14 @@
 //! What a viewer does.
 ghost use Rattle.std.specs.Prelude.{◌≡◌, List, true, IfOk, MatchResult};
-ghost use Rattle.left_right.specs.Sides.{view};
 ghost use Rattle.mf_live.specs.Entries.{Entry, is_nothing_after_end, is_closed};
 ghost use Rattle.mf_live.specs.Prefixes.{IsWholePrefix, longer};
-ghost use Rattle.mf_live.specs.Rule.{IsLook, seen_knowledge};
 ghost use Rattle.mf_live.specs.Viewers.{identity, learnt_list, looked_at_list, seen_list, Extends, IsPublished, SeesTheSame};
 ghost use Rattle.mf_live.specs.Viewers.{notice_identity, told_list, look_events, look_learnt_list, look_identity, shown_list};
 
 use super::Viewer;
 use crate::look::{Look, NoLook};
 use crate::notice::Notice;
-use crate::rule::{Lists, Looks, LooksAgain};
-use crate::version::Version;
-use crate::view::View;
-use left_right::reader::{Reader, Reading};
-
-/// Enters the copy that is shown.
-fn enter(
-    reader: Reader<Version, View, Lists>,
-    missed: bool,
-) -> Result<Reading<Version, View, Lists>, Reader<Version, View, Lists>>
-    ensures { MatchResult result (λ r. IsLook (seen_knowledge missed) (view reader.place) r.part.value (view r.place))
-        (λ r. view r.place ≡ view reader.place) }
-{
-    if missed {
-        return reader.enter_as::<LooksAgain>();
-    }
-    reader.enter_as::<Looks>()
-}
+use crate::rule::Looks;
 
 impl Viewer {
     /// Looks at what was published by some moment. It waits for nobody and allocates nothing. Refused with [`NoLook`], which hands
@@ -45,26 +26,26 @@ impl Viewer {
         let Viewer {
             reader,
             known,
-            missed,
+            looked,
         } = self;
-        let reading = match enter(reader, missed) {
+        let reading = match reader.enter_as::<Looks>() {
             Ok(reading) => reading,
             Err(reader) => {
                 let viewer = Viewer {
                     reader,
                     known,
-                    missed,
+                    looked,
                 };
                 return Err((viewer, NoLook));
             }
         };
-        let shown = &reading.get().notice.prefix;
-        shown.meets(&known.prefix);
-        if shown.events < known.prefix.events {
+        let shown = &reading.get().notice;
+        shown.meets(&known);
+        if shown.entries < known.entries {
             let viewer = Viewer {
                 reader: reading.leave(),
                 known,
-                missed: true,
+                looked,
             };
             return Err((viewer, NoLook));
         }
@@ -80,8 +61,8 @@ impl Viewer {
         ensures seen { seen_list self.new ≡ longer (seen_list self.old) (told_list notice) }
         ensures keeps { (L : List Entry) → Extends self.new L → Extends self.old L × IsWholePrefix (told_list notice) L }
     {
-        self.known.prefix.meets(&notice.prefix);
-        if self.known.prefix.events < notice.prefix.events {
+        self.known.meets(&notice);
+        if self.known.entries < notice.entries {
             self.known = notice;
         }
     }

@@ -67,7 +67,7 @@ impl Writer {
     pub fn pending(&self) -> u32
         ensures { result ≡ revision_at (accepted_list self.now) - revision_at (published_list self.now) }
     {
-        self.holder.revision - self.holder.swap.published().notice.number
+        self.holder.revision - self.holder.swap.published().notice.revision
     }
 
     /// Publishes all accepted operations at once; where all are published already, nothing changes, and it is never refused. It may

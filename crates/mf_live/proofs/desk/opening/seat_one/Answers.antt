@@ -1,4 +1,3 @@
-use Rattle.std.proofs.Common.{refl, inl}
 use Rattle.mf_live.proofs.Seats.{admits, forks, merges}
 use Rattle.mf_live.proofs.desk.opening.seat_one.Goals as goal
 
@@ -6,7 +5,7 @@ pub reader-requires : goal.reader-requires
 reader-requires c = admits
 
 pub tell-note-requires : goal.tell-note-requires
-tell-note-requires c = forks _ _ _ _ refl refl refl (inl refl)
+tell-note-requires c = forks _ _
 
 pub learn-requires-clause-rule : goal.learn-requires-clause-rule
 learn-requires-clause-rule c = merges _ _ _ _

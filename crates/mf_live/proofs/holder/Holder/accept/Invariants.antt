@@ -1,5 +1,6 @@
+use Rattle.mf_live.specs.declared.event.WriterEvent.TheVariants.{Accept}
 use Rattle.mf_live.proofs.holder.Holder.accept.Given as goal
 
--- the operation that is accepted
-abbrev pub ghosts-note_operation : goal.ghosts-note_operation
-ghosts-note_operation a = record { op = a.op.now }
+-- the operation is accepted
+abbrev pub ghosts-write_operation : goal.ghosts-write_operation
+ghosts-write_operation a = record { event = Accept a.op.now }

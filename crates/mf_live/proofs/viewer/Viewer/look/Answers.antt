@@ -1,27 +1,34 @@
-use Rattle.std.proofs.Common.{ap, sym, subst, ◌∙◌, arith}
-use mathlib.Core.List.{IsPrefix}
+use Rattle.std.proofs.Common.{◌≡◌, ◌≤◌, ap, sym, subst, ◌∙◌, arith}
 use Rattle.mf_live.specs.declared.view.View.{View}
 use Rattle.mf_live.specs.declared.version.Version.{Version}
-use Rattle.mf_live.specs.Rule.{events_of}
-use Rattle.mf_live.specs.Viewers.{notice_events}
+use Rattle.mf_live.specs.Events.{events_of}
+use Rattle.mf_live.specs.Prefixes.{IsWholePrefix}
+use Rattle.mf_live.specs.Rule.{version_list}
+use Rattle.mf_live.specs.Viewers.{Extends, told_list}
+use Rattle.mf_live.specs.World.{published_list_of}
 use Rattle.mf_live.proofs.Looking.{Extends-look, is_published, whole-closed, told_list-ends}
-use Rattle.mf_live.proofs.WholePrefixes.{whole-length}
+use Rattle.mf_live.proofs.Seats.{looks}
 use Rattle.mf_live.proofs.viewer.Viewer.look.Goals as goal
+
+pub enter_as-requires : goal.enter_as-requires
+enter_as-requires c = looks _ _
 
 pub returns-clause-extends : goal.returns-clause-extends
 returns-clause-extends c =
-    let known = subst (λ (x : Version). IsPrefix (notice_events c.args.self.known) (events_of x)) c.get.ensures (c.meets.ensures.that (omega arith)) in
-    Extends-look c.args.self _ _ c.in-Ok.ensures known
+    let v = c.args.self in
+    let looks = c.in-Ok.ensures.1 in
+    let learnt = subst (λ (x : Version). IsWholePrefix (told_list v.known) (version_list x)) c.get.ensures (c.meets.ensures.that (omega arith)) in
+    subst (λ (w : View). Extends v (published_list_of (events_of w.knowledge.seen.log))) (sym looks.is) (Extends-look v _ _ looks learnt)
 
 pub invariant_of-result : goal.invariant_of-result
 invariant_of-result c =
-    let looks = c.in-Ok.ensures in
-    let known = subst (λ (x : Version). IsPrefix (notice_events c.args.self.known) (events_of x)) c.get.ensures (c.meets.ensures.that (omega arith)) in
+    let v = c.args.self in
+    let looks = c.in-Ok.ensures.1 in
     record {
-      identified = ap (λ (v : View). v.identified) looks.is ∙ c.args.self.identified;
-      book = ap (λ (v : View). v.latest.seen.book) looks.is ∙ (sym (looks.knows c.args.self.identified).1.book ∙ c.args.self.book);
-      knowledge = ap (λ (v : View). v.latest) looks.is;
-      enough = whole-length _ _ (Extends-look c.args.self _ _ looks known).learnt;
+      identified = ap (λ (w : View). w.identified) looks.is ∙ v.identified;
+      book = ap (λ (w : View). w.knowledge.seen.book) looks.is ∙ (sym (looks.knows v.identified).book ∙ v.book);
+      knowledge = ap (λ (w : View). w.knowledge) looks.is;
+      enough = subst (λ (x : Version). v.known.entries ≤ x.notice.entries) c.get.ensures c.if-shown-known.false;
     }
 
 pub returns-clause-ends : goal.returns-clause-ends

@@ -1,0 +1,35 @@
+-- What may happen to a picture and to its viewers, and which of these events are its writer's.
+use Rattle.std.specs.Prelude.{Bool, ℕ, List, [], ◌∷◌}
+use Rattle.mf_ops.specs.declared.op.Op.{Op}
+use Rattle.mf_live.specs.declared.event.Line.{Line}
+use Rattle.mf_live.specs.declared.event.WriterEvent.{WriterEvent}
+use Rattle.mf_live.specs.declared.event.WriterEvent.TheVariants as writer
+
+pub data Event : Type 0 where
+  -- the writer accepts an operation
+  Accept : Op → Event
+  -- a call is refused
+  Refuse : Event
+  -- the writer sets the end mark
+  Close : Event
+  -- the writer publishes everything that it has accepted
+  Publish : Event
+  -- the writer goes away; the flag says whether it first publishes what it has accepted
+  Discard : Bool → Event
+  -- the viewer with this number looks
+  Look : ℕ → Event
+  -- the writer makes a notice of what is published
+  Tell : Event
+  -- the viewer with the first number learns the notice with the second
+  Learn : ℕ → ℕ → Event
+
+-- what a writer does, as an event
+abbrev pub event_of : WriterEvent → Event
+event_of (writer.Accept op) = Accept op
+event_of writer.Close = Close
+event_of writer.Publish = Publish
+
+-- the events that these lines of a book tell
+abbrev pub events_of : List Line → List Event
+events_of [] = []
+events_of (l ∷ ls) = event_of l.event ∷ events_of ls
