@@ -1,5 +1,5 @@
 -- The history of a picture: how long its lists are, and what one more event does to them.
-use Rattle.std.proofs.Common.{◌≡◌, ◌≤◌, ◌+◌, false, List, [], ◌∷◌, ◌++◌, length, take, drop, ap, refl, sym, ◌∙◌, subst, arith, length-append}
+use Rattle.std.proofs.Common.{◌≡◌, ◌≤◌, ◌+◌, false, List, [], ◌∷◌, ◌++◌, length, take, drop, ap, refl, sym, ◌∙◌, arith, length-append}
 use Rattle.std.proofs.Math.Seq.{take-append_seam}
 use Rattle.std.proofs.lemmas.List.{take-append-drop}
 use mathlib.Core.List.{IsPrefix}
@@ -9,8 +9,8 @@ use Rattle.mf_live.specs.declared.event.WriterEvent.TheVariants as writer
 use Rattle.mf_live.specs.declared.history.History.{History}
 use Rattle.mf_live.specs.declared.holder.Holder.{Holder}
 use Rattle.mf_live.specs.Books.{greatest_limit, BeginsWith}
-use Rattle.mf_live.specs.Entries.{Change, Entry, entry, accepted_list_with, next_label}
-use Rattle.mf_live.specs.Events.{Event, Accept, Close, Publish, event_of, events_of}
+use Rattle.mf_live.specs.Entries.{Change, entry, accepted_list_with, next_label}
+use Rattle.mf_live.specs.Events.{Event, event_of, events_of}
 use Rattle.mf_live.specs.Holders.{events, accepted_list, published_list, version}
 use Rattle.mf_live.specs.Rule.{book_of, lines_of, version_list}
 use Rattle.mf_live.specs.World.{World, IsLawful, Happen, May, new_world, after_event, world_after, accepted_list_of, published_list_of}

@@ -25,9 +25,9 @@ use Rattle.mf_live.proofs.Worlds.{lawful-after, published_list_grows}
 use Rattle.std.proofs.lemmas.Int.{ints}
 
 -- what a prefix of some lines has published is a whole prefix of what all of them have
-pub published-prefix : (xs ys : List Line) → Happen greatest_limit new_world (events_of ys) → IsPrefix xs ys
+pub published_prefix : (xs ys : List Line) → Happen greatest_limit new_world (events_of ys) → IsPrefix xs ys
     → IsWholePrefix (published_list_of (events_of xs)) (published_list_of (events_of ys))
-published-prefix xs ys happen prefix =
+published_prefix xs ys happen prefix =
     let all : events_of ys ≡ events_of xs ++ events_of prefix.0 = ap events_of (sym prefix.1) ∙ events_of-append xs prefix.0 in
     rw all (published_list_grows greatest_limit (events_of xs) (events_of prefix.0) (subst (Happen greatest_limit new_world) all happen))
 
@@ -35,12 +35,12 @@ published-prefix xs ys happen prefix =
 pub one_history : (m n : Notice) (lines : List Line) → IsPrefix m.knowledge.seen.log lines → IsPrefix n.knowledge.seen.log lines → m.entries ≤ n.entries
     → IsWholePrefix (told_list m) (told_list n)
 one_history m n lines one other few = elim (cases_lt (length n.knowledge.seen.log) (length m.knowledge.seen.log)) [
-    | inl shorter ↦
-      let back = published-prefix n.knowledge.seen.log m.knowledge.seen.log m.lawful (prefix-shorter n.knowledge.seen.log m.knowledge.seen.log lines other one (omega (arith, shorter))) in
+  | inl shorter ↦
+      let back = published_prefix n.knowledge.seen.log m.knowledge.seen.log m.lawful (prefix-shorter n.knowledge.seen.log m.knowledge.seen.log lines other one (omega (arith, shorter))) in
       rw (sym (whole-same (told_list n) (told_list m) back (omega (arith, few, m.counted, n.counted)))) (whole-self (told_list n))
-    | inr long ↦
-      published-prefix m.knowledge.seen.log n.knowledge.seen.log n.lawful (prefix-shorter m.knowledge.seen.log n.knowledge.seen.log lines one other long)
-  ]
+  | inr long ↦
+      published_prefix m.knowledge.seen.log n.knowledge.seen.log n.lawful (prefix-shorter m.knowledge.seen.log n.knowledge.seen.log lines one other long)
+]
 
 -- what a notice says was published by the events that it knows
 pub is_published : (n : Notice) → IsPublished (notice_events n) (told_list n)
@@ -60,7 +60,7 @@ pub Extends-look : (v : Viewer) (x : Version) (w : View) → IsLook (view v.read
 Extends-look v x w looks learnt =
     let known = (looks.knows v.identified).prefix in
     let before = prefix-trans v.looked.seen.log _ (lines_of x) (prefix_from v.looked.seen.log _ v.kept) known in
-    extends_both v (version_list x) (published-prefix v.looked.seen.log (lines_of x) x.notice.lawful before) learnt
+    extends_both v (version_list x) (published_prefix v.looked.seen.log (lines_of x) x.notice.lawful before) learnt
 
 -- two facts of what a call answers, as one
 pub both_hold : {X Y : Type 0} (P P' : X → Type 0) (Q Q' : Y → Type 0) (r : Result X Y) → MatchResult r P Q → MatchResult r P' Q'

@@ -1,16 +1,16 @@
 -- The steps of a writer keep the rule of its book.
-use Rattle.std.proofs.Common.{◌≡◌, ◌≢◌, ◌==◌, ◌+◌, ◌<◌, ℕ, zero, suc, Bool, true, false, List, [], ◌∷◌, ◌++◌, All, length, set, None, inl, refl, ap, sym, ◌∙◌, subst, arith}
+use Rattle.std.proofs.Common.{◌≡◌, ◌≢◌, ◌==◌, ◌<◌, ℕ, zero, suc, Bool, true, false, List, [], ◌∷◌, ◌++◌, All, length, set, None, inl, refl, ap, sym, ◌∙◌, subst, arith}
 use Rattle.std.proofs.lemmas.Bool.Decides.{nat_tests}
-use Rattle.std.proofs.lemmas.List.{append-nil, length-set}
+use Rattle.std.proofs.lemmas.List.{append-nil, get_or-set_same, get_or-set_other, length-set}
 use Rattle.std.proofs.lemmas.List.Elements.{All-head, All-tail, All-push, All-weaker}
 use mathlib.Core.List.{IsPrefix}
 use prog.Atomic.{either}
 use Rattle.logbook.specs.Pages.{Cell, cell, keeps, gives, adds, Nib, no_nib, may_write, View, Moves}
 use Rattle.mf_live.specs.declared.event.Line.{Line}
-use Rattle.mf_live.specs.Books.{greatest_limit, first_pen, pen_after, pens_of, IsUsed, IsLawfulBook, Makes, Adds, Confirms, WritesAfter}
+use Rattle.mf_live.specs.Books.{greatest_limit, first_pen, pen_after, pens_of, IsHome, IsLawfulBook, Makes, Adds, Confirms, WritesAfter}
 use Rattle.mf_live.specs.Events.{event_of, events_of}
 use Rattle.mf_live.specs.World.{May, new_world, world_after}
-use Rattle.mf_live.proofs.Histories.{events_of-push, Happen-line}
+use Rattle.mf_live.proofs.Histories.{Happen-line}
 
 abbrev pub nothing_shown : List Line → List Line
 nothing_shown lines = []
@@ -29,61 +29,41 @@ either-some false n some same = some refl same
 marked-some : (n : ℕ) → marked n ≢ 0
 marked-some n = either-some (n == 0) n (λ other same. absurd (grind (arith, nat_tests)))
 
--- a pen that is used up stays so when a cell comes home
-used-set : (cells : List Cell) (j key v : ℕ) → IsUsed cells key → IsUsed (set cells j (v, true)) key
-used-set [] j key v used = used
-used-set (c ∷ cs) zero zero v used = refl
-used-set (c ∷ cs) zero (suc key) v used = used
-used-set (c ∷ cs) (suc j) zero v used = used
-used-set (c ∷ cs) (suc j) (suc key) v used = used-set cs j key v used
+inside : (cells : List Cell) → IsHome cells 0 → 0 < length cells
+inside [] home = absurd (cc home)
+inside (c ∷ cs) home = omega arith
 
--- and when a cell is added
-used-added : (cells : List Cell) (key : ℕ) → IsUsed cells key → IsUsed (cells ++ (0, false) ∷ []) key
-used-added [] key used = absurd (cc used)
-used-added (c ∷ cs) zero used = used
-used-added (c ∷ cs) (suc key) used = used-added cs key used
+-- a cell that is at home stays there when another comes home
+home-set : (cells : List Cell) (j key v : ℕ) → IsHome cells key → IsHome (set cells j (v, true)) key
+home-set [] j key v home = home
+home-set (c ∷ cs) zero zero v home = refl
+home-set (c ∷ cs) zero (suc key) v home = home
+home-set (c ∷ cs) (suc j) zero v home = home
+home-set (c ∷ cs) (suc j) (suc key) v home = home-set cs j key v home
 
-set-here : (cells : List Cell) (key v : ℕ) → key < length cells → IsUsed (set cells key (v, true)) key
-set-here [] key v inside = absurd (omega arith)
-set-here (c ∷ cs) zero v inside = refl
-set-here (c ∷ cs) (suc key) v inside = set-here cs key v (omega arith)
-
--- the first cell is at home, and holds another number than 0
-record IsMarked (cells : List Cell) : Type 0 where
-  inside : 0 < length cells
-  home : IsUsed cells 0
-  some : (cell cells 0).0 ≢ 0
-
-marks : (cells : List Cell) (n : ℕ) → 0 < length cells → n ≢ 0 → IsMarked (set cells 0 (n, true))
-marks [] n inside some = absurd (omega arith)
-marks (c ∷ cs) n inside some = record { inside = omega arith; home = refl; some = some }
-
-marked-set : (cells : List Cell) (key v : ℕ) → key ≢ 0 → IsMarked cells → IsMarked (set cells key (v, true))
-marked-set [] key v apart marked = marked
-marked-set (c ∷ cs) zero v apart marked = absurd (apart refl)
-marked-set (c ∷ cs) (suc key) v apart marked = record { inside = omega arith; home = marked.home; some = marked.some }
-
-marked-added : (cells : List Cell) → IsMarked cells → IsMarked (cells ++ (0, false) ∷ [])
-marked-added [] marked = absurd (omega (arith, marked.inside))
-marked-added (c ∷ cs) marked = record { inside = omega arith; home = marked.home; some = marked.some }
+-- a cell that is added is not at home, like one past the end
+cell-added : (cells : List Cell) (key : ℕ) → cell (cells ++ (0, false) ∷ []) key ≡ cell cells key
+cell-added [] zero = refl
+cell-added [] (suc key) = refl
+cell-added (c ∷ cs) zero = refl
+cell-added (c ∷ cs) (suc key) = cell-added cs key
 
 -- lines after which a pen writes that is not used up are all lines
-none_after : (cells : List Cell) (n key : ℕ) (lines rest : List Line) → All (IsUsed cells) (pens_of n (lines ++ rest)) → key ≡ pen_after n lines
+none_after : (cells : List Cell) (n key : ℕ) (lines rest : List Line) → All (IsHome cells) (pens_of n (lines ++ rest)) → key ≡ pen_after n lines
     → (cell cells key).1 ≡ false → rest ≡ []
 none_after cells n key [] [] used next away = refl
 none_after cells n key [] (l ∷ ls) used next away =
-    let home : IsUsed cells n = All-head (IsUsed cells) n (pens_of l.next ls) used in
-    absurd (cc (sym (subst (IsUsed cells) (sym next) home) ∙ away))
+    absurd (cc (sym (subst (IsHome cells) (sym next) (All-head (IsHome cells) n (pens_of l.next ls) used)) ∙ away))
 none_after cells n key (l ∷ ls) rest used next away =
-    none_after cells l.next key ls rest (All-tail (IsUsed cells) n (pens_of l.next (ls ++ rest)) used) next away
+    none_after cells l.next key ls rest (All-tail (IsHome cells) n (pens_of l.next (ls ++ rest)) used) next away
 
-all_lines : (cells : List Cell) (key : ℕ) (some lines : List Line) → All (IsUsed cells) (pens_of first_pen lines) → IsPrefix some lines
+all_lines : (cells : List Cell) (key : ℕ) (some lines : List Line) → All (IsHome cells) (pens_of first_pen lines) → IsPrefix some lines
     → WritesAfter key some → (cell cells key).1 ≡ false → some ≡ lines
 all_lines cells key some lines used prefix next away =
-    let none : prefix.0 ≡ [] = none_after cells first_pen key some prefix.0 (subst (λ ls. All (IsUsed cells) (pens_of first_pen ls)) (sym prefix.1) used) next away in
+    let none : prefix.0 ≡ [] = none_after cells first_pen key some prefix.0 (subst (λ ls. All (IsHome cells) (pens_of first_pen ls)) (sym prefix.1) used) next away in
     sym (append-nil some) ∙ ap (λ rest. some ++ rest) (sym none) ∙ prefix.1
 
--- the line says which pen writes next
+-- the last line says which pen writes next
 pub pen_after-push : (n : ℕ) (lines : List Line) (l : Line) → pen_after n (lines ++ l ∷ []) ≡ l.next
 pen_after-push n [] l = refl
 pen_after-push n (m ∷ ms) l = pen_after-push m.next ms l
@@ -92,35 +72,40 @@ pens_of-push : (n : ℕ) (lines : List Line) (l : Line) → pens_of n (lines ++ 
 pens_of-push n [] l = refl
 pens_of-push n (m ∷ ms) l = ap (λ keys. n ∷ keys) (pens_of-push m.next ms l)
 
--- the rule with these lines, where what was at home stays there
-stays_lawful : (cells new : List Cell) (lines : List Line) → IsLawfulBook cells lines → IsMarked new → ((key : ℕ) → IsUsed cells key → IsUsed new key)
-    → IsLawfulBook new (lines ++ [])
-stays_lawful cells new lines kept marked stays = rw (append-nil lines) (record {
-  word = (marked.inside, marked.home);
-  first = λ none. absurd (marked.some none);
-  used = All-weaker (IsUsed cells) (IsUsed new) stays (pens_of first_pen lines) kept.used;
-  lawful = kept.lawful;
-})
-
 abbrev pub plain_view : List Line → Nib → View Line ℕ
 plain_view seen p = (seen, (p, None))
+
+-- the cells after a step: the first one is the changed word, and what was at home stays there
+record Follow (cells new : List Cell) : Type 0 where
+  first : cell new 0 ≡ (marked (cell cells 0).0, true)
+  stays : (key : ℕ) → IsHome cells key → IsHome new key
+
+abbrev changed : List Cell → List Cell
+changed cells = set cells 0 (marked (cell cells 0).0, true)
+
+follow : (cells : List Cell) → IsHome cells 0 → Follow cells (changed cells)
+follow cells home =
+    let n = marked (cell cells 0).0 in
+    record { first = get_or-set_same cells 0 (n, true) (0, false) (inside cells home); stays = λ key. home-set cells 0 key n }
+
+rule_with : (cells new : List Cell) (lines : List Line) → IsLawfulBook cells lines → Follow cells new → IsLawfulBook new lines
+rule_with cells new lines kept follows = record {
+  word = ap (λ (c : Cell). c.1) follows.first;
+  first = λ none. absurd (marked-some (cell cells 0).0 (sym (ap (λ (c : Cell). c.0) follows.first) ∙ none));
+  used = All-weaker (IsHome cells) (IsHome new) follows.stays (pens_of first_pen lines) kept.used;
+  lawful = kept.lawful;
+}
 
 -- a pen may be made at any time
 pub make_moves : (seen : List Line) → Moves IsLawfulBook nothing_shown any_move 0 (plain_view seen no_nib) marked (λ found w. Makes found w)
 make_moves seen cells lines kept prefix away =
-    let n = marked (cell cells 0).0 in
-    let noted = marks cells n kept.word.0 (marked-some (cell cells 0).0) in (
-      kept.word.0,
-      kept.word.1,
-      (adds,
-      [],
-      None,
-      tt,
-      stays_lawful cells (set cells 0 (n, true) ++ (0, false) ∷ []) lines kept (marked-added (set cells 0 (n, true)) noted)
-        (λ key used. used-added (set cells 0 (n, true)) key (used-set cells 0 key n used)),
-      inl (refl, refl),
-      (refl, kept.first)),
-    )
+    let new = changed cells ++ (0, false) ∷ [] in
+    let old = follow cells kept.word in
+    let follows : Follow cells new = record {
+      first = cell-added (changed cells) 0 ∙ old.first;
+      stays = λ key home. subst (λ (c : Cell). c.1 ≡ true) (sym (cell-added (changed cells) key)) (old.stays key home);
+    } in
+    (inside cells kept.word, kept.word, (adds, [], None, tt, rw (append-nil lines) (rule_with cells new lines kept follows), inl (refl, refl), (refl, kept.first)))
 
 module _ (seen : List Line) (p : Nib) (right : p.right ≡ may_write) where
   -- the pen that writes after what was seen adds a line to it
@@ -129,42 +114,28 @@ module _ (seen : List Line) (p : Nib) (right : p.right ≡ may_write) where
     add_moves cells lines kept prefix away =
         let out = away right in
         let same : seen ≡ lines = all_lines cells p.key seen lines kept.used prefix next out.1 in
-        let n = marked (cell cells 0).0 in
-        let mid = set cells 0 (n, true) in
-        let new = set mid p.key (p.value, true) in
-        let apart : p.key ≢ 0 = λ first. absurd (cc (sym kept.word.1 ∙ subst (λ key. (cell cells key).1 ≡ false) first out.1)) in
-        let marked = marked-set mid p.key p.value apart (marks cells n kept.word.0 (marked-some (cell cells 0).0)) in
-        let stays : (key : ℕ) → IsUsed cells key → IsUsed new key = λ key used. used-set mid p.key key p.value (used-set cells 0 key n used) in
-        let here : IsUsed new p.key = set-here mid p.key p.value (omega (arith, out.0, length-set cells 0 (n, true))) in (
-          kept.word.0,
-          kept.word.1,
-          (gives,
-          l ∷ [],
-          None,
-          right,
-          record {
-            word = (marked.inside, marked.home);
-            first = λ none. absurd (marked.some none);
-            used = subst (All (IsUsed new)) (sym (pens_of-push first_pen lines l))
-              (All-push (IsUsed new) (pens_of first_pen lines) (pen_after first_pen lines) (All-weaker (IsUsed cells) (IsUsed new) stays (pens_of first_pen lines) kept.used)
-              (subst (IsUsed new) (next ∙ ap (pen_after first_pen) same) here));
-            lawful = Happen-line lines l kept.lawful (subst (λ ls. May greatest_limit (world_after new_world (events_of ls)) (event_of l.event)) same may);
-          },
-          inl (refl, refl),
-          ap (λ ls. ls ++ l ∷ []) (sym same)),
-        )
+        let new = set (changed cells) p.key (p.value, true) in
+        let old = follow cells kept.word in
+        let apart : 0 ≢ p.key = λ first. absurd (cc (sym kept.word ∙ subst (λ key. (cell cells key).1 ≡ false) (sym first) out.1)) in
+        let follows : Follow cells new = record {
+          first = get_or-set_other (changed cells) p.key 0 (p.value, true) (0, false) apart ∙ old.first;
+          stays = λ key home. home-set (changed cells) p.key key p.value (old.stays key home);
+        } in
+        let inside_new : p.key < length (changed cells) = omega (arith, out.0, length-set cells 0 (marked (cell cells 0).0, true)) in
+        let here : IsHome new p.key = ap (λ (c : Cell). c.1) (get_or-set_same (changed cells) p.key (p.value, true) (0, false) inside_new) in
+        let before = rule_with cells new lines kept follows in
+        let after : IsLawfulBook new (lines ++ l ∷ []) = record {
+          word = before.word;
+          first = before.first;
+          used = subst (All (IsHome new)) (sym (pens_of-push first_pen lines l))
+              (All-push (IsHome new) (pens_of first_pen lines) (pen_after first_pen lines) before.used (subst (IsHome new) (next ∙ ap (pen_after first_pen) same) here));
+          lawful = Happen-line lines l kept.lawful (subst (λ ls. May greatest_limit (world_after new_world (events_of ls)) (event_of l.event)) same may);
+        } in
+        (inside cells kept.word, kept.word, (gives, l ∷ [], None, right, after, inl (refl, refl), ap (λ ls. ls ++ l ∷ []) (sym same)))
 
   -- whoever has a pen is told which lines are all lines
   pub confirm_moves : Moves IsLawfulBook nothing_shown any_move 0 (plain_view seen p) marked (λ found w. Confirms (plain_view seen p) w)
   confirm_moves cells lines kept prefix away =
-      let n = marked (cell cells 0).0 in (
-        kept.word.0,
-        kept.word.1,
-        (keeps,
-        [],
-        None,
-        tt,
-        stays_lawful cells (set cells 0 (n, true)) lines kept (marks cells n kept.word.0 (marked-some (cell cells 0).0)) (λ key used. used-set cells 0 key n used),
-        inl (refl, refl),
-        (refl, λ some before next. all_lines cells p.key some (lines ++ []) (subst (λ ls. All (IsUsed cells) (pens_of first_pen ls)) (sym (append-nil lines)) kept.used) before next (away right).1)),
-      )
+      let after : IsLawfulBook (changed cells) (lines ++ []) = rw (append-nil lines) (rule_with cells (changed cells) lines kept (follow cells kept.word)) in
+      let used : All (IsHome cells) (pens_of first_pen (lines ++ [])) = rw (append-nil lines) kept.used in
+      (inside cells kept.word, kept.word, (keeps, [], None, tt, after, inl (refl, refl), (refl, λ some before next. all_lines cells p.key some (lines ++ []) used before next (away right).1)))

@@ -1,5 +1,5 @@
 -- The book in which a picture's history is kept, its rule, and what the steps of its writer promise.
-use Rattle.std.specs.Prelude.{◌≡◌, ◌<◌, true, ℕ, List, [], ◌∷◌, ◌++◌, All, length, take}
+use Rattle.std.specs.Prelude.{◌≡◌, true, ℕ, List, [], ◌∷◌, ◌++◌, All, length, take}
 use mathlib.Core.List.{IsPrefix}
 use Rattle.logbook.specs.Pages.{Cell, cell, View, Book, Named, Nib, may_write, may_make}
 use Rattle.mf_live.specs.declared.event.Line.{Line}
@@ -24,16 +24,16 @@ abbrev pub pens_of : ℕ → List Line → List ℕ
 pens_of n [] = []
 pens_of n (l ∷ ls) = n ∷ pens_of l.next ls
 
--- the pen with this key is used up: its cell is at home
-abbrev pub IsUsed : List Cell → ℕ → Type 0
-IsUsed cells key = (cell cells key).1 ≡ true
+-- the cell with this key is at home: no pen can write it any more
+abbrev pub IsHome : List Cell → ℕ → Type 0
+IsHome cells key = (cell cells key).1 ≡ true
 
--- The first cell is at home, and is 0 until the first pen is made. Each pen that has written a line is used up: so whoever holds
--- the pen that writes after some lines knows that these are all. And each event could happen in its turn
+-- The first cell is at home, and is 0 until the first pen is made. Each pen that has written a line is used up, so its cell is at
+-- home: whoever holds the pen that writes after some lines knows that these are all. And each event could happen in its turn
 pub record IsLawfulBook (cells : List Cell) (lines : List Line) : Type 0 where
-  pub word : (0 < length cells) × ((cell cells 0).1 ≡ true)
+  pub word : IsHome cells 0
   pub first : (cell cells 0).0 ≡ 0 → length cells ≡ first_pen
-  pub used : All (IsUsed cells) (pens_of first_pen lines)
+  pub used : All (IsHome cells) (pens_of first_pen lines)
   pub lawful : Happen greatest_limit new_world (events_of lines)
 
 -- the first word of a book

@@ -1,13 +1,14 @@
 -- What contracts say about taking a sheet.
 use Rattle.std.specs.Prelude.{◌≡◌, true, ℕ, List}
 use Rattle.mf_rows.specs.Dots.{Dot}
+use Rattle.mf_live.specs.declared.notice.Notice.{Notice}
 use Rattle.mf_live.specs.declared.sheet.Sheet.{Sheet}
 use Rattle.mf_live.specs.declared.sheet.SheetFault.{SheetFault}
 use Rattle.mf_live.specs.declared.sheet.SheetFault.TheVariants.{NoLook, OutOfMemory}
 use Rattle.mf_live.specs.declared.viewer.Viewer.{Viewer}
 use Rattle.mf_live.specs.Entries.{Entry, is_nothing_after_end, picture_at, revision_at}
 use Rattle.mf_live.specs.Prefixes.{IsWholePrefix, longer}
-use Rattle.mf_live.specs.Viewers.{Extends, IsPublished, SeesTheSame, learnt_list, looked_at_list, looked_at_events, seen_list}
+use Rattle.mf_live.specs.Viewers.{Extends, IsPublished, SeesTheSame, identity, learnt_list, looked_at_list, looked_at_events, notice_identity, seen_list, told_list}
 
 -- the picture of a sheet
 abbrev pub sheet_picture : Sheet → List Dot
@@ -15,7 +16,11 @@ sheet_picture s = s.picture
 
 -- its revision
 abbrev pub sheet_revision : Sheet → ℕ
-sheet_revision s = s.revision
+sheet_revision s = s.notice.revision
+
+-- a notice of what it shows
+abbrev pub sheet_notice : Sheet → Notice
+sheet_notice s = s.notice
 
 -- a viewer has looked at a list of which everything that it had seen is a whole prefix, and in which nothing follows the end mark. It
 -- has seen that list, which the events that it knows have published, and has learnt nothing
@@ -26,9 +31,11 @@ pub record HasLooked (before after : Viewer) : Type 0 where
   pub ends : is_nothing_after_end (looked_at_list after) ≡ true
   pub published : IsPublished (looked_at_events after) (looked_at_list after)
 
--- a sheet has what its look showed
+-- a sheet has what its look showed, and a notice of that
 pub record IsTaken (before after : Viewer) (sheet : Sheet) : Type 0 where
   pub look : HasLooked before after
+  pub identity : notice_identity (sheet_notice sheet) ≡ identity after
+  pub told : told_list (sheet_notice sheet) ≡ looked_at_list after
   pub picture : sheet_picture sheet ≡ picture_at (looked_at_list after)
   pub revision : sheet_revision sheet ≡ revision_at (looked_at_list after)
 

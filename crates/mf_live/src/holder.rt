@@ -12,7 +12,6 @@ use mf_rows::Picture;
 use std::alloc::Global;
 
 mod accepting;
-mod confirming;
 mod publishing;
 
 /// The two copies that viewers look at, the picture's history, and the picture of all accepted operations. It is not `Drop`:

@@ -11,13 +11,7 @@ ghost use Rattle.mf_live.specs.Viewers as viewers;
 ghost use Rattle.mf_live.specs.Writers as writers;
 ghost use Rattle.mf_live.specs.World.{new_world, Happen, EverySchedule, IsPending, published_list_of};
 
-mod one_writer;
-
-pub use one_writer::{ended_published_look, ended_published_notice, ended_published_seen};
-pub use one_writer::{halfway_published_look, halfway_published_notice, halfway_published_seen};
-pub use one_writer::{writer_published_look, writer_published_notice, writer_published_seen};
-
-use crate::closing::Closing;
+use crate::closing::{Closing, Ended};
 use crate::look::{Look, NoLook};
 use crate::notice::Notice;
 use crate::sheet::{Sheet, SheetFault};
@@ -91,14 +85,45 @@ pub fn notice_is_published(notice: &Notice)
     ensures { viewers.IsPublished (viewers.notice_events notice.now) (viewers.told_list notice.now) }
 {}
 
-/// Take a look and a notice of one picture: the list of the one is a whole prefix of the list of the other.
+/// Of two notices of one picture, the list of the one is a whole prefix of the list of the other, whatever became of its writer.
 #[tactic(auto, using(std::proofs::lemmas::Bool::cases_lt))]
-pub fn one_history(look: &Look, notice: &Notice)
-    requires { viewers.notice_identity notice.now ≡ viewers.look_identity look.now }
-    ensures { IsWholePrefix (viewers.told_list notice.now) (viewers.shown_list look.now)
-        ⊎ IsWholePrefix (viewers.shown_list look.now) (viewers.told_list notice.now) }
+pub fn one_history(first: &Notice, second: &Notice)
+    requires { viewers.notice_identity second.now ≡ viewers.notice_identity first.now }
+    ensures { IsWholePrefix (viewers.told_list first.now) (viewers.told_list second.now)
+        ⊎ IsWholePrefix (viewers.told_list second.now) (viewers.told_list first.now) }
 {
-    look.reading.get().notice.meets(notice);
+    first.meets(second);
+}
+
+/// Whatever is told of a picture, its own writer has published: what a notice tells is a whole prefix of what is published. Looks
+/// and sheets have notices of what they show, so the same is true of them.
+#[tactic(auto, using(crate::proofs::Looking::published_prefix))]
+pub fn told_is_published(notice: &Notice, writer: &mut Writer)
+    requires { viewers.notice_identity notice.now ≡ writers.identity writer.old }
+    ensures same { writers.IsSameWriter writer.old writer.new }
+    ensures published { IsWholePrefix (viewers.told_list notice.now) (writers.published_list writer.new) }
+{
+    writer.holder.history.confirm(&notice.knowledge);
+}
+
+/// The same while the end mark is set but not published.
+#[tactic(auto, using(crate::proofs::Looking::published_prefix))]
+pub fn told_is_published_halfway(notice: &Notice, closing: &mut Closing)
+    requires { viewers.notice_identity notice.now ≡ writers.closing_identity closing.old }
+    ensures same { writers.IsSameClosing closing.old closing.new }
+    ensures published { IsWholePrefix (viewers.told_list notice.now) (writers.closing_published_list closing.new) }
+{
+    closing.holder.history.confirm(&notice.knowledge);
+}
+
+/// The same of a picture that was closed.
+#[tactic(auto, using(crate::proofs::Looking::published_prefix))]
+pub fn told_is_published_at_the_end(notice: &Notice, ended: &mut Ended)
+    requires { viewers.notice_identity notice.now ≡ writers.ended_identity ended.old }
+    ensures same { writers.IsSameEnded ended.old ended.new }
+    ensures published { IsWholePrefix (viewers.told_list notice.now) (writers.ended_published_list ended.new) }
+{
+    ended.holder.history.confirm(&notice.knowledge);
 }
 
 /// A viewer that has learnt of the end sees the complete list. The events that its look knows have published it, and everything

@@ -1,4 +1,5 @@
 //! Sheets: looks that are kept.
+use crate::notice::Notice;
 use mf_base::OutOfMemory;
 use mf_rows::Picture;
 use std::error::Error;
@@ -10,7 +11,7 @@ mod taking;
 #[derive(Drop)]
 pub struct Sheet {
     pub(crate) picture: Picture,
-    pub(crate) revision: u32,
+    pub(crate) notice: Notice,
 }
 
 /// Why there is no sheet.

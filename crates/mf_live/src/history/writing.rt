@@ -88,12 +88,7 @@ impl History {
         let mut both = self.known.copy();
         both.seen.learn(&knowledge.seen);
         let mut offer = both.seen.plain::<Nothing, (), Asks>(&());
-        self.word.compare_exchange::<Confirm, Nothing>(
-            0,
-            1,
-            &mut both.seen,
-            &mut offer,
-            &mut self.pen,
-        );
+        self.word
+            .compare_exchange::<Confirm, Nothing>(0, 1, &mut both.seen, &mut offer, &mut self.pen);
     }
 }

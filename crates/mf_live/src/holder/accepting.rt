@@ -72,10 +72,7 @@ impl Holder {
         let Some(history) = History::open() else {
             return Err(OutOfMemory);
         };
-        let (first, second) = (
-            blank(alloc, &history.known),
-            blank(alloc, &history.known),
-        );
+        let (first, second) = (blank(alloc, &history.known), blank(alloc, &history.known));
         let mut swap = Swap::new(alloc, first, second, readers)?;
         // Only a publish can put into the writer's view which picture this is, so the blank picture is shown once more.
         show(rt, &mut swap, blank(alloc, &history.known));

@@ -2,9 +2,10 @@
 ghost use Rattle.std.specs.Prelude.{◌≡◌};
 ghost use Rattle.mf_live.specs.Entries.{picture_at, revision_at};
 ghost use Rattle.mf_live.specs.Viewers.{identity, looked_at_list, looked_at_events, learnt_list, seen_list, look_events};
-ghost use Rattle.mf_live.specs.Viewers.{look_learnt_list, look_identity, shown_list};
+ghost use Rattle.mf_live.specs.Viewers.{look_learnt_list, look_identity, notice_identity, shown_list, told_list};
 
 use super::Look;
+use crate::notice::Notice;
 use crate::viewer::Viewer;
 use mf_rows::Picture;
 
@@ -21,6 +22,14 @@ impl Look {
         ensures { result ≡ revision_at (shown_list self.now) }
     {
         self.reading.get().notice.revision
+    }
+
+    /// A notice of what it shows.
+    pub fn notice(&self) -> &Notice
+        ensures identity { notice_identity result.now ≡ look_identity self.now }
+        ensures told { told_list result.now ≡ shown_list self.now }
+    {
+        &self.reading.get().notice
     }
 
     /// Ends the look and gives its viewer back, which has then seen what the look showed.

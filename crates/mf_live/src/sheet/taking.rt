@@ -1,9 +1,10 @@
 //! Taking sheets.
 ghost use Rattle.std.specs.Prelude.{◌≡◌, MatchResult};
-ghost use Rattle.mf_live.specs.Sheets.{IsTaken, IsNotTaken, sheet_picture, sheet_revision};
+ghost use Rattle.mf_live.specs.Sheets.{IsTaken, IsNotTaken, sheet_notice, sheet_picture, sheet_revision};
 ghost use Rattle.mf_live.specs.Viewers.{identity};
 
 use super::{Sheet, SheetFault};
+use crate::notice::Notice;
 use crate::viewer::Viewer;
 use core::mem::replace_with;
 use mf_rows::Picture;
@@ -21,7 +22,14 @@ impl Sheet {
     pub fn revision(&self) -> u32
         ensures { result ≡ sheet_revision self.now }
     {
-        self.revision
+        self.notice.revision
+    }
+
+    /// A notice of what it shows.
+    pub fn notice(&self) -> &Notice
+        ensures { result.now ≡ sheet_notice self.now }
+    {
+        &self.notice
     }
 }
 
@@ -35,10 +43,10 @@ fn take_sheet(viewer: Viewer, alloc: Global) -> (Viewer, Result<Sheet, SheetFaul
         Err((viewer, _)) => return (viewer, Err(SheetFault::NoLook)),
     };
     let copy = look.picture().copy(alloc);
-    let revision = look.revision();
+    let notice = look.notice().copy();
     let viewer = look.leave();
     match copy {
-        Ok(picture) => (viewer, Ok(Sheet { picture, revision })),
+        Ok(picture) => (viewer, Ok(Sheet { picture, notice })),
         Err(_) => (viewer, Err(SheetFault::OutOfMemory)),
     }
 }

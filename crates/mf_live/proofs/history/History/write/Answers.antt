@@ -1,4 +1,4 @@
-use Rattle.std.proofs.Common.{◌≡◌, ◌∙◌, sym, ap, subst, List}
+use Rattle.std.proofs.Common.{◌∙◌, sym, ap, subst, List}
 use Rattle.mf_live.specs.declared.event.Line.{Line}
 use Rattle.mf_live.specs.Books.{greatest_limit, first_pen, word_of, pen_after}
 use Rattle.mf_live.specs.Events.{events_of}

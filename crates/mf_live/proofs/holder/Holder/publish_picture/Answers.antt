@@ -1,9 +1,9 @@
-use Rattle.std.proofs.Common.{◌≡◌, ◌∙◌, List, length, ap, subst, sym}
+use Rattle.std.proofs.Common.{◌≡◌, ◌∙◌, length, ap, subst, sym}
 use mathlib.Core.List.{IsPrefix}
 use Rattle.mf_live.specs.declared.history.Knowledge.{Knowledge}
 use Rattle.mf_live.specs.Books.{greatest_limit}
-use Rattle.mf_live.specs.Entries.{Entry, picture_at, revision_at}
-use Rattle.mf_live.specs.Events.{Event, Publish, events_of}
+use Rattle.mf_live.specs.Entries.{picture_at, revision_at}
+use Rattle.mf_live.specs.Events.{Publish, events_of}
 use Rattle.mf_live.specs.Holders.{accepted_list, events, version}
 use Rattle.mf_live.specs.Rule.{lines_of}
 use Rattle.mf_live.specs.World.{Happen, new_world, accepted_list_of, published_list_of}

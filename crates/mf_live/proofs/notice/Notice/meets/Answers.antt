@@ -1,6 +1,3 @@
-use Rattle.std.proofs.Common.{ap, subst}
-use mathlib.Core.List.{IsPrefix}
-use Rattle.mf_live.specs.declared.history.Knowledge.{Knowledge}
 use Rattle.mf_live.proofs.Looking.{one_history}
 use Rattle.mf_live.proofs.notice.Notice.meets.Goals as goal
 
