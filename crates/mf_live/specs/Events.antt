@@ -1,6 +1,8 @@
 -- What may happen to a picture and to its viewers, and which of these events are its writer's.
 use Rattle.std.specs.Prelude.{Bool, ℕ, List, [], ◌∷◌}
 use Rattle.mf_ops.specs.declared.op.Op.{Op}
+use Rattle.mf_live.specs.declared.event.Act.{Act}
+use Rattle.mf_live.specs.declared.event.Act.TheVariants as act
 use Rattle.mf_live.specs.declared.event.Line.{Line}
 use Rattle.mf_live.specs.declared.event.WriterEvent.{WriterEvent}
 use Rattle.mf_live.specs.declared.event.WriterEvent.TheVariants as writer
@@ -28,6 +30,12 @@ abbrev pub event_of : WriterEvent → Event
 event_of (writer.Accept op) = Accept op
 event_of writer.Close = Close
 event_of writer.Publish = Publish
+
+-- what a writer does at a call
+abbrev pub writer_event : Act → WriterEvent
+writer_event (act.Accept op) = writer.Accept op.now
+writer_event act.Close = writer.Close
+writer_event act.Publish = writer.Publish
 
 -- the events that these lines of a book tell
 abbrev pub events_of : List Line → List Event

@@ -1,6 +1,6 @@
 //! The book in which a picture's history is kept, and the steps of its writer.
 
-use crate::event::{Line, WriterEvent};
+use crate::event::Line;
 use logbook::{Gain, Plain, Play, Rule, Word};
 use std::marker::{Brand, PhantomData};
 
@@ -46,46 +46,17 @@ impl Plain<(), Line, u64> for Asks {
     ghost state = { λ _. None };
 }
 
-/// The event that a step writes, chosen at each call.
-pub trait Happening {
-    ghost use Rattle.mf_live.specs.declared.event.WriterEvent.{WriterEvent};
+/// The line that a step writes, chosen at each call.
+pub trait Writing {
+    ghost use Rattle.mf_live.specs.declared.event.Line.{Line};
 
-    ghost event: { WriterEvent };
+    ghost line: { Line };
 }
 
-impl Happening for Brand {
+impl Writing for Brand {
     ghost use Rattle.mf_live.specs.declared.event.WriterEvent.TheVariants.{Publish};
 
-    ghost event = { Publish };
-}
-
-/// The writer sets the end mark.
-pub struct Closes;
-
-impl Happening for Closes {
-    ghost use Rattle.mf_live.specs.declared.event.WriterEvent.TheVariants.{Close};
-
-    ghost event = { Close };
-}
-
-/// The writer publishes.
-pub struct Publishes;
-
-impl Happening for Publishes {
-    ghost use Rattle.mf_live.specs.declared.event.WriterEvent.TheVariants.{Publish};
-
-    ghost event = { Publish };
-}
-
-/// The key of the pen that writes next, chosen at each call.
-pub trait Key {
-    ghost use Rattle.std.specs.Prelude.{ℕ};
-
-    ghost key: { ℕ };
-}
-
-impl Key for Brand {
-    ghost key = { 0 };
+    ghost line = { record { event = Publish; next = 0 } };
 }
 
 /// A step that makes a pen.
@@ -98,14 +69,14 @@ impl Play<Line, u64> for Make {
 }
 
 /// A step that writes a line.
-pub struct Add<N, K> {
-    line: PhantomData<(N, K)>,
+pub struct Add<N> {
+    line: PhantomData<N>,
 }
 
-impl<N: Happening, K: Key> Play<Line, u64> for Add<N, K> {
+impl<N: Writing> Play<Line, u64> for Add<N> {
     ghost use Rattle.mf_live.specs.Books.{Adds};
 
-    ghost then = { λ s v found w. Adds (record { event = N.event; next = K.key }) v w };
+    ghost then = { λ s v found w. Adds N.line v w };
 }
 
 /// A step that changes nothing.

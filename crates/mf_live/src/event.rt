@@ -19,3 +19,11 @@ pub struct Line {
     pub event: WriterEvent,
     pub next: u64,
 }
+
+/// What a writer does, at the call that does it.
+#[derive(Clone, Copy)]
+pub enum Act<'a> {
+    Accept(&'a Op),
+    Close,
+    Publish,
+}

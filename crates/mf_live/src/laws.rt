@@ -70,14 +70,6 @@ pub fn published_is_visible_halfway(closing: &Closing)
     ensures { writers.closing_visible_list closing.now ≡ writers.closing_published_list closing.now }
 {}
 
-/// A look has, of each publish, nothing or all of it, whatever has happened to its picture since. It shows what the events that
-/// it knows have published.
-#[tactic(auto, using(crate::proofs::WholePublishes::whole_publishes, crate::proofs::Worlds::published_list_grows))]
-pub fn look_has_whole_publishes(look: &Look)
-    ensures { (since : List Event) → Happen greatest_limit new_world (viewers.look_events look.now ++ since)
-        → HasWholePublishes (viewers.shown_list look.now) (published_list_of (viewers.look_events look.now ++ since)) }
-{}
-
 /// A notice tells a list that the events which it knows have published: all of these can happen in their order, they have accepted
 /// nothing more, and the writer is still there after them. So a viewer that learns of a notice learns of a published list.
 #[tactic(auto, using(crate::proofs::Looking::is_published))]
@@ -95,8 +87,16 @@ pub fn one_history(first: &Notice, second: &Notice)
     first.meets(second);
 }
 
-/// Whatever is told of a picture, its own writer has published: what a notice tells is a whole prefix of what is published. Looks
-/// and sheets have notices of what they show, so the same is true of them.
+/// Nobody but its writer publishes a picture: what a look shows is a whole prefix of what the writer of its picture has published.
+pub fn look_is_published(look: &Look, writer: &mut Writer)
+    requires { viewers.look_identity look.now ≡ writers.identity writer.old }
+    ensures same { writers.IsSameWriter writer.old writer.new }
+    ensures published { IsWholePrefix (viewers.shown_list look.now) (writers.published_list writer.new) }
+{
+    told_is_published(look.notice(), writer);
+}
+
+/// The same of what a notice tells. Looks and sheets have notices of what they show, so it is true of them at any time.
 #[tactic(auto, using(crate::proofs::Looking::published_prefix))]
 pub fn told_is_published(notice: &Notice, writer: &mut Writer)
     requires { viewers.notice_identity notice.now ≡ writers.identity writer.old }

@@ -23,7 +23,6 @@ pub struct Viewer {
     ghost identified: { (view reader.place).identified ≡ true },
     // Only the book ties a viewer to its picture: `left_right` says of which table a new reader is, but not once it has looked.
     ghost book: { (view reader.place).knowledge.seen.book ≡ known.knowledge.seen.book },
-    ghost same: { looked.seen.book ≡ known.knowledge.seen.book },
     // A copy that it has entered but not shown, because it was older than a notice, knows more.
     ghost kept: { BeginsWith (view reader.place).knowledge.seen.log looked.seen.log },
 }

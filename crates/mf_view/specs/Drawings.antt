@@ -9,7 +9,7 @@ use Rattle.mf_easel.specs.declared.fault.EaselFault.{EaselFault}
 use Rattle.mf_live.specs.Entries.{Entry, picture_at, revision_at}
 use Rattle.mf_live.specs.Prefixes.{IsWholePrefix}
 use Rattle.mf_live.specs.Viewers.{IsPublished}
-use Rattle.mf_live.specs.declared.event.Event.{Event}
+use Rattle.mf_live.specs.Events.{Event}
 
 -- the revision of the last of these lists, which are given from the last to the first
 abbrev pub last_revision : List (List Entry) → Option ℕ

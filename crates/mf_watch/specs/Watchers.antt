@@ -2,7 +2,7 @@
 use Rattle.std.specs.Prelude.{◌≡◌, ◌⊎◌, ◌≤◌, ◌+◌, ℕ, All, List, Vec, [], ◌∷◌, ◌++◌, length, vec_capacity}
 use Rattle.std.specs.declared.alloc.Global.{Global}
 use Rattle.logbook.specs.Pages.{Book}
-use Rattle.mf_live.specs.declared.event.Event.{Event}
+use Rattle.mf_live.specs.Events.{Event}
 use Rattle.mf_live.specs.Entries.{Entry, picture_at, revision_at}
 use Rattle.mf_live.specs.Prefixes.{IsWholePrefix}
 use Rattle.mf_live.specs.Viewers as viewers

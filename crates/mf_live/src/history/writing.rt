@@ -3,11 +3,12 @@ ghost use Rattle.std.specs.Prelude.{◌≡◌, ◌++◌, [], ◌∷◌, IfSome};
 ghost use mathlib.Core.List.{IsPrefix};
 ghost use Rattle.logbook.specs.Pages.{may_write};
 ghost use Rattle.mf_live.specs.Books.{greatest_limit, first_pen, word_of, IsPenOf};
-ghost use Rattle.mf_live.specs.Events.{event_of, events_of};
+ghost use Rattle.mf_live.specs.Events.{event_of, events_of, writer_event};
 ghost use Rattle.mf_live.specs.World.{May, new_world, world_after};
 
 use super::{History, Knowledge};
-use crate::book::{Add, Asks, Confirm, Happening, Head, Key, Make, Nothing};
+use crate::book::{Add, Asks, Confirm, Head, Make, Nothing, Writing};
+use crate::event::Act;
 use logbook::{Pen, Seen, Start, Word};
 use std::marker::Brand;
 
@@ -37,18 +38,19 @@ fn make_pen(word: &Head, known: &Knowledge) -> (u64, Pen)
 }
 
 /// Writes a line after all lines. The pen is used up, and the line names the next one.
-fn add_line<N: Happening, K: Key>(word: &Head, known: &mut Knowledge, pen: &mut Pen, next: &Pen)
+fn add_line<N: Writing>(word: &Head, known: &mut Knowledge, pen: &mut Pen, act: Act<'_>, next: &Pen)
+    requires line { N.line ≡ record { event = writer_event act; next = next.now.nib.key } }
     requires word { word.now ≡ word_of known.old.seen.book }
     requires pen { IsPenOf known.old.seen.book known.old.seen.log pen.old.book pen.old.nib }
-    requires next { K.key ≡ next.now.nib.key }
-    requires may { May greatest_limit (world_after new_world (events_of known.old.seen.log)) (event_of N.event) }
+    requires may { May greatest_limit (world_after new_world (events_of known.old.seen.log)) (event_of (writer_event act)) }
     ensures book { known.new.seen.book ≡ known.old.seen.book }
-    ensures log { known.new.seen.log ≡ known.old.seen.log ++ record { event = N.event; next = next.now.nib.key } ∷ [] }
+    ensures log { known.new.seen.log ≡ known.old.seen.log ++ record { event = writer_event act.entry; next = next.now.nib.key } ∷ [] }
 {
-    // `next` is only there to choose the key.
+    // `act` and `next` are only there to choose the line.
+    let _ = act;
     let _ = next;
     let mut offer = known.seen.plain::<Nothing, (), Asks>(&());
-    word.compare_exchange::<Add<N, K>, Nothing>(0, 1, &mut known.seen, &mut offer, pen);
+    word.compare_exchange::<Add<N>, Nothing>(0, 1, &mut known.seen, &mut offer, pen);
 }
 
 impl History {
@@ -67,15 +69,15 @@ impl History {
         Some(History { word, pen, known })
     }
 
-    /// Writes an event after all others.
-    pub(crate) fn write<N: Happening>(&mut self)
-        requires { May greatest_limit (world_after new_world (events_of self.old.known.seen.log)) (event_of N.event) }
+    /// Writes what the writer does, after all that it has done.
+    pub(crate) fn write(&mut self, act: Act<'_>)
+        requires { May greatest_limit (world_after new_world (events_of self.old.known.seen.log)) (event_of (writer_event act)) }
         ensures book { self.new.known.seen.book ≡ self.old.known.seen.book }
-        ensures events { events_of self.new.known.seen.log ≡ events_of self.old.known.seen.log ++ event_of N.event ∷ [] }
+        ensures events { events_of self.new.known.seen.log ≡ events_of self.old.known.seen.log ++ event_of (writer_event act.entry) ∷ [] }
         ensures prefix { IsPrefix self.old.known.seen.log self.new.known.seen.log }
     {
         let (_, next) = make_pen(&self.word, &self.known);
-        add_line::<N, Brand>(&self.word, &mut self.known, &mut self.pen, &next);
+        add_line::<Brand>(&self.word, &mut self.known, &mut self.pen, act, &next);
         self.pen = next;
     }
 

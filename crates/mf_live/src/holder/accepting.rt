@@ -1,22 +1,17 @@
 //! Opening a picture, and accepting operations and the end mark.
-ghost use Rattle.std.specs.Prelude.{◌≡◌, ◌<◌, ◌^◌, ◌++◌, [], ◌∷◌, false, None, Some, Err, IfOk, IfErr, IsOk, OnOk, MatchResult};
-ghost use mathlib.Core.List.{IsPrefix};
+ghost use Rattle.std.specs.Prelude.{◌≡◌, ◌<◌, ◌^◌, [], false, None, Some, Err, IfOk, IfErr, IsOk, OnOk, MatchResult};
 ghost use Rattle.left_right.specs.Sides.{view};
 ghost use Rattle.mf_geom.specs.declared.cycle.CycleFault.{CycleFault};
 ghost use Rattle.mf_ops.specs.Step.{IsRefusal, op_fault};
 ghost use Rattle.mf_ops.specs.declared.op.Op.TheVariants.{Clear};
 ghost use Rattle.mf_live.specs.Books.{greatest_limit};
 ghost use Rattle.mf_live.specs.Entries.{picture_at, revision_at, accepted_list_with, is_closed, Operation, End};
-ghost use Rattle.mf_live.specs.Events as events;
-ghost use Rattle.mf_live.specs.Events.{events_of};
 ghost use Rattle.mf_live.specs.Holders.{identity, accepted_list, knowledge, published_list};
 ghost use Rattle.mf_live.specs.Rule.{view_knowing, knowledge_of};
-ghost use Rattle.mf_live.specs.World.{May, new_world, world_after};
-ghost use Rattle.mf_live.specs.declared.event.WriterEvent.TheVariants.{Accept};
 
 use super::Holder;
 use super::publishing::show;
-use crate::book::{Closes, Happening};
+use crate::event::Act;
 use crate::history::{History, Knowledge};
 use crate::notice::Notice;
 use crate::rule::Swap;
@@ -25,7 +20,6 @@ use mf_base::OutOfMemory;
 use mf_ops::{Op, OpFault, apply};
 use mf_rows::Picture;
 use std::alloc::Global;
-use std::marker::Brand;
 use std::sync::Wait;
 
 /// The blank version of a history in which nothing has happened.
@@ -42,19 +36,6 @@ fn blank(alloc: Global, knowledge: &Knowledge) -> Version
             revision: 0,
         },
     }
-}
-
-/// Writes that the operation is accepted.
-fn write_operation<N: Happening>(history: &mut History, op: &Op)
-    requires op { N.event ≡ Accept op.now }
-    requires may { May greatest_limit (world_after new_world (events_of history.old.known.seen.log)) (events.Accept op.now) }
-    ensures book { history.new.known.seen.book ≡ history.old.known.seen.book }
-    ensures events { events_of history.new.known.seen.log ≡ events_of history.old.known.seen.log ++ events.Accept op.now ∷ [] }
-    ensures prefix { IsPrefix history.old.known.seen.log history.new.known.seen.log }
-{
-    // `op` is only there to choose the event.
-    let _ = op;
-    history.write::<N>();
 }
 
 impl Holder {
@@ -103,7 +84,7 @@ impl Holder {
         ensures clears { op.now ≡ Clear → IsOk result }
     {
         apply(alloc, &mut self.working, op)?;
-        write_operation::<Brand>(&mut self.history, op);
+        self.history.write(Act::Accept(op));
         self.entries += 1;
         self.revision += 1;
         Ok(())
@@ -117,7 +98,7 @@ impl Holder {
         ensures published { published_list self.new ≡ published_list self.old }
         ensures working { self.new.working ≡ self.old.working }
     {
-        self.history.write::<Closes>();
+        self.history.write(Act::Close);
         self.entries += 1;
     }
 

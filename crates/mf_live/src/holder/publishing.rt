@@ -8,7 +8,7 @@ ghost use Rattle.mf_live.specs.Holders.{identity, accepted_list, published_list}
 ghost use Rattle.mf_live.specs.Rule.{EachSeatKnows, IsShow, book_of, lines_of, view_knowing, knowledge_of};
 
 use super::Holder;
-use crate::book::Publishes;
+use crate::event::Act;
 use crate::notice::Notice;
 use crate::rule::{Shows, Swap};
 use crate::version::Version;
@@ -67,7 +67,7 @@ impl Holder {
     {
         // The book comes before the swap, which may wait for a held look: until then a look shows the list before, which is
         // published, too.
-        self.history.write::<Publishes>();
+        self.history.write(Act::Publish);
         let notice = Notice {
             knowledge: self.history.known.copy(),
             entries: self.entries,

@@ -1,5 +1,6 @@
+use Rattle.mf_live.specs.Events.{writer_event}
 use Rattle.mf_live.proofs.history.History.write.Given as goal
 
--- the next line is for the new pen
+-- what the writer does, and that the new pen writes next
 abbrev pub ghosts-add_line : goal.ghosts-add_line
-ghosts-add_line g a = record { key = a.next.now.nib.key }
+ghosts-add_line a = record { line = record { event = writer_event a.act; next = a.next.now.nib.key } }

@@ -6,8 +6,8 @@ use Rattle.mf_live.proofs.EntryLists.{picture_at-push, revision_at-push}
 use Rattle.mf_live.proofs.Histories.{few_entries, is_there, one_more}
 use Rattle.mf_live.proofs.holder.Holder.accept.Goals as goal
 
-pub write_operation-requires-clause-may : goal.write_operation-requires-clause-may
-write_operation-requires-clause-may c =
+pub write-requires : goal.write-requires
+write-requires c =
     let h = c.args.self.now in
     (is_there h.history.known.seen.log, c.requires.open, c.requires.few, rw h.pictured at c.in_ok-apply.ensures.accepted)
 
@@ -18,9 +18,9 @@ pub invariant_of-self-2 : goal.invariant_of-self-2
 invariant_of-self-2 c =
     let h = c.args.self.now in
     let op = c.args.op.now in
-    let wrote = c.write_operation.ensures in
+    let wrote = c.write.ensures in
     let step = rw h.pictured at c.in_ok-apply.ensures.step in
-    let more = one_more h c.write_operation.new.history (Accept op) _ wrote.book wrote.events wrote.prefix refl in
+    let more = one_more h c.write.new.self (Accept op) _ wrote.book wrote.events wrote.prefix refl in
     record {
       book = more.book;
       shown = more.shown;
