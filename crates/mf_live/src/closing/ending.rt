@@ -7,7 +7,6 @@ ghost use Rattle.mf_live.specs.Writers.{closing_published_list, ended_identity, 
 
 use super::{CloseFault, Closing, Ended};
 use crate::notice::Notice;
-use crate::rule::Swap;
 use crate::writer::Writer;
 use std::sync::Wait;
 
@@ -57,15 +56,8 @@ impl Closing {
     /// Ends the picture without publishing its end mark. It may wait for looks that are held, and looks may be refused from then
     /// on. Nothing is left that a clause could be about.
     pub fn discard<R: Wait>(self, rt: &R) {
-        self.into_swap().take(rt);
-    }
-
-    /// Its copies, unchanged.
-    fn into_swap(self) -> Swap
-        ensures { result ≡ self.holder.swap }
-    {
         let Closing { holder } = self;
-        holder.into_swap()
+        holder.discard(rt);
     }
 }
 
@@ -83,14 +75,7 @@ impl Ended {
     /// Ends the picture. It may wait for looks that are held, and looks may be refused from then on. Nothing is left that a clause
     /// could be about.
     pub fn discard<R: Wait>(self, rt: &R) {
-        self.into_swap().take(rt);
-    }
-
-    /// Its copies, unchanged.
-    fn into_swap(self) -> Swap
-        ensures { result ≡ self.holder.swap }
-    {
         let Ended { holder } = self;
-        holder.into_swap()
+        holder.discard(rt);
     }
 }

@@ -102,8 +102,13 @@ impl Holder {
         self.entries += 1;
     }
 
-    /// The copies, unchanged, once nothing is accepted or published any more.
-    pub(crate) fn into_swap(self) -> Swap
+    /// Ends the picture. It may wait for looks that are held.
+    pub(crate) fn discard<R: Wait>(self, rt: &R) {
+        self.into_swap().take(rt);
+    }
+
+    /// The copies, unchanged. `discard` calls this first, so that a clause says that nothing is published there.
+    fn into_swap(self) -> Swap
         ensures { result ≡ self.swap }
     {
         let Holder {

@@ -10,7 +10,6 @@ ghost use Rattle.mf_live.specs.Writers.{identity, accepted_list, published_list,
 use super::Writer;
 use crate::fault::Fault;
 use crate::notice::Notice;
-use crate::rule::Swap;
 use mf_base::OutOfMemory;
 use mf_ops::{Op, OpFault};
 use mf_rows::Picture;
@@ -96,14 +95,7 @@ impl Writer {
     /// Ends the picture without an end mark. It may wait for looks that are held, and looks may be refused from then on. Nothing is
     /// left that a clause could be about.
     pub fn discard<R: Wait>(self, rt: &R) {
-        self.into_swap().take(rt);
-    }
-
-    /// The writer's copies, unchanged. `discard` calls this first, so that a clause says that nothing is published there.
-    fn into_swap(self) -> Swap
-        ensures { result ≡ self.holder.swap }
-    {
         let Writer { holder, max_ops: _ } = self;
-        holder.into_swap()
+        holder.discard(rt);
     }
 }
