@@ -1,7 +1,7 @@
 -- What contracts say about taking a sheet.
 use Rattle.std.specs.Prelude.{◌≡◌, true, ℕ, List}
 use Rattle.mf_rows.specs.Dots.{Dot}
-use Rattle.mf_live.specs.declared.notice.Notice.{Notice}
+use Rattle.logbook.specs.Pages.{Book}
 use Rattle.mf_live.specs.declared.sheet.Sheet.{Sheet}
 use Rattle.mf_live.specs.declared.sheet.SheetFault.{SheetFault}
 use Rattle.mf_live.specs.declared.sheet.SheetFault.TheVariants.{NoLook, OutOfMemory}
@@ -18,9 +18,12 @@ sheet_picture s = s.picture
 abbrev pub sheet_revision : Sheet → ℕ
 sheet_revision s = s.notice.revision
 
--- a notice of what it shows
-abbrev pub sheet_notice : Sheet → Notice
-sheet_notice s = s.notice
+-- of which picture it is, and the list that it shows
+abbrev pub sheet_identity : Sheet → Book
+sheet_identity s = notice_identity s.notice
+
+abbrev pub sheet_list : Sheet → List Entry
+sheet_list s = told_list s.notice
 
 -- a viewer has looked at a list of which everything that it had seen is a whole prefix, and in which nothing follows the end mark. It
 -- has seen that list, which the events that it knows have published, and has learnt nothing
@@ -31,11 +34,11 @@ pub record HasLooked (before after : Viewer) : Type 0 where
   pub ends : is_nothing_after_end (looked_at_list after) ≡ true
   pub published : IsPublished (looked_at_events after) (looked_at_list after)
 
--- a sheet has what its look showed, and a notice of that
+-- a sheet has what its look showed
 pub record IsTaken (before after : Viewer) (sheet : Sheet) : Type 0 where
   pub look : HasLooked before after
-  pub identity : notice_identity (sheet_notice sheet) ≡ identity after
-  pub told : told_list (sheet_notice sheet) ≡ looked_at_list after
+  pub identity : sheet_identity sheet ≡ identity after
+  pub list : sheet_list sheet ≡ looked_at_list after
   pub picture : sheet_picture sheet ≡ picture_at (looked_at_list after)
   pub revision : sheet_revision sheet ≡ revision_at (looked_at_list after)
 

@@ -93,7 +93,7 @@ pub fn look_is_published(look: &Look, writer: &mut Writer)
     ensures same { writers.IsSameWriter writer.old writer.new }
     ensures published { IsWholePrefix (viewers.shown_list look.now) (writers.published_list writer.new) }
 {
-    told_is_published(look.notice(), writer);
+    told_is_published(&look.notice(), writer);
 }
 
 /// The same of what a notice tells. Looks and sheets have notices of what they show, so it is true of them at any time.

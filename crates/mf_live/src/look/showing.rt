@@ -24,12 +24,12 @@ impl Look {
         self.reading.get().notice.revision
     }
 
-    /// A notice of what it shows.
-    pub fn notice(&self) -> &Notice
-        ensures identity { notice_identity result.now ≡ look_identity self.now }
-        ensures told { told_list result.now ≡ shown_list self.now }
+    /// A notice of what it shows, which another viewer may learn.
+    pub fn notice(&self) -> Notice
+        ensures identity { notice_identity result ≡ look_identity self.now }
+        ensures told { told_list result ≡ shown_list self.now }
     {
-        &self.reading.get().notice
+        self.reading.get().notice.copy()
     }
 
     /// Ends the look and gives its viewer back, which has then seen what the look showed.

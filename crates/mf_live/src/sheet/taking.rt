@@ -1,7 +1,7 @@
 //! Taking sheets.
 ghost use Rattle.std.specs.Prelude.{◌≡◌, MatchResult};
-ghost use Rattle.mf_live.specs.Sheets.{IsTaken, IsNotTaken, sheet_notice, sheet_picture, sheet_revision};
-ghost use Rattle.mf_live.specs.Viewers.{identity};
+ghost use Rattle.mf_live.specs.Sheets.{IsTaken, IsNotTaken, sheet_identity, sheet_list, sheet_picture, sheet_revision};
+ghost use Rattle.mf_live.specs.Viewers.{identity, notice_identity, told_list};
 
 use super::{Sheet, SheetFault};
 use crate::notice::Notice;
@@ -25,11 +25,12 @@ impl Sheet {
         self.notice.revision
     }
 
-    /// A notice of what it shows.
-    pub fn notice(&self) -> &Notice
-        ensures { result.now ≡ sheet_notice self.now }
+    /// A notice of what it shows, which another viewer may learn.
+    pub fn notice(&self) -> Notice
+        ensures identity { notice_identity result ≡ sheet_identity self.now }
+        ensures told { told_list result ≡ sheet_list self.now }
     {
-        &self.notice
+        self.notice.copy()
     }
 }
 
@@ -43,7 +44,7 @@ fn take_sheet(viewer: Viewer, alloc: Global) -> (Viewer, Result<Sheet, SheetFaul
         Err((viewer, _)) => return (viewer, Err(SheetFault::NoLook)),
     };
     let copy = look.picture().copy(alloc);
-    let notice = look.notice().copy();
+    let notice = look.notice();
     let viewer = look.leave();
     match copy {
         Ok(picture) => (viewer, Ok(Sheet { picture, notice })),

@@ -10,6 +10,7 @@ use super::{
     take_viewer,
 };
 use crate::tests::assertions::assert_same;
+use mf_live::laws::{look_is_published, told_is_published, told_is_published_at_the_end};
 use mf_live::{Desk, Viewer, Writer, open_picture};
 use mf_ops::Op;
 use std::alloc::Global;
@@ -71,6 +72,41 @@ fn shows_what_is_published(rt: HostRuntime) {
     let viewer = take_viewer(&rt, &mut desk);
     assert_publish_is_shown(&rt, alloc, &mut writer, viewer);
     writer.discard(&rt);
+}
+
+/// A viewer learns from a notice of another one's look, and from one of its sheet. The writer of both has published what they tell,
+/// and nothing changes where that is said.
+#[test]
+fn viewers_pass_on_what_they_see(rt: HostRuntime) {
+    let alloc = rt.alloc();
+    let (mut writer, mut desk) = open(&rt, alloc, 2, 10);
+    let first = take_viewer(&rt, &mut desk);
+    let mut second = take_viewer(&rt, &mut desk);
+    publish_rectangle(&rt, alloc, &mut writer);
+    let Ok(look) = first.look() else {
+        panic!(rt; "the writer is there");
+    };
+    look_is_published(&look, &mut writer);
+    let seen = look.notice();
+    let mut first = look.leave();
+    assert_tells(&rt, &seen, 1);
+    second.learn(seen);
+    let mut second = assert_shows(&rt, second, 1, 6);
+
+    apply(&rt, alloc, &mut writer, Op::Clear);
+    publish(&rt, &mut writer);
+    let Ok(sheet) = first.sheet(alloc) else {
+        panic!(rt; "there is room for a sheet");
+    };
+    let kept = sheet.notice();
+    assert_tells(&rt, &kept, 2);
+    told_is_published(&kept, &mut writer);
+    assert_working(&rt, &writer, 0, 0);
+    let mut ended = close(&rt, writer);
+    told_is_published_at_the_end(&kept, &mut ended);
+    second.learn(kept);
+    assert_shows_blank(&rt, alloc, second, 2);
+    ended.discard(&rt);
 }
 
 /// Of two pictures, each shows its own viewers what its own writer publishes.
