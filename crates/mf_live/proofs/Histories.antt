@@ -22,12 +22,9 @@ pub events_of-append : (xs ys : List Line) → events_of (xs ++ ys) ≡ events_o
 events_of-append [] ys = refl
 events_of-append (l ∷ ls) ys = ap (λ es. event_of l.event ∷ es) (events_of-append ls ys)
 
-pub events_of-push : (xs : List Line) (l : Line) → events_of (xs ++ l ∷ []) ≡ events_of xs ++ event_of l.event ∷ []
-events_of-push xs l = events_of-append xs (l ∷ [])
-
 pub Happen-line : (lines : List Line) (l : Line) → Happen greatest_limit new_world (events_of lines)
     → May greatest_limit (world_after new_world (events_of lines)) (event_of l.event) → Happen greatest_limit new_world (events_of (lines ++ l ∷ []))
-Happen-line lines l happen may = rw (events_of-push lines l) (Happen-push greatest_limit new_world (events_of lines) (event_of l.event) happen may)
+Happen-line lines l happen may = rw (events_of-append lines (l ∷ [])) (Happen-push greatest_limit new_world (events_of lines) (event_of l.event) happen may)
 
 -- a writer never writes that it has gone
 stays-event : (w : World) (e : WriterEvent) → w.gone ≡ false → (after_event w (event_of e)).gone ≡ false

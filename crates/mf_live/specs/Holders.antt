@@ -6,7 +6,6 @@ use Rattle.mf_live.specs.declared.holder.Holder.{Holder}
 use Rattle.mf_live.specs.declared.version.Version.{Version}
 use Rattle.mf_live.specs.Entries.{Entry}
 use Rattle.mf_live.specs.Events.{Event, events_of}
-use Rattle.mf_live.specs.Rule.{version_list}
 use Rattle.mf_live.specs.World.{accepted_list_of, published_list_of}
 
 -- the version that its copies show
@@ -31,7 +30,3 @@ accepted_list h = accepted_list_of (events h)
 
 abbrev pub published_list : Holder → List Entry
 published_list h = published_list_of (events h)
-
--- the list that its copies show
-abbrev pub visible_list : Holder → List Entry
-visible_list h = version_list (version h)

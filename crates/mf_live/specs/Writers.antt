@@ -9,6 +9,7 @@ use Rattle.mf_live.specs.declared.closing.Ended.{Ended}
 use Rattle.mf_live.specs.declared.writer.Writer.{Writer}
 use Rattle.mf_live.specs.Entries.{End, Entry, accepted_list_with, picture_at, revision_at}
 use Rattle.mf_live.specs.Holders as holders
+use Rattle.mf_live.specs.Rule.{version_list}
 
 -- which picture it is
 abbrev pub identity : Writer → Book
@@ -24,7 +25,7 @@ published_list w = holders.published_list w.holder
 
 -- what the writer's copies show
 abbrev pub visible_list : Writer → List Entry
-visible_list w = holders.visible_list w.holder
+visible_list w = version_list (holders.version w.holder)
 
 -- the greatest number of operations that it accepts
 abbrev pub max_ops : Writer → ℕ
@@ -51,9 +52,6 @@ closing_accepted_list c = holders.accepted_list c.holder
 
 abbrev pub closing_published_list : Closing → List Entry
 closing_published_list c = holders.published_list c.holder
-
-abbrev pub closing_visible_list : Closing → List Entry
-closing_visible_list c = holders.visible_list c.holder
 
 -- which picture has ended
 abbrev pub ended_identity : Ended → Book

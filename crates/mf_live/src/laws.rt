@@ -1,15 +1,13 @@
 //! Laws of the live picture. Each is the contract of a function that does nothing, or only calls others, because the toolchain
 //! proves a statement only where a function's contract names it.
-ghost use mathlib.Core.List.{IsPrefix};
-ghost use Rattle.std.specs.Prelude.{◌≡◌, ◌⊎◌, ◌≤◌, true, false, List, ◌++◌, IfErr, IfOk, MatchResult, OnOk};
-ghost use Rattle.mf_live.specs.Books.{greatest_limit};
+ghost use Rattle.std.specs.Prelude.{◌≡◌, ◌⊎◌, ◌≤◌, true, false, List, IfErr, IfOk, MatchResult, OnOk};
 ghost use Rattle.mf_live.specs.Entries.{Entry, revision_at, is_closed, picture_at, IsUnrefused};
 ghost use Rattle.mf_live.specs.Events.{Event};
 ghost use Rattle.mf_live.specs.Prefixes.{IsWholePrefix, HasWholePublishes};
 ghost use Rattle.mf_live.specs.Sheets.{HasLearnt, HasLookedAt, IsLastNotTaken, sheet_picture, sheet_revision};
 ghost use Rattle.mf_live.specs.Viewers as viewers;
 ghost use Rattle.mf_live.specs.Writers as writers;
-ghost use Rattle.mf_live.specs.World.{new_world, Happen, EverySchedule, IsPending, published_list_of};
+ghost use Rattle.mf_live.specs.World.{EverySchedule, IsPending, published_list_of};
 
 use crate::closing::{Closing, Ended};
 use crate::look::{Look, NoLook};
@@ -29,23 +27,11 @@ pub fn every_schedule(max_ops: u32)
     ensures { EverySchedule max_ops }
 {}
 
-/// What was published earlier is a whole prefix of what is published later, and its revision is no greater. In a list of events a
-/// look shows what is published at its moment (`every_schedule`), so no look goes back.
-pub fn looks_never_go_back(max_ops: u32)
-    ensures prefix { (before between : List Event) → Happen max_ops new_world (before ++ between)
-        → IsWholePrefix (published_list_of before) (published_list_of (before ++ between)) }
-    ensures revision { (before between : List Event) → Happen max_ops new_world (before ++ between)
-        → revision_at (published_list_of before) ≤ revision_at (published_list_of (before ++ between)) }
-{}
-
-/// A whole prefix of what is published has, of each publish, nothing or all of it. So has what was published earlier, and in a list
-/// of events a look shows what is published at its moment (`every_schedule`).
-#[tactic(auto, using(crate::proofs::WholePublishes::whole_publishes, crate::proofs::Worlds::published_list_grows))]
-pub fn looks_show_whole_publishes(max_ops: u32)
-    ensures whole { (shown : List Entry) (events : List Event) → IsWholePrefix shown (published_list_of events)
+/// A whole prefix of what is published has, of each publish, nothing or all of it. So has what a look shows (`look_is_published`).
+#[tactic(auto, using(crate::proofs::WholePublishes::whole_publishes))]
+pub fn looks_show_whole_publishes()
+    ensures { (shown : List Entry) (events : List Event) → IsWholePrefix shown (published_list_of events)
         → HasWholePublishes shown (published_list_of events) }
-    ensures earlier { (before after : List Event) → Happen max_ops new_world (before ++ after)
-        → HasWholePublishes (published_list_of before) (published_list_of (before ++ after)) }
 {}
 
 /// Whatever a writer has done, what is accepted and published is as `every_schedule` says: no accepted operation is refused, and
@@ -59,15 +45,9 @@ pub fn writer_is_lawful(writer: &Writer)
     ensures running { is_closed (writers.accepted_list writer.now) ≡ false }
 {}
 
-/// What the writer's copies show is what is published, whatever the writer has done. That viewers look at these copies, no clause
-/// says; tests show it.
+/// What the writer's copies show is what is published. That viewers look at these copies, no clause says; tests show it.
 pub fn published_is_visible(writer: &Writer)
     ensures { writers.visible_list writer.now ≡ writers.published_list writer.now }
-{}
-
-/// The same while the end mark is set but not published.
-pub fn published_is_visible_halfway(closing: &Closing)
-    ensures { writers.closing_visible_list closing.now ≡ writers.closing_published_list closing.now }
 {}
 
 /// A notice tells a list that the events which it knows have published: all of these can happen in their order, they have accepted

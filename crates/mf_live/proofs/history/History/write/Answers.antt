@@ -1,9 +1,9 @@
-use Rattle.std.proofs.Common.{◌∙◌, sym, ap, subst, List}
+use Rattle.std.proofs.Common.{◌∙◌, sym, ap, subst, List, [], ◌∷◌}
 use Rattle.mf_live.specs.declared.event.Line.{Line}
 use Rattle.mf_live.specs.Books.{greatest_limit, first_pen, word_of, pen_after}
 use Rattle.mf_live.specs.Events.{events_of, writer_event}
 use Rattle.mf_live.specs.World.{Happen, new_world}
-use Rattle.mf_live.proofs.Histories.{events_of-push, Happen-line}
+use Rattle.mf_live.proofs.Histories.{events_of-append, Happen-line}
 use Rattle.mf_live.proofs.Writing.{pen_after-push}
 use Rattle.mf_live.proofs.history.History.write.Goals as goal
 
@@ -24,4 +24,4 @@ invariant_of-self c =
     }
 
 pub returns-clause-events : goal.returns-clause-events
-returns-clause-events c = ap events_of c.add_line.ensures.log ∙ events_of-push c.args.self.now.known.seen.log _
+returns-clause-events c = ap events_of c.add_line.ensures.log ∙ events_of-append c.args.self.now.known.seen.log (_ ∷ [])

@@ -28,6 +28,3 @@ invariant_of-self c =
 
 pub returns-clause-accepted : goal.returns-clause-accepted
 returns-clause-accepted c = let wrote = c.write.ensures in (one_more c.args.self.now c.write.new.self Close _ wrote.book wrote.events wrote.prefix refl).accepted
-
-pub returns-clause-published : goal.returns-clause-published
-returns-clause-published c = let wrote = c.write.ensures in (one_more c.args.self.now c.write.new.self Close _ wrote.book wrote.events wrote.prefix refl).published
