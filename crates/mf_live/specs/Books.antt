@@ -10,7 +10,7 @@ use Rattle.mf_live.specs.World.{Happen, new_world}
 abbrev pub greatest_limit : ℕ
 greatest_limit = 4294967295
 
--- the key of the pen that writes the first line
+-- the key of the pen that writes the first line: a new book has two cells, 0 and 1
 abbrev pub first_pen : ℕ
 first_pen = 2
 
@@ -28,7 +28,7 @@ pens_of n (l ∷ ls) = n ∷ pens_of l.next ls
 abbrev pub IsHome : List Cell → ℕ → Type 0
 IsHome cells key = (cell cells key).1 ≡ true
 
--- The first cell is at home, and is 0 until the first pen is made. Each pen that has written a line is used up, so its cell is at
+-- The first cell is at home, and while it is 0 no pen has been made. Each pen that has written a line is used up, so its cell is at
 -- home: whoever holds the pen that writes after some lines knows that these are all. And each event could happen in its turn
 pub record IsLawfulBook (cells : List Cell) (lines : List Line) : Type 0 where
   pub word : IsHome cells 0

@@ -1,4 +1,4 @@
--- What may happen to a picture and to its viewers, and which of these events are its writer's.
+-- What may happen to a picture and to its viewers, and which of these events are written into its book.
 use Rattle.std.specs.Prelude.{Bool, ℕ, List, [], ◌∷◌}
 use Rattle.mf_ops.specs.declared.op.Op.{Op}
 use Rattle.mf_live.specs.declared.event.Act.{Act}
@@ -20,12 +20,12 @@ pub data Event : Type 0 where
   Discard : Bool → Event
   -- the viewer with this number looks
   Look : ℕ → Event
-  -- the writer makes a notice of what is published
+  -- a notice of what is published is made; a notice of a look tells what one could have told right after that publish
   Tell : Event
   -- the viewer with the first number learns the notice with the second
   Learn : ℕ → ℕ → Event
 
--- what a writer does, as an event
+-- a line of a book, as an event
 abbrev pub event_of : WriterEvent → Event
 event_of (writer.Accept op) = Accept op
 event_of writer.Close = Close

@@ -1,24 +1,15 @@
 -- What contracts say about taking a sheet.
-use Rattle.std.specs.Prelude.{◌≡◌, true, ℕ, List}
-use Rattle.mf_rows.specs.Dots.{Dot}
+use Rattle.std.specs.Prelude.{◌≡◌, true, List}
 use Rattle.logbook.specs.Pages.{Book}
 use Rattle.mf_live.specs.declared.sheet.Sheet.{Sheet}
 use Rattle.mf_live.specs.declared.sheet.SheetFault.{SheetFault}
 use Rattle.mf_live.specs.declared.sheet.SheetFault.TheVariants.{NoLook, OutOfMemory}
 use Rattle.mf_live.specs.declared.viewer.Viewer.{Viewer}
-use Rattle.mf_live.specs.Entries.{Entry, is_nothing_after_end, picture_at, revision_at}
+use Rattle.mf_live.specs.Entries.{Entry, is_nothing_after_end}
 use Rattle.mf_live.specs.Prefixes.{IsWholePrefix, longer}
 use Rattle.mf_live.specs.Viewers.{Extends, IsPublished, SeesTheSame, identity, learnt_list, looked_at_list, looked_at_events, notice_identity, seen_list, told_list}
 
--- the picture of a sheet
-abbrev pub sheet_picture : Sheet → List Dot
-sheet_picture s = s.picture
-
--- its revision
-abbrev pub sheet_revision : Sheet → ℕ
-sheet_revision s = s.notice.revision
-
--- of which picture it is, and the list that it shows
+-- of which picture a sheet is, and the list that it shows
 abbrev pub sheet_identity : Sheet → Book
 sheet_identity s = notice_identity s.notice
 
@@ -26,7 +17,7 @@ abbrev pub sheet_list : Sheet → List Entry
 sheet_list s = told_list s.notice
 
 -- a viewer has looked at a list of which everything that it had seen is a whole prefix, and in which nothing follows the end mark. It
--- has seen that list, which the events that it knows have published, and has learnt nothing
+-- has seen that list, which the events that it knows have published, and has learnt nothing more
 pub record HasLooked (before after : Viewer) : Type 0 where
   pub extends : Extends before (looked_at_list after)
   pub learnt : learnt_list after ≡ learnt_list before
@@ -39,8 +30,6 @@ pub record IsTaken (before after : Viewer) (sheet : Sheet) : Type 0 where
   pub look : HasLooked before after
   pub identity : sheet_identity sheet ≡ identity after
   pub list : sheet_list sheet ≡ looked_at_list after
-  pub picture : sheet_picture sheet ≡ picture_at (looked_at_list after)
-  pub revision : sheet_revision sheet ≡ revision_at (looked_at_list after)
 
 -- where there is no sheet, the viewer has not looked, or an allocation failed after it had
 abbrev pub IsNotTaken : Viewer → Viewer → SheetFault → Type 0

@@ -43,10 +43,11 @@ working_picture w = picture_at (accepted_list w)
 abbrev pub IsBelowLimit : Writer → Type 0
 IsBelowLimit w = revision_at (accepted_list w) < max_ops w
 
--- the same of a picture whose end mark is set but not published
+-- which picture it is whose end mark is set but not published
 abbrev pub closing_identity : Closing → Book
 closing_identity c = holders.identity c.holder
 
+-- what it has accepted, and what of that is published
 abbrev pub closing_accepted_list : Closing → List Entry
 closing_accepted_list c = holders.accepted_list c.holder
 
@@ -68,7 +69,7 @@ pub record IsSameWriter (before after : Writer) : Type 0 where
   pub published : published_list after ≡ published_list before
   pub max_ops : max_ops after ≡ max_ops before
 
--- the same of a picture whose end mark is set but not published, and of one that was closed
+-- a picture whose end mark is set, but not published, is as it was; and so is one that was closed
 pub record IsSameClosing (before after : Closing) : Type 0 where
   pub identity : closing_identity after ≡ closing_identity before
   pub accepted : closing_accepted_list after ≡ closing_accepted_list before

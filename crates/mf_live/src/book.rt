@@ -53,6 +53,7 @@ pub trait Writing {
     ghost line: { Line };
 }
 
+/// Stands for the line that the proof of a call chooses (`ghosts-add_line`).
 impl Writing for Brand {
     ghost use Rattle.mf_live.specs.declared.event.WriterEvent.TheVariants.{Publish};
 
@@ -88,5 +89,5 @@ impl Play<Line, u64> for Confirm {
     ghost then = { λ s v found w. Confirms v w };
 }
 
-/// The first word of a book. Only its steps matter, and not its number.
+/// The first word of a book. It is 0 until the first pen is made, and 1 from then on.
 pub type Head = Word<Line, u64, Law>;

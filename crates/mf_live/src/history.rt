@@ -17,7 +17,7 @@ pub struct Knowledge {
     pub(crate) seen: Seen<Line, u64, Law>,
 }
 
-/// All of a picture's book, and the one pen that can write on. None of it but the word has bytes.
+/// All of a picture's book, and the one pen that can write its next line. None of it but the word has bytes.
 #[derive(Drop)]
 pub struct History {
     pub(crate) word: Head,

@@ -14,8 +14,8 @@ use std::alloc::Global;
 mod accepting;
 mod publishing;
 
-/// The two copies that viewers look at, the picture's history, and the picture of all accepted operations. It is not `Drop`:
-/// `into_swap` takes the copies out of it, and these are ended.
+/// The two copies that viewers look at, the picture's history, and the picture of all accepted operations. It is not `Drop`,
+/// since ending the copies may mean waiting for looks.
 pub struct Holder {
     pub(crate) alloc: Global,
     pub(crate) swap: Swap,

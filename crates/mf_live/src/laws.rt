@@ -4,7 +4,7 @@ ghost use Rattle.std.specs.Prelude.{◌≡◌, ◌⊎◌, ◌≤◌, true, false
 ghost use Rattle.mf_live.specs.Entries.{Entry, revision_at, is_closed, picture_at, IsUnrefused};
 ghost use Rattle.mf_live.specs.Events.{Event};
 ghost use Rattle.mf_live.specs.Prefixes.{IsWholePrefix, HasWholePublishes};
-ghost use Rattle.mf_live.specs.Sheets.{HasLearnt, HasLookedAt, IsLastNotTaken, sheet_picture, sheet_revision};
+ghost use Rattle.mf_live.specs.Sheets.{HasLearnt, HasLookedAt, IsLastNotTaken, sheet_identity, sheet_list};
 ghost use Rattle.mf_live.specs.Viewers as viewers;
 ghost use Rattle.mf_live.specs.Writers as writers;
 ghost use Rattle.mf_live.specs.World.{EverySchedule, IsPending, published_list_of};
@@ -76,7 +76,7 @@ pub fn look_is_published(look: &Look, writer: &mut Writer)
     told_is_published(&look.notice(), writer);
 }
 
-/// The same of what a notice tells. Looks and sheets have notices of what they show, so it is true of them at any time.
+/// The same of what a notice tells. Looks and sheets have notices of what they show, so it is true of a look that has ended, too.
 #[tactic(auto, using(crate::proofs::Looking::published_prefix))]
 pub fn told_is_published(notice: &Notice, writer: &mut Writer)
     requires { viewers.notice_identity notice.now ≡ writers.identity writer.old }
@@ -131,8 +131,7 @@ pub fn last_sheet(viewer: &mut Viewer, alloc: Global, notice: Notice) -> Result<
     requires identity { viewers.notice_identity notice ≡ viewers.identity viewer.old }
     requires closed { is_closed (viewers.told_list notice) ≡ true }
     ensures identity { viewers.identity viewer.new ≡ viewers.identity viewer.old }
-    ensures picture { IfOk result (λ sheet. sheet_picture sheet ≡ picture_at (viewers.told_list notice)) }
-    ensures revision { IfOk result (λ sheet. sheet_revision sheet ≡ revision_at (viewers.told_list notice)) }
+    ensures sheet { IfOk result (λ sheet. (sheet_identity sheet ≡ viewers.identity viewer.old) × (sheet_list sheet ≡ viewers.told_list notice)) }
     ensures extends { OnOk result (viewers.Extends viewer.old (viewers.told_list notice)) }
     ensures looked { OnOk result (HasLookedAt (viewers.told_list notice) viewer.new) }
     ensures not_taken { IfErr result (IsLastNotTaken viewer.old (viewers.told_list notice) viewer.new) }

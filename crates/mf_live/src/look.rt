@@ -12,7 +12,7 @@ use left_right::reader::Reading;
 mod showing;
 
 /// A look is not answered: everything was discarded at the writer's side, or the copy that the look entered is older than a
-/// notice that the viewer has learnt. The second does not happen, since a notice is made only once its publish has returned.
+/// notice that the viewer has learnt. The second does not happen, since a notice is made only once what it tells is shown.
 /// No contract of the toolchain says this, nor that a look is answered before a discard; tests show it. A later look enters a
 /// copy anew.
 #[derive(Clone, Copy, Debug, PartialEq, Eq)]

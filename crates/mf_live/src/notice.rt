@@ -18,7 +18,7 @@ pub struct Notice {
     pub(crate) entries: u64,
     pub(crate) revision: u32,
     ghost lawful: { Happen greatest_limit new_world (events_of knowledge.seen.log) } by { Happen-prop greatest_limit new_world (events_of knowledge.seen.log) },
-    // The type keeps this, since `tell` and `learn` of `left_right` cannot carry it.
+    // `tell` and `learn` of `left_right` hand on what is known, and no condition on it, so the type has the condition `whole`.
     ghost whole: { accepted_list_of (events_of knowledge.seen.log) ≡ published_list_of (events_of knowledge.seen.log) },
     ghost counted: { entries ≡ length (published_list_of (events_of knowledge.seen.log)) },
     ghost numbered: { revision ≡ revision_at (published_list_of (events_of knowledge.seen.log)) },

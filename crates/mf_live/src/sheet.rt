@@ -1,4 +1,8 @@
 //! Sheets: looks that are kept.
+ghost use Rattle.std.specs.Prelude.{◌≡◌};
+ghost use Rattle.mf_live.specs.Entries.{picture_at};
+ghost use Rattle.mf_live.specs.Viewers.{told_list};
+
 use crate::notice::Notice;
 use mf_base::OutOfMemory;
 use mf_rows::Picture;
@@ -12,6 +16,7 @@ mod taking;
 pub struct Sheet {
     pub(crate) picture: Picture,
     pub(crate) notice: Notice,
+    ghost pictured: { picture ≡ picture_at (told_list notice) },
 }
 
 /// Why there is no sheet.

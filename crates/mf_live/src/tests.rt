@@ -7,6 +7,7 @@ mod growths;
 
 use crate::closing::{Closing, Ended};
 use crate::desk::open_picture;
+use crate::laws::told_is_published_halfway;
 use crate::viewer::Viewer;
 use crate::writer::Writer;
 use mf_geom::{Check, Cycle, Point};
@@ -106,7 +107,9 @@ fn publishes_the_end_later(rt: HostRuntime) {
     let alloc = rt.alloc();
     let (mut writer, viewer) = open(&rt, alloc);
     fill(&rt, alloc, &mut writer);
-    let closing = half_close(writer);
+    let told = writer.tell();
+    let mut closing = half_close(writer);
+    told_is_published_halfway(&told, &mut closing);
     let viewer = assert_shows(&rt, viewer, 0, 0);
     let mut ended = publish_end(&rt, closing);
     let viewer = learn_end(&rt, &mut ended, viewer, 1);

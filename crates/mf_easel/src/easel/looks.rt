@@ -1,7 +1,7 @@
 //! Looking and drawing.
 ghost use Rattle.std.specs.Prelude.{◌≡◌, ◌⊎◌, Err, None, Some, true, IfErr, IfOk, IfSome, MatchResult, OnOk};
 ghost use Rattle.mf_live.specs.Entries.{is_closed, picture_at, revision_at};
-ghost use Rattle.mf_live.specs.Sheets.{HasLooked, HasLookedLast, sheet_picture, sheet_revision};
+ghost use Rattle.mf_live.specs.Sheets.{HasLooked, HasLookedLast, sheet_list};
 ghost use Rattle.mf_live.specs.Viewers as viewers;
 ghost use Rattle.mf_easel.specs.Easels.{HasSameManner, IsLastNotDrawn, IsNotDrawn, drawing, drawing_of};
 ghost use Rattle.mf_easel.specs.Easels.{identity, looked_at_list, manner, manner_of, revision_of, viewer_of};
@@ -97,8 +97,7 @@ impl Easel {
         screen: &mut W,
         sheet: &Sheet,
     ) -> Result<Option<u32>, EaselFault>
-        requires picture { sheet_picture sheet.now ≡ picture_at (looked_at_list self.old) }
-        requires revision { sheet_revision sheet.now ≡ revision_at (looked_at_list self.old) }
+        requires { sheet_list sheet.now ≡ looked_at_list self.old }
         ensures viewer { viewer_of self.new ≡ viewer_of self.old }
         ensures manner { HasSameManner self.old self.new }
         ensures answer { IfOk result (λ shown. shown ≡ new_revision (revision_of self.old) (revision_at (looked_at_list self.old))) }
@@ -122,7 +121,7 @@ impl Easel {
 
     /// The text that draws a sheet: over the frame before, if there is one.
     fn next_text(&self, alloc: Global, sheet: &Sheet) -> Result<Vec<u8>, OutOfMemory>
-        ensures { IfOk result (λ text. text.items ≡ drawing (manner_of self.now) (revision_of self.now) (sheet_revision sheet.now) (sheet_picture sheet.now)) }
+        ensures { IfOk result (λ text. text.items ≡ drawing (manner_of self.now) (revision_of self.now) (revision_at (sheet_list sheet.now)) (picture_at (sheet_list sheet.now))) }
     {
         let mut text = self.cursor_to_last_frame(alloc)?;
         let frame = draw(

@@ -23,7 +23,7 @@ impl Knowledge {
     }
 }
 
-/// A new pen, which is the first where the number is 0.
+/// A new pen, and the number that was found in the word: where it is 0, the pen is the first.
 fn make_pen(word: &Head, known: &Knowledge) -> (u64, Pen)
     requires word { word.now ≡ word_of known.now.seen.book }
     ensures pen { (result.1.book ≡ known.now.seen.book) × (result.1.nib.right ≡ may_write) }
@@ -37,18 +37,21 @@ fn make_pen(word: &Head, known: &Knowledge) -> (u64, Pen)
     (found, pen)
 }
 
-/// Writes a line after all lines. The pen is used up, and the line names the next one.
-fn add_line<N: Writing>(word: &Head, known: &mut Knowledge, pen: &mut Pen, act: Act<'_>, next: &Pen)
-    requires line { N.line ≡ record { event = writer_event act; next = next.now.nib.key } }
+/// Writes a line after all lines. The pen is used up, and the line names the next one. Only the proof uses the last two parameters.
+fn add_line<N: Writing>(
+    word: &Head,
+    known: &mut Knowledge,
+    pen: &mut Pen,
+    _act: Act<'_>,
+    _next: &Pen,
+)
+    requires line { N.line ≡ record { event = writer_event _act; next = _next.now.nib.key } }
     requires word { word.now ≡ word_of known.old.seen.book }
     requires pen { IsPenOf known.old.seen.book known.old.seen.log pen.old.book pen.old.nib }
-    requires may { May greatest_limit (world_after new_world (events_of known.old.seen.log)) (event_of (writer_event act)) }
+    requires may { May greatest_limit (world_after new_world (events_of known.old.seen.log)) (event_of (writer_event _act)) }
     ensures book { known.new.seen.book ≡ known.old.seen.book }
-    ensures log { known.new.seen.log ≡ known.old.seen.log ++ record { event = writer_event act.entry; next = next.now.nib.key } ∷ [] }
+    ensures log { known.new.seen.log ≡ known.old.seen.log ++ record { event = writer_event _act.entry; next = _next.now.nib.key } ∷ [] }
 {
-    // `act` and `next` are only there to choose the line.
-    let _ = act;
-    let _ = next;
     let mut offer = known.seen.plain::<Nothing, (), Asks>(&());
     word.compare_exchange::<Add<N>, Nothing>(0, 1, &mut known.seen, &mut offer, pen);
 }
@@ -81,7 +84,8 @@ impl History {
         self.pen = next;
     }
 
-    /// Whatever anybody knows of the history was written here: nobody else can write.
+    /// Whatever anybody knows of the history was written here: the pen is still here to write the next line, so there are no more
+    /// lines than these. It changes nothing.
     pub(crate) fn confirm(&mut self, knowledge: &Knowledge)
         requires { knowledge.now.seen.book ≡ self.old.known.seen.book }
         ensures same { self.new.known ≡ self.old.known }

@@ -104,13 +104,6 @@ impl Holder {
 
     /// Ends the picture. It may wait for looks that are held.
     pub(crate) fn discard<R: Wait>(self, rt: &R) {
-        self.into_swap().take(rt);
-    }
-
-    /// The copies, unchanged. `discard` calls this first, so that a clause says that nothing is published there.
-    fn into_swap(self) -> Swap
-        ensures { result ≡ self.swap }
-    {
         let Holder {
             alloc: _,
             swap,
@@ -119,6 +112,6 @@ impl Holder {
             revision: _,
             entries: _,
         } = self;
-        swap
+        swap.take(rt);
     }
 }

@@ -1,6 +1,7 @@
 //! Taking sheets.
 ghost use Rattle.std.specs.Prelude.{◌≡◌, MatchResult};
-ghost use Rattle.mf_live.specs.Sheets.{IsTaken, IsNotTaken, sheet_identity, sheet_list, sheet_picture, sheet_revision};
+ghost use Rattle.mf_live.specs.Entries.{picture_at, revision_at};
+ghost use Rattle.mf_live.specs.Sheets.{IsTaken, IsNotTaken, sheet_identity, sheet_list};
 ghost use Rattle.mf_live.specs.Viewers.{identity, notice_identity, told_list};
 
 use super::{Sheet, SheetFault};
@@ -13,14 +14,14 @@ use std::alloc::Global;
 impl Sheet {
     /// The picture that the look showed.
     pub fn picture(&self) -> &Picture
-        ensures { result.now ≡ sheet_picture self.now }
+        ensures { result.now ≡ picture_at (sheet_list self.now) }
     {
         &self.picture
     }
 
     /// Its revision: the number of its operations.
     pub fn revision(&self) -> u32
-        ensures { result ≡ sheet_revision self.now }
+        ensures { result ≡ revision_at (sheet_list self.now) }
     {
         self.notice.revision
     }

@@ -74,8 +74,8 @@ fn shows_what_is_published(rt: HostRuntime) {
     writer.discard(&rt);
 }
 
-/// A viewer learns from a notice of another one's look, and from one of its sheet. The writer of both has published what they tell,
-/// and nothing changes where that is said.
+/// A viewer learns from notices of another viewer's look and sheet. The laws that say who has published what these show change
+/// nothing.
 #[test]
 fn viewers_pass_on_what_they_see(rt: HostRuntime) {
     let alloc = rt.alloc();

@@ -1,9 +1,9 @@
-use Rattle.std.proofs.Common.{◌≡◌, true, List, ap, ◌∙◌, subst, arith}
+use Rattle.std.proofs.Common.{◌≡◌, true, List, ◌∙◌, subst, arith}
 use Rattle.std.proofs.lemmas.Result.{MatchResult-weaker}
 use Rattle.mf_live.specs.declared.sheet.SheetFault.{SheetFault}
 use Rattle.mf_live.specs.declared.sheet.SheetFault.TheVariants.{NoLook, OutOfMemory as NoMemory}
 use Rattle.mf_live.specs.declared.viewer.Viewer.{Viewer}
-use Rattle.mf_live.specs.Entries.{Entry, is_closed, picture_at, revision_at}
+use Rattle.mf_live.specs.Entries.{Entry, is_closed}
 use Rattle.mf_live.specs.Sheets.{HasLearnt, HasLooked, HasLookedLast, IsLastNotTaken, IsNotTaken}
 use Rattle.mf_live.specs.Viewers.{Extends, IsPublished, looked_at_events, looked_at_list, told_list}
 use Rattle.mf_live.proofs.Looking.{HasLearnt-same, whole-closed}
@@ -28,17 +28,13 @@ module _ (first second after : Viewer) (told : List Entry) (learns : HasLearnt f
 learns : (c : After-learn) → HasLearnt c.args.viewer.now (told_list c.args.notice) c.learn.new.self
 learns c = grind (arith)
 
-pub returns-clause-picture : goal.returns-clause-picture
-returns-clause-picture c =
-    let learns = learns (goal.at.returns-clause-picture c).After-learn in
-    MatchResult-weaker c.sheet.result c.sheet.ensures.taken
-    (λ sheet taken. taken.picture ∙ ap picture_at (looks_at_last _ _ _ _ learns c.requires.closed taken.look).1.looked) (λ _ _. tt)
-
-pub returns-clause-revision : goal.returns-clause-revision
-returns-clause-revision c =
-    let learns = learns (goal.at.returns-clause-revision c).After-learn in
-    MatchResult-weaker c.sheet.result c.sheet.ensures.taken
-    (λ sheet taken. taken.revision ∙ ap revision_at (looks_at_last _ _ _ _ learns c.requires.closed taken.look).1.looked) (λ _ _. tt)
+pub returns-clause-sheet : goal.returns-clause-sheet
+returns-clause-sheet c =
+    let learns = learns (goal.at.returns-clause-sheet c).After-learn in
+    MatchResult-weaker c.sheet.result c.sheet.ensures.taken (λ sheet taken. (
+      taken.identity ∙ c.sheet.ensures.identity ∙ c.learn.ensures.identity,
+      taken.list ∙ (looks_at_last _ _ _ _ learns c.requires.closed taken.look).1.looked,
+    )) (λ _ _. tt)
 
 pub returns-clause-extends : goal.returns-clause-extends
 returns-clause-extends c =
