@@ -1,0 +1,111 @@
+-- Strips whose rows are changed alike.
+use Rattle.std.proofs.Common.{◌≡◌, ℤ, pos, ◌-ℤ◌, ◌≤ℤ◌, List, [], ◌∷◌, map, take, drop, refl, sym, ap, ◌∙◌, arith}
+use Rattle.std.specs.List.{All}
+use Rattle.std.proofs.lemmas.Int.{ints, by_lt_z}
+use Rattle.std.proofs.lemmas.List.{take-map, drop-map, length-map}
+use Rattle.std.proofs.lemmas.List.Elements.{All-nil, All-cons, All-head, All-tail}
+use Rattle.mf_geom.specs.Coordinates.{least_coordinate, greatest_coordinate, IsCoordinate}
+use Rattle.mf_edges.specs.declared.edge.Edge.{Edge}
+use Rattle.mf_edges.specs.Edges.{AreEdges, weight_in}
+use Rattle.mf_edges.specs.Reaches.{StaysInReach}
+use Rattle.mf_edges.specs.Sums.{HaveWeights}
+use Rattle.mf_strips.specs.declared.part.Part.{Part}
+use Rattle.mf_strips.specs.declared.strips.Head.{Head}
+use Rattle.mf_strips.specs.Heads.{strip_at, strips_at, AreHeads}
+use Rattle.mf_strips.specs.Strips.{EdgeStrip, IsStrip, AreStrips, AreStripsFrom, row_in, weight_in_strips}
+use Rattle.mf_strips.specs.Sums.{IsFrom}
+use Rattle.mf_strips.proofs.StripsLemmas.{row_in-below, row_in-from}
+
+-- a strip with a changed row
+abbrev pub with_row : (List Edge → List Edge) → EdgeStrip → EdgeStrip
+with_row g s = record { top = s.top; edges = g s.edges }
+
+abbrev pub with_rows : (List Edge → List Edge) → List EdgeStrip → List EdgeStrip
+with_rows g ss = map (with_row g) ss
+
+-- where all edges that stand in a list are changed, so are all rows
+pub strips_at-map : (g : Edge → Edge) (es : List Edge) (hs : List Head) → strips_at (map g es) hs ≡ with_rows (map g) (strips_at es hs)
+strips_at-map g es [] = refl
+strips_at-map g es (h ∷ hs) =
+    let row : take h.count (drop h.start (map g es)) ≡ map g (take h.count (drop h.start es)) =
+    ap (take h.count) (drop-map g h.start es) ∙ take-map g h.count (drop h.start es) in
+    let first : strip_at (map g es) h ≡ with_row (map g) (strip_at es h) = λ i. record { top = h.top; edges = row i } in
+    λ i. first i ∷ strips_at-map g es hs i
+
+pub heads-map : (g : Edge → Edge) (es : List Edge) (hs : List Head) → AreHeads es hs → AreHeads (map g es) hs
+heads-map g es hs heads = λ k d lt. record { there = omega (arith, (heads k d lt).there, length-map es g) }
+
+pub row_in-with_rows : (g : List Edge → List Edge) (above : List Edge) (ss : List EdgeStrip) (y : ℤ)
+    → row_in (g above) (with_rows g ss) y ≡ g (row_in above ss y)
+unfolding row_in
+row_in-with_rows g above [] y = refl
+row_in-with_rows g above (s ∷ ss) y =
+    by_lt_z y s.top
+    (λ under. row_in-below (g above) (with_row g s) (with_rows g ss) y under ∙ row_in-with_rows g s.edges ss y ∙ ap g (sym (row_in-below above s ss y under)))
+    (λ over. row_in-from (g above) (with_rows g (s ∷ ss)) y over ∙ ap g (sym (row_in-from above (s ∷ ss) y over)))
+
+-- what holds of the row above and of each strip's holds of each row
+pub row_in-has : (P : List Edge → Type 0) (above : List Edge) (ss : List EdgeStrip) (y : ℤ) → P above → All (λ s. P s.edges) ss → P (row_in above ss y)
+unfolding row_in
+row_in-has P above [] y first all = first
+row_in-has P above (s ∷ ss) y first all =
+    by_lt_z y s.top
+    (λ under. rw (row_in-below above s ss y under) (row_in-has P s.edges ss y (All-head (λ s. P s.edges) s ss all) (All-tail (λ s. P s.edges) s ss all)))
+    (λ over. rw (row_in-from above (s ∷ ss) y over) first)
+
+pub starts_from : (top reach : ℤ) (ss : List EdgeStrip) (y : ℤ) → AreStripsFrom top reach ss → top ≤ℤ y → IsFrom ss y
+starts_from top reach [] y strips le = tt
+starts_from top reach (s ∷ ss) y strips le = let start : s.top ≤ℤ top = strips.1 in omega (arith, ints)
+
+pub strips_from-all : (top reach : ℤ) (ss : List EdgeStrip) → AreStripsFrom top reach ss → All (IsStrip reach) ss
+strips_from-all top reach [] strips = All-nil (IsStrip reach)
+strips_from-all top reach (s ∷ ss) strips = All-cons (IsStrip reach) s ss strips.0 (strips_from-all (s.top -ℤ pos 1) reach ss strips.2)
+
+-- the heights of strips are coordinates
+tops_in_range : (es : List Edge) (top reach : ℤ) (hs : List Head) → AreStripsFrom top reach (strips_at es hs) → top ≤ℤ greatest_coordinate
+    → All (λ h. IsCoordinate h.top) hs
+tops_in_range es top reach [] strips high = All-nil (λ h. IsCoordinate h.top)
+tops_in_range es top reach (h ∷ hs) strips high =
+    let le : h.top ≤ℤ top = strips.1 in
+    All-cons (λ h. IsCoordinate h.top) h hs (record { least = strips.0.bottom; greatest = omega (arith, ints) })
+    (tops_in_range es (h.top -ℤ pos 1) reach hs strips.2 (omega (arith, ints)))
+
+pub tops_of_part : (p : Part) (hs : List Head) → hs ≡ p.heads.items → All (λ h. IsCoordinate h.top) hs
+tops_of_part p hs same = rw same (tops_in_range p.edges.items greatest_coordinate p.reach p.heads.items p.lawful.strips (omega (arith, ints)))
+
+-- the edges of a row become those of another, whose weights are an image of its weights
+pub record RowBecomes (image : (ℤ → ℤ) → ℤ → ℤ) (reach : ℤ) (es new : List Edge) : Type 0 where
+  pub edges : AreEdges new
+  pub reached : StaysInReach reach new
+  pub weights : HaveWeights (image (weight_in es)) new
+
+module _ (g : List Edge → List Edge) (image : (ℤ → ℤ) → ℤ → ℤ) (reach : ℤ) where
+  with_rows-from : (top : ℤ) (ss : List EdgeStrip) → AreStripsFrom top reach ss → All (λ s. RowBecomes image reach s.edges (g s.edges)) ss
+      → AreStripsFrom top reach (with_rows g ss)
+  with_rows-from top [] strips all = tt
+  with_rows-from top (s ∷ ss) strips all =
+      let row = All-head (λ s. RowBecomes image reach s.edges (g s.edges)) s ss all in (
+        record { bottom = strips.0.bottom; edges = row.edges; reached = row.reached },
+        strips.1,
+        with_rows-from (s.top -ℤ pos 1) ss strips.2 (All-tail (λ s. RowBecomes image reach s.edges (g s.edges)) s ss all),
+      )
+
+  pub with_rows-strips : (ss : List EdgeStrip) → AreStrips reach ss → g [] ≡ [] → All (λ s. RowBecomes image reach s.edges (g s.edges)) ss
+      → AreStrips reach (with_rows g ss)
+  with_rows-strips ss strips blank all = record {
+    strips = with_rows-from greatest_coordinate ss strips.strips all;
+    closed =
+        ap (λ es. row_in es (with_rows g ss) (least_coordinate -ℤ pos 1)) (sym blank)
+        ∙ row_in-with_rows g [] ss (least_coordinate -ℤ pos 1) ∙ ap g strips.closed ∙ blank;
+    least = strips.least;
+    most = strips.most;
+  }
+
+  pub with_rows-weights : (ss : List EdgeStrip) (x y : ℤ) → g [] ≡ [] → image (weight_in []) x ≡ pos 0
+      → All (λ s. RowBecomes image reach s.edges (g s.edges)) ss
+      → weight_in_strips (with_rows g ss) x y ≡ image (λ z. weight_in_strips ss z y) x
+  unfolding weight_in_strips weight_in
+  with_rows-weights ss x y blank none all =
+      ap (λ es. weight_in (row_in es (with_rows g ss) y) x) (sym blank) ∙ ap (λ es. weight_in es x) (row_in-with_rows g [] ss y)
+      ∙ row_in-has (λ es. weight_in (g es) x ≡ image (weight_in es) x) [] ss y (ap (λ es. weight_in es x) blank ∙ sym none)
+      (λ k d lt. (all k d lt).weights.weights x)

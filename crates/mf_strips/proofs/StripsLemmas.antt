@@ -1,0 +1,102 @@
+-- The rows of strips.
+use Rattle.std.proofs.Common.{◌≡◌, ℤ, pos, ◌+ℤ◌, ◌-ℤ◌, ◌≤ℤ◌, ◌<ℤ◌, List, [], ◌∷◌, ◌++◌, refl, ◌∙◌, arith}
+use Rattle.std.proofs.lemmas.Bool.{cond-true, cond-false}
+use Rattle.std.proofs.lemmas.Int.{ints, by_lt_z}
+use Rattle.std.proofs.lemmas.List.Elements.{All-head, All-tail}
+use Rattle.mf_geom.specs.Coordinates.{greatest_coordinate}
+use Rattle.mf_edges.specs.declared.edge.Edge.{Edge}
+use Rattle.mf_edges.specs.Edges.{weight_in, AreEdges, AreEdgesFrom}
+use Rattle.mf_edges.specs.LawfulWeights.{greatest_weight}
+use Rattle.mf_edges.specs.Reaches.{StaysInReach}
+use Rattle.mf_edges.proofs.EdgesLemmas.{weight_in-left, weight_in-before}
+use Rattle.mf_edges.proofs.ReachesLemmas.{wider_reach}
+use Rattle.mf_strips.specs.Strips.{EdgeStrip, row_in, IsStrip, AreStripsFrom, AreAbove}
+use Rattle.mf_strips.specs.Sums.{IsFrom}
+
+-- ---- rows
+
+-- where no strip begins above a row, it is the row above all of them
+pub row_in-from : (above : List Edge) (ss : List EdgeStrip) (y : ℤ) → IsFrom ss y → row_in above ss y ≡ above
+unfolding row_in
+row_in-from above [] y from = refl
+row_in-from above (s ∷ ss) y from = grind (arith, ints, cond-false)
+
+pub row_in-below : (above : List Edge) (s : EdgeStrip) (ss : List EdgeStrip) (y : ℤ) → y <ℤ s.top → row_in above (s ∷ ss) y ≡ row_in s.edges ss y
+unfolding row_in
+row_in-below above s ss y below = grind (arith, ints, cond-true)
+
+-- a strip that is appended has the rows below its top
+pub row_in-pushed : (above : List Edge) (ss : List EdgeStrip) (s : EdgeStrip) (y : ℤ) → AreAbove s.top ss → y <ℤ s.top → row_in above (ss ++ s ∷ []) y ≡ s.edges
+unfolding row_in
+row_in-pushed above [] s y lower below = grind (arith, ints, cond-true)
+row_in-pushed above (t ∷ ts) s y lower below =
+    let higher : s.top <ℤ t.top = All-head (λ t. s.top <ℤ t.top) t ts lower in
+    row_in-below above t (ts ++ s ∷ []) y (omega (arith, ints)) ∙ row_in-pushed t.edges ts s y (All-tail (λ t. s.top <ℤ t.top) t ts lower) below
+
+-- and no others
+pub row_in-kept : (above : List Edge) (ss : List EdgeStrip) (s : EdgeStrip) (y : ℤ) → s.top ≤ℤ y → row_in above (ss ++ s ∷ []) y ≡ row_in above ss y
+unfolding row_in
+row_in-kept above [] s y from = grind (arith, ints, cond-false)
+row_in-kept above (t ∷ ts) s y from = grind (arith, ints, cond-true, cond-false, by_lt_z, row_in-kept t.edges ts s y from)
+
+-- ---- lawful strips
+
+pub strips_push : (top reach : ℤ) (ss : List EdgeStrip) (s : EdgeStrip) → AreStripsFrom top reach ss → AreAbove s.top ss → s.top ≤ℤ top → IsStrip reach s
+    → AreStripsFrom top reach (ss ++ s ∷ [])
+strips_push top reach [] s strips lower le strip = (strip, le, tt)
+strips_push top reach (t ∷ ts) s strips lower le strip =
+    let higher : s.top <ℤ t.top = All-head (λ t. s.top <ℤ t.top) t ts lower in
+    (strips.0, strips.1, strips_push (t.top -ℤ pos 1) reach ts s strips.2 (All-tail (λ t. s.top <ℤ t.top) t ts lower) (omega (arith, ints)) strip)
+
+pub wider_strip : (reach next : ℤ) (s : EdgeStrip) → reach ≤ℤ next → next ≤ℤ greatest_weight → IsStrip reach s → IsStrip next s
+wider_strip reach next s le most strip = record {
+  bottom = strip.bottom;
+  edges = strip.edges;
+  reached = record { most = most; within = λ x. wider_reach le (strip.reached.within x) };
+}
+
+pub wider_strips : (top reach next : ℤ) (ss : List EdgeStrip) → reach ≤ℤ next → next ≤ℤ greatest_weight → AreStripsFrom top reach ss → AreStripsFrom top next ss
+wider_strips top reach next [] le most strips = tt
+wider_strips top reach next (s ∷ ss) le most strips =
+    (wider_strip reach next s le most strips.0, strips.1, wider_strips (s.top -ℤ pos 1) reach next ss le most strips.2)
+
+-- each row of strips is that of a strip, or the one above
+pub row_lawful : (top reach : ℤ) (above : List Edge) (ss : List EdgeStrip) (y : ℤ) → AreEdges above → AreStripsFrom top reach ss → AreEdges (row_in above ss y)
+unfolding row_in
+row_lawful top reach above [] y edges strips = edges
+row_lawful top reach above (s ∷ ss) y edges strips =
+    by_lt_z y s.top
+    (λ lt. rw (row_in-below above s ss y lt) (row_lawful (s.top -ℤ pos 1) reach s.edges ss y strips.0.edges strips.2))
+    (λ le. rw (row_in-from above (s ∷ ss) y le) edges)
+
+pub row_reached : (top reach : ℤ) (above : List Edge) (ss : List EdgeStrip) (y : ℤ) → StaysInReach reach above → AreStripsFrom top reach ss
+    → StaysInReach reach (row_in above ss y)
+unfolding row_in
+row_reached top reach above [] y reached strips = reached
+row_reached top reach above (s ∷ ss) y reached strips =
+    by_lt_z y s.top
+    (λ lt. rw (row_in-below above s ss y lt) (row_reached (s.top -ℤ pos 1) reach s.edges ss y strips.0.reached strips.2))
+    (λ le. rw (row_in-from above (s ∷ ss) y le) reached)
+
+-- ---- blank rows
+
+pub no_weight : (x : ℤ) → weight_in [] x ≡ pos 0
+unfolding weight_in
+no_weight x = refl
+
+pub no_edges : AreEdges []
+no_edges = record {
+  sorted = tt;
+  lawful = λ x. rw (no_weight x) (record { least = omega (arith, ints); greatest = omega (arith, ints) });
+  closed = no_weight greatest_coordinate;
+}
+
+pub none_reached : (reach : ℤ) → pos 0 ≤ℤ reach → reach ≤ℤ greatest_weight → StaysInReach reach []
+none_reached reach least most = record { most = most; within = λ x. rw (no_weight x) (record { least = omega (arith, ints); greatest = omega (arith, ints) }) }
+
+-- where all weights of a row are 0, it has no edges
+pub blank_row : (low : ℤ) (es : List Edge) → AreEdgesFrom low es → ((x : ℤ) → weight_in es x ≡ pos 0) → es ≡ []
+blank_row low [] sorted blank = refl
+blank_row low (e ∷ es) sorted blank =
+    absurd (sorted.0.nonzero
+    (omega (arith, ints, blank e.x, weight_in-left e es e.x (omega (arith, ints)), weight_in-before (e.x +ℤ pos 1) es e.x sorted.2 (omega (arith, ints)))))

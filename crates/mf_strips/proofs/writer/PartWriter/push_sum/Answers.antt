@@ -1,0 +1,16 @@
+use Rattle.std.proofs.Common.{arith}
+use Rattle.std.proofs.lemmas.Int.{ints}
+use Rattle.mf_strips.proofs.HeadsLemmas.{heads_push, strips_push}
+use Rattle.mf_strips.proofs.writer.PartWriter.push_sum.Goals as goal
+
+pub returns : goal.returns
+returns c =
+    let head = c.in_ok-head.ensures in
+    let sum = c.in_ok-push_sum_of_edges.ensures.pushed in
+    let pushed = strips_push _ _ _ sum.all _ c.self.invariant c.in_ok-head.head c.args.top (omega (arith, ints, head.top)) (omega (arith, head.start)) (omega (arith, head.end)) in
+    record { edges = sum.more; all = rw (c.in_ok-push.ensures.items, ← c.self.view_is) pushed; sum = sum.sum }
+
+pub invariant_of-self-2 : goal.invariant_of-self-2
+invariant_of-self-2 c =
+    let head = c.in_ok-head.ensures in
+    rw c.in_ok-push.ensures.items (heads_push _ _ _ c.in_ok-push_sum_of_edges.ensures.pushed.all _ c.self.invariant c.in_ok-head.head c.args.top (omega (arith, ints, head.top)) (omega (arith, head.start)) (omega (arith, head.end)))

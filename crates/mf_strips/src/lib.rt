@@ -1,0 +1,34 @@
+//! Lists of strips, and piles of them. A strip is one or more equal rows of edges.
+#![tactic(auto)]
+
+mod change;
+mod corner;
+mod cursor;
+mod equal_rows;
+mod fault;
+mod moves;
+mod negation;
+mod part;
+mod pile;
+mod pile_reading;
+mod side;
+mod spans;
+mod strips;
+mod sum;
+mod total;
+mod turn;
+mod writer;
+
+pub use change::changed;
+pub use corner::{Corner, part_of_corners};
+pub use cursor::Span;
+pub use fault::AddFault;
+pub use moves::{mirrored_rows, stretched};
+pub use negation::negated;
+pub use part::Part;
+pub use pile::{MAX_PARTS, Pile};
+pub use spans::Spans;
+pub use strips::{Strip, Strips};
+pub use sum::sum_of_parts;
+pub use turn::turned;
+pub use writer::PartWriter;

@@ -1,0 +1,56 @@
+//! The strips of a list one after another, and the row at a height.
+ghost use Rattle.std.specs.Prelude.{◌≡◌, [], ◌∷◌, IfNone, IfSome, Option, Some, None, drop, length, take};
+ghost use Rattle.mf_strips.specs.Heads.{IsHead, strip_at};
+ghost use Rattle.mf_strips.specs.Parts.{edge_strip, first_top, strips_of};
+ghost use Rattle.mf_strips.specs.Strips.{row_in};
+
+use super::{Head, Strip, Strips};
+use mf_edges::Edge;
+
+impl<'a> Strips<'a> {
+    /// No strips.
+    pub fn none() -> Strips<'a>
+        ensures { strips_of result ≡ [] }
+    {
+        Strips {
+            heads: &[],
+            edges: &[],
+        }
+    }
+
+    /// The height of the first strip, `None` where there is no strip.
+    pub fn top(self) -> Option<i32>
+        ensures { result ≡ first_top (strips_of self.entry) }
+    {
+        match self.heads.first() {
+            Some(head) => Some(i32::from(head.top)),
+            None => None,
+        }
+    }
+
+    /// The first strip, and those below it.
+    pub fn split_first(self) -> Option<(Strip<'a>, Strips<'a>)>
+        ensures some { IfSome result (λ split. strips_of self.entry ≡ edge_strip split.0 ∷ strips_of split.1) }
+        ensures none { IfNone result (strips_of self.entry ≡ []) }
+    {
+        let (head, heads) = self.heads.split_first()?;
+        let strip = strip_of_head(self.edges, head);
+        let others = Strips {
+            heads,
+            edges: self.edges,
+        };
+        Some((strip, others))
+    }
+}
+
+/// The strip of a head among these edges.
+pub(crate) fn strip_of_head<'a>(edges: &'a [Edge], head: &Head) -> Strip<'a>
+    requires { IsHead edges.now head.now }
+    ensures { edge_strip result ≡ strip_at edges.now head.now }
+{
+    let start = head.start as usize;
+    Strip {
+        top: i32::from(head.top),
+        edges: &edges[start..start + usize::from(head.count)],
+    }
+}
