@@ -15,7 +15,7 @@ use Rattle.mf_geom.specs.Sum.{sum_below}
 use Rattle.mf_geom.specs.Winding.{contour}
 use Rattle.mf_geom.proofs.Crossings.{unit_step-reached, crossings-beside}
 use Rattle.mf_geom.proofs.Products.{mul-add, mul-self}
-use Rattle.mf_rows.specs.declared.corner.Corner.{Corner}
+use Rattle.mf_strips.specs.declared.corner.Corner.{Corner}
 use Rattle.mf_rows.specs.Corners.{IsCorner, IsCornerWeight, AreCorners, added_by, added_by_all, with_corners_at}
 use Rattle.mf_rows.specs.Dots.{Dot, weight_at}
 use Rattle.mf_ops.specs.Sides.{HasSide, AddWinding}

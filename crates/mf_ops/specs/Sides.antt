@@ -4,7 +4,7 @@ use Rattle.mf_geom.specs.declared.point.Point.{Point}
 use Rattle.mf_geom.specs.Crossing.{crossing}
 use Rattle.mf_geom.specs.Path.{Segment}
 use Rattle.mf_geom.specs.Winding.{winding}
-use Rattle.mf_rows.specs.declared.corner.Corner.{Corner}
+use Rattle.mf_strips.specs.declared.corner.Corner.{Corner}
 use Rattle.mf_geom.specs.declared.check.Check.TheVariants.{Off}
 use Rattle.mf_geom.specs.declared.cycle.CycleFault.{CycleFault}
 use Rattle.mf_rows.specs.Corners.{IsCorner, added_by_all}

@@ -1,36 +1,27 @@
--- Blank pictures: they have no rows, nothing is added with them, and they stay blank where their weights are mapped.
-use Rattle.std.proofs.Common.{◌≡◌, ◌≢◌, Bool, true, false, not, Option, Some, None, is_some, MatchOption, List, [], ◌∷◌, length, refl, sym, ap, ◌∙◌, arith}
+-- Blank pictures: they have no runs, nothing is added with them, and they stay blank where their weights are mapped.
+use Rattle.std.proofs.Common.{◌≡◌, Bool, true, false, not, Option, Some, None, is_some, MatchOption, List, [], ◌∷◌, length, refl, sym, ap, ◌∙◌, arith}
 use Rattle.std.proofs.lemmas.Bool.{false≢true}
 use Rattle.std.proofs.lemmas.Int.{ints}
-use Rattle.std.proofs.lemmas.List.Elements.{All-head}
-use Rattle.mf_geom.specs.Coordinates.{last_in_field}
-use Rattle.mf_rows.specs.declared.both_rows.BothRow.{BothRow}
-use Rattle.mf_rows.specs.BothRest.{both_row}
 use Rattle.mf_edges.specs.declared.weight_map.WeightMap.{WeightMap}
 use Rattle.mf_edges.specs.WeightMaps.{IsWeightMap}
+use Rattle.std.specs.List.{flat_map}
+use Rattle.mf_rows.specs.declared.run.Run.{Run}
 use Rattle.mf_rows.specs.Dots.{Dot, weight_at}
-use Rattle.mf_rows.specs.EdgeRows.{EdgeRow, AreRows, picture_of_rows}
+use Rattle.mf_rows.specs.Runs.{dots_of, runs_of}
+use Rattle.mf_rows.proofs.RunsLemmas.{dots_of-runs_of}
 use Rattle.mf_rows.specs.Sums.{HasWeights, difference_at, sum_at}
 use Rattle.mf_rows.specs.WeightMaps.{mapped_weights}
-use Rattle.mf_rows.proofs.EdgeRowsLemmas.{weight_at-picture_of_rows}
-use Rattle.mf_rows.proofs.RowSumSteps.{no_row}
 
--- where the picture of rows is blank, there are no rows
-pub no_rows : (rs : List EdgeRow) → AreRows rs → picture_of_rows rs ≡ [] → rs ≡ []
-unfolding weight_at
-no_rows [] rows blank = refl
-no_rows (r ∷ rs) rows blank =
-    let others = no_row last_in_field r.y (r ∷ rs) rows.rows (λ x. sym (weight_at-picture_of_rows (r ∷ rs) x r.y rows) ∙ ap (λ ds. weight_at ds x r.y) blank) in
-    absurd (All-head (λ s. s.y ≢ r.y) r rs others refl)
-
--- and there is no first one
-pub first_is_none : (first : Option BothRow) (none : Bool) (rs others : List EdgeRow)
-    → MatchOption first ((rs ≡ []) × (others ≡ [])) (λ r. rs ≡ both_row r ∷ others) → is_some first ≡ not none
-    → (none ≡ true → rs ≡ []) × (rs ≡ [] → none ≡ true)
-first_is_none None true rs others steps is = (λ test. steps.0, λ blank. refl)
-first_is_none None false rs others steps is = absurd (false≢true is)
-first_is_none (Some r) true rs others steps is = absurd (false≢true (sym is))
-first_is_none (Some r) false rs others steps is = (λ test. absurd (false≢true test), λ blank. absurd (omega (arith, ap length (sym steps ∙ blank))))
+-- a picture is blank exactly where it has no first run
+pub first_is_none : (first : Option Run) (none : Bool) (rs others : List Run) (ds : List Dot)
+    → MatchOption first ((rs ≡ []) × (others ≡ [])) (λ r. rs ≡ r ∷ others) → is_some first ≡ not none → rs ≡ runs_of ds
+    → (none ≡ true → ds ≡ []) × (ds ≡ [] → none ≡ true)
+unfolding runs_of
+first_is_none None true rs others ds steps is runs = (λ test. sym (dots_of-runs_of ds) ∙ ap (flat_map dots_of) (sym runs ∙ steps.0), λ blank. refl)
+first_is_none None false rs others ds steps is runs = absurd (false≢true is)
+first_is_none (Some r) true rs others ds steps is runs = absurd (false≢true (sym is))
+first_is_none (Some r) false rs others ds steps is runs =
+    (λ test. absurd (false≢true test), λ blank. absurd (omega (arith, ap length (sym steps ∙ runs ∙ ap runs_of blank))))
 
 -- the sum with a blank picture
 pub blank_added : (ds es : List Dot) → es ≡ [] → HasWeights (sum_at ds es) ds

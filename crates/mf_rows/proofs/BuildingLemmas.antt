@@ -8,7 +8,7 @@ use Rattle.mf_geom.specs.Coordinates.{least_coordinate, last_in_field}
 use Rattle.mf_geom.specs.Field.{IsInField}
 use Rattle.mf_rows.specs.declared.builder.OpenRow.{OpenRow}
 use Rattle.mf_rows.specs.declared.run.Run.{Run}
-use Rattle.mf_rows.specs.Bands.{AreAbove, AreBelow}
+use Rattle.mf_rows.proofs.EdgeRowsLemmas.{AreAbove, AreBelow}
 use Rattle.mf_rows.specs.Building.{open_row, open_rows, EndInRow, EndsBefore, HasRun}
 use Rattle.mf_rows.specs.Dots.{place, start_of_field}
 use Rattle.mf_edges.specs.Edges.{weight_in}
@@ -21,7 +21,7 @@ use Rattle.mf_rows.proofs.EdgeRowsLemmas.{rows_from-front, rows_from-back, rows_
 use Rattle.mf_rows.proofs.EdgeRowsLemmas.{lawful_picture_of_rows, weight_at-picture_of_rows, picture_of_rows-from_weights}
 use Rattle.mf_rows.proofs.RunEdges.{EndAt-from_constant, weight_in-end, some_weight, some_edge, by_columns}
 use Rattle.mf_rows.proofs.RunDots.{IsOnRun, picture-push, weight_at-on_run, weight_at-off_run}
-use Rattle.mf_rows.proofs.RowSums.{by_same}
+use Rattle.mf_rows.proofs.EdgeRowsLemmas.{by_same}
 
 -- ---- the last row
 

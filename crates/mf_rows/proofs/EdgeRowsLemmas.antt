@@ -8,7 +8,6 @@ use Rattle.std.proofs.lemmas.Int.{ints, by_lt_z}
 use Rattle.std.proofs.lemmas.List.Elements.{All-head, All-tail, All-cons, All-nil, All-weaker}
 use Rattle.mf_geom.specs.Coordinates.{last_in_field}
 use Rattle.mf_geom.specs.Field.{IsInField}
-use Rattle.mf_rows.specs.Bands.{AreAbove, AreBelow}
 use Rattle.mf_edges.specs.LawfulWeights.{IsLawfulWeight}
 use Rattle.mf_rows.specs.Dots.{Dot, IsPicture, weight_at}
 use Rattle.mf_edges.specs.Edges.{weight_in}
@@ -19,6 +18,20 @@ use Rattle.mf_rows.proofs.WeightsLemmas.{lawful_picture_of, weight_at-picture_of
 use Rattle.mf_edges.proofs.EdgesLemmas.{weight_in-outside}
 
 -- ---- rows
+
+-- rows above row y
+abbrev pub AreAbove : ℤ → List EdgeRow → Type 0
+AreAbove y rs = All (λ r. y <ℤ r.y) rs
+
+-- rows below row y
+abbrev pub AreBelow : ℤ → List EdgeRow → Type 0
+AreBelow y rs = All (λ r. r.y <ℤ y) rs
+
+-- two numbers are equal or not
+pub by_same : {P : Type 0} (c y : ℤ) → (c ≡ y → P) → (c ≢ y → P) → P
+by_same c y here elsewhere =
+    by_lt_z c y (λ lower. elsewhere (λ is. omega (arith, ints)))
+    (λ not_lower. by_lt_z y c (λ higher. elsewhere (λ is. omega (arith, ints))) (λ not_higher. here (omega (arith, ints))))
 
 pub weight_in_rows-append : (rs ss : List EdgeRow) (x y : ℤ) → weight_in_rows (rs ++ ss) x y ≡ weight_in_rows rs x y +ℤ weight_in_rows ss x y
 unfolding weight_in_rows

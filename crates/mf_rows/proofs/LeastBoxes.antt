@@ -1,19 +1,16 @@
 -- The least box of the dots of a picture, from its weights.
-use Rattle.std.proofs.Common.{◌≡◌, ◌≢◌, Bool, true, false, not, get_or, subst, ℤ, pos, Option, None, Some, List, [], ◌∷◌, refl, sym, ap, ◌∙◌, arith}
-use Rattle.std.specs.Prelude.{int_lt, IfSome, IsNone, ◌↔◌}
+use Rattle.std.proofs.Common.{◌≡◌, ◌≢◌, Bool, true, false, not, get_or, subst, ℤ, pos, Option, None, Some, List, [], ◌∷◌, refl, sym, ◌∙◌, arith}
+use Rattle.std.specs.Prelude.{IfSome, IsNone, ◌↔◌}
 use Rattle.std.specs.List.{Any}
 use Rattle.std.specs.Ordering.{int_eq}
 use Rattle.std.proofs.lemmas.Bool.{false≢true}
 use Rattle.std.proofs.lemmas.Int.{ints}
 use Rattle.mf_rows.specs.declared.bounds.Box4.{Box4}
 use Rattle.mf_rows.specs.declared.bounds.Pixels.TheVariants.{Nonzero, Black}
-use Rattle.mf_rows.specs.Bounds.{AreBounds, IsBoxRound, IsLeastBox, is_positive_at}
+use Rattle.mf_rows.specs.Bounds.{AreBounds, IsBoxRound, IsLeastBox, among_dots, is_positive_at}
 use Rattle.mf_rows.specs.Dots.{Dot, IsDot, IsPicture, start_of_field, weight_at}
-use Rattle.mf_rows.specs.EdgeRows.{EdgeRow, AreRows, picture_of_rows}
-use Rattle.mf_rows.specs.PixelsOfRows.{among_rows}
 use Rattle.mf_rows.proofs.DotsLemmas.{dots_from-lawful, weight_at-dot, weight_at-elsewhere}
-use Rattle.mf_rows.proofs.EdgeRowsLemmas.{lawful_picture_of_rows, weight_at-picture_of_rows}
-use Rattle.mf_rows.proofs.RowSums.{by_same}
+use Rattle.mf_rows.proofs.EdgeRowsLemmas.{by_same}
 use Rattle.mf_rows.proofs.BoxesJoined.{any_right, box_of_some}
 
 -- ---- pixels of nonzero weight
@@ -65,37 +62,31 @@ blank_of_weights f (d ∷ ds) picture weights none =
     let found = is_nonzero (weight_at (d ∷ ds) d.x d.y) (λ zero. lawful.nonzero (sym weight ∙ zero)) in
     absurd (false≢true (sym (none d.x d.y) ∙ weights d.x d.y ∙ found))
 
--- ---- the picture of rows
+-- ---- the dots of a picture
 
-nonzero_in_rows : (rs : List EdgeRow) → AreRows rs → (x y : ℤ) → among_rows Nonzero rs x y ≡ not (int_eq (weight_at (picture_of_rows rs) x y) (pos 0))
-unfolding among_rows
-nonzero_in_rows rs rows x y = ap (λ w. not (int_eq w (pos 0))) (sym (weight_at-picture_of_rows rs x y rows))
+nonzero_in_dots : (ds : List Dot) (x y : ℤ) → among_dots Nonzero ds x y ≡ not (int_eq (weight_at ds x y) (pos 0))
+unfolding among_dots
+nonzero_in_dots ds x y = refl
 
-least_in_rows : (rs : List EdgeRow) (b : Box4) → AreRows rs → IsBoxRound (among_rows Nonzero rs) b → IsLeastBox (picture_of_rows rs) b
-least_in_rows rs b rows box = least_of_weights _ _ b (lawful_picture_of_rows rs rows) (nonzero_in_rows rs rows) box
+least_in_dots : (ds : List Dot) (b : Box4) → IsPicture ds → IsBoxRound (among_dots Nonzero ds) b → IsLeastBox ds b
+least_in_dots ds b picture box = least_of_weights _ ds b picture (nonzero_in_dots ds) box
 
-pub least_if_some : (rs : List EdgeRow) (bounds : Option Box4) → AreRows rs → AreBounds (among_rows Nonzero rs) bounds
-    → IfSome bounds (IsLeastBox (picture_of_rows rs))
-least_if_some rs None rows box = tt
-least_if_some rs (Some b) rows box = least_in_rows rs b rows box
+pub least_if_some : (ds : List Dot) (bounds : Option Box4) → IsPicture ds → AreBounds (among_dots Nonzero ds) bounds → IfSome bounds (IsLeastBox ds)
+least_if_some ds None picture box = tt
+least_if_some ds (Some b) picture box = least_in_dots ds b picture box
 
-pub none_if_blank : (rs : List EdgeRow) (bounds : Option Box4) → AreRows rs → AreBounds (among_rows Nonzero rs) bounds
-    → IsNone bounds ↔ (picture_of_rows rs ≡ [])
-none_if_blank rs None rows box = (λ _. blank_of_weights _ _ (lawful_picture_of_rows rs rows) (nonzero_in_rows rs rows) box, λ _. refl)
-none_if_blank rs (Some b) rows box =
-    (λ none. absurd (false≢true (sym none)), λ blank. absurd (box_of_some b (subst (λ ds. IsLeastBox ds b) blank (least_in_rows rs b rows box))))
+pub none_if_blank : (ds : List Dot) (bounds : Option Box4) → IsPicture ds → AreBounds (among_dots Nonzero ds) bounds → IsNone bounds ↔ (ds ≡ [])
+none_if_blank ds None picture box = (λ _. blank_of_weights _ ds picture (nonzero_in_dots ds) box, λ _. refl)
+none_if_blank ds (Some b) picture box =
+    (λ none. absurd (false≢true (sym none)), λ blank. absurd (box_of_some b (subst (λ es. IsLeastBox es b) blank (least_in_dots ds b picture box))))
 
-pub ruleset least_boxes = (lawful_picture_of_rows, least_if_some, none_if_blank)
-
-positive_in_rows : (rs : List EdgeRow) → AreRows rs → (x y : ℤ) → among_rows Black rs x y ≡ is_positive_at (picture_of_rows rs) x y
-unfolding among_rows is_positive_at
-positive_in_rows rs rows x y = ap (int_lt (pos 0)) (sym (weight_at-picture_of_rows rs x y rows))
+pub ruleset least_boxes = (least_if_some, none_if_blank)
 
 -- bounds are the same where the pixels are
 pub same_bounds : (f g : ℤ → ℤ → Bool) (bounds : Option Box4) → ((x y : ℤ) → f x y ≡ g x y) → AreBounds f bounds → AreBounds g bounds
 same_bounds f g None same box = λ x y. sym (same x y) ∙ box x y
 same_bounds f g (Some b) same box = grind (arith, ints, sym)
 
-pub black_in_rows : (rs : List EdgeRow) (bounds : Option Box4) → AreRows rs → AreBounds (among_rows Black rs) bounds
-    → AreBounds (is_positive_at (picture_of_rows rs)) bounds
-black_in_rows rs bounds rows box = same_bounds _ _ bounds (positive_in_rows rs rows) box
+pub black_in_dots : (ds : List Dot) (bounds : Option Box4) → AreBounds (among_dots Black ds) bounds → AreBounds (is_positive_at ds) bounds
+unfolding among_dots is_positive_at
+black_in_dots ds bounds box = same_bounds _ _ bounds (λ x y. refl) box

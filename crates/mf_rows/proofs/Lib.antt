@@ -1,56 +1,25 @@
-mod AddendsLemmas
-mod BandNumbersLemmas
-mod BandSumSteps
-mod BandsLemmas
-mod BandSumsLemmas
-mod BlankPictures
-mod BlankRowsLemmas
-mod BothRowsLemmas
+pub mod BlankPictures
 pub mod BoundsInField
-mod BothEdgesLemmas
 pub mod BoxesJoined
 pub mod BoxesOfDots
-mod BuildingLemmas
-mod CopiesLemmas
-mod CornersLemmas
+pub mod BuildingLemmas
 pub mod DotsLemmas
-mod EdgeCountsLemmas
+pub mod EdgeCountsLemmas
 pub mod EdgeRowsLemmas
-mod EdgeRuns
-mod EqualRuns
-mod FieldBandsLemmas
+pub mod EqualRuns
 pub mod FieldTotals
-mod GroupsLemmas
-mod GroupsMade
-mod GroupSums
 pub mod LeastBoxes
 pub mod MaximalRuns
+pub mod PassedPixels
 pub mod PassedRuns
-mod PictureGroups
-mod PilesLemmas
+pub mod PicturePiles
 pub mod PictureRows
-mod PixelBoxes
-mod PixelColumns
 pub mod PlacesLemmas
-mod RowChangesLemmas
-mod RowListLemmas
-mod RowMoves
-mod RowRuns
-mod RowStretches
-mod RowSums
-mod RowSumSteps
-mod RowTotals
+pub mod RemainingLemmas
+pub mod RowStrips
+pub mod RunBoxes
 pub mod RunDots
-mod RunEdges
+pub mod RunEdges
 pub mod RunsLemmas
-mod SettledGroups
-mod SignsLemmas
 pub mod StretchBounds
-mod StripCopies
-mod StripsLemmas
-mod TakenEdges
-mod TurnChanges
-mod TurnEdges
-mod TurnedRows
 pub mod WeightsLemmas
-mod WrittenBands

@@ -26,7 +26,7 @@ maximal-shifted y x w n [] maximal = tt
 maximal-shifted y x w n (r ∷ rs) maximal = grind (arith, ints)
 
 -- the first run of dots that begin with equal ones
-runs_of-equal_dots : (y x w : ℤ) (n : ℕ) (ds : List Dot) → 1 ≤ n → AreMaximal (record { y = y; x = x; len = n; weight = w } ∷ runs_of ds)
+pub runs_of-equal_dots : (y x w : ℤ) (n : ℕ) (ds : List Dot) → 1 ≤ n → AreMaximal (record { y = y; x = x; len = n; weight = w } ∷ runs_of ds)
     → runs_of (equal_dots y x w n ++ ds) ≡ record { y = y; x = x; len = n; weight = w } ∷ runs_of ds
 unfolding runs_of equal_dots run_from with_dot
 runs_of-equal_dots y x w zero ds some maximal = absurd (omega arith)

@@ -114,7 +114,7 @@ weight_at-off_row f y x (suc n) es u v off =
     (λ blank. same)
     (λ dotted. weight_at-elsewhere first (others ++ es) u v (λ here. off here.row (omega (arith, ints, here.column))) ∙ same)
 
-weight_at-row : (f : ℤ → ℤ → ℤ) (y x : ℤ) (n : ℕ) (es : List Dot) (u : ℤ) → weight_at es u y ≡ pos 0 → x ≤ℤ u
+pub weight_at-row : (f : ℤ → ℤ → ℤ) (y x : ℤ) (n : ℕ) (es : List Dot) (u : ℤ) → weight_at es u y ≡ pos 0 → x ≤ℤ u
     → u <ℤ (x +ℤ pos n) → weight_at (row_of f y x n ++ es) u y ≡ f u y
 unfolding row_of
 weight_at-row f y x zero es u none left right = absurd (omega (arith, ints))
@@ -136,7 +136,7 @@ weight_at-row f y x (suc n) es u none left right =
     weight_at-here first (others ++ es) u y (record { column = here; row = refl }) ∙ ap (λ column. f column y) here))
 
 -- rows give no weight above the first of them
-weight_at-above : (f : ℤ → ℤ → ℤ) (y : ℤ) (n : ℕ) (u v : ℤ) → y <ℤ v → weight_at (rows_of f y n) u v ≡ pos 0
+pub weight_at-above : (f : ℤ → ℤ → ℤ) (y : ℤ) (n : ℕ) (u v : ℤ) → y <ℤ v → weight_at (rows_of f y n) u v ≡ pos 0
 unfolding rows_of weight_at
 weight_at-above f y zero u v above = refl
 weight_at-above f y (suc n) u v above = grind (arith, ints, weight_at-off_row, weight_at-above f (y -ℤ pos 1) n u v (omega (arith, ints)))

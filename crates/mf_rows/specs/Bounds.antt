@@ -1,11 +1,11 @@
 -- The least box of a picture.
-use Rattle.std.specs.Prelude.{◌≡◌, ◌≤ℤ◌, ℤ, pos, Bool, true, false, not, int_lt, All, Any, List, Option, None, Some}
-use Rattle.std.specs.Int.{int_max, int_min}
+use Rattle.std.specs.Prelude.{◌≡◌, ◌+ℤ◌, ◌-ℤ◌, ◌≤ℤ◌, ℤ, pos, Bool, true, false, not, int_lt, All, Any, List, Option, None, Some}
 use Rattle.std.specs.Ordering.{int_eq}
 use Rattle.mf_rows.specs.declared.bounds.Box4.{Box4}
-use Rattle.mf_rows.specs.declared.bounds.Columns.{Columns}
 use Rattle.mf_rows.specs.declared.bounds.Pixels.{Pixels}
 use Rattle.mf_rows.specs.declared.bounds.Pixels.TheVariants.{Nonzero, Black}
+use Rattle.mf_rows.specs.declared.run.Run.{Run}
+use Rattle.mf_rows.specs.Boxes.{box_round_both}
 use Rattle.mf_rows.specs.Dots.{Dot, weight_at}
 
 -- the pixel (x, y) lies in the box, ends included
@@ -49,7 +49,15 @@ abbrev pub is_among : Pixels → ℤ → Bool
 is_among Nonzero w = not (int_eq w (pos 0))
 is_among Black w = int_lt (pos 0) w
 
--- the least box round a box above row y, if there is one, and columns of that row
-abbrev pub with_columns : Option Box4 → ℤ → Columns → Box4
-with_columns None y c = record { min_x = c.first; max_x = c.last; min_y = y; max_y = y }
-with_columns (Some b) y c = record { min_x = int_min b.min_x c.first; max_x = int_max b.max_x c.last; min_y = y; max_y = b.max_y }
+-- the pixel (x, y) of dots is one of these
+unfoldable pub among_dots : Pixels → List Dot → ℤ → ℤ → Bool
+among_dots p ds x y = is_among p (weight_at ds x y)
+
+-- the box of a run
+abbrev pub box_of_run : Run → Box4
+box_of_run r = record { min_x = r.x; max_x = r.x +ℤ pos r.len -ℤ pos 1; min_y = r.y; max_y = r.y }
+
+-- the least box round a box and another, if there is one
+abbrev pub with_box : Option Box4 → Box4 → Box4
+with_box None b = b
+with_box (Some a) b = box_round_both a b

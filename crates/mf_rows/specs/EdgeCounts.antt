@@ -1,13 +1,7 @@
 -- How many edges rows have, and how many the runs of a picture have.
-use Rattle.std.specs.Prelude.{ℕ, ◌+◌, pos, ◌+ℤ◌, Bool, ◌&&◌, List, [], ◌∷◌, length, if◌then◌else◌}
+use Rattle.std.specs.Prelude.{ℕ, ◌+◌, pos, ◌+ℤ◌, Bool, ◌&&◌, List, [], ◌∷◌, if◌then◌else◌}
 use Rattle.std.specs.Ordering.{int_eq}
 use Rattle.mf_rows.specs.declared.run.Run.{Run}
-use Rattle.mf_rows.specs.EdgeRows.{EdgeRow}
-
--- the number of the edges of rows
-unfoldable pub edges_in_rows : List EdgeRow → ℕ
-edges_in_rows [] = 0
-edges_in_rows (r ∷ rs) = length r.edges + edges_in_rows rs
 
 -- a run ends where another one of its row begins
 unfoldable pub touches : Run → Run → Bool

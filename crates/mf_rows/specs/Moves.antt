@@ -1,20 +1,10 @@
--- Pictures, or rows, whose columns and rows move, in terms of their weights: f x y is the weight of the pixel (x, y).
-use Rattle.std.specs.Prelude.{ℤ, All, List}
+-- Pictures whose columns and rows move.
+use Rattle.std.specs.Prelude.{All, List}
 use Rattle.mf_edges.specs.declared.stretch.Stretch.{Stretch}
+use Rattle.mf_edges.specs.Axes.{PlaceStaysInside}
 use Rattle.mf_rows.specs.Dots.{Dot}
-use Rattle.mf_edges.specs.Axes.{opposite, PlaceStaysInside}
-
--- the weights f after the columns move: column x comes from column `source x`
-abbrev pub moved_columns : (ℤ → ℤ) → (ℤ → ℤ → ℤ) → ℤ → ℤ → ℤ
-moved_columns source f x y = f (source x) y
-
--- the weights f after the rows move: row y comes from row `source y`
-abbrev pub moved_rows : (ℤ → ℤ) → (ℤ → ℤ → ℤ) → ℤ → ℤ → ℤ
-moved_rows source f x y = f x (source y)
-
--- the weights f after a turn by 90 degrees counterclockwise, which takes the pixel (x, y) to (-y - 1, x)
-abbrev pub quarter_turn : (ℤ → ℤ → ℤ) → ℤ → ℤ → ℤ
-quarter_turn f x y = f y (opposite x)
+pub use Rattle.mf_strips.specs.Moves.{moved_columns, moved_rows}
+pub use Rattle.mf_strips.specs.Turns.{quarter_turn}
 
 -- the stretches of columns and of rows take all pixels of nonzero weight to pixels of the field
 pub record PixelsStayInside (columns rows : Stretch) (ds : List Dot) : Type 0 where

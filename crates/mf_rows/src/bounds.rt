@@ -1,13 +1,11 @@
 //! Boxes of pixels.
-ghost use Rattle.std.specs.Prelude.{◌≡◌};
-ghost use Rattle.mf_rows.specs.Bounds.{AreBounds, is_among, with_columns};
-ghost use Rattle.mf_rows.specs.BothRows.{rows_of_both, AreRowsOfBoth};
-ghost use Rattle.mf_rows.specs.Groups.{rows_of_groups};
-ghost use Rattle.mf_rows.specs.PixelsOfRows.{among_rows};
+ghost use Rattle.std.specs.Prelude.{◌≡◌, flat_map};
+ghost use Rattle.mf_rows.specs.Bounds.{AreBounds, is_among, among_dots, box_of_run, with_box};
+ghost use Rattle.mf_rows.specs.Order.{IsRun, AreRuns};
+ghost use Rattle.mf_rows.specs.Runs.{dots_of};
 
-use crate::both_rows::BothRows;
-use crate::group::Group;
-use std::sync::Arc;
+use crate::run::Run;
+use crate::runs::Runs;
 
 /// A box of pixels, ends included: columns `min_x` to `max_x`, rows `min_y` to `max_y`. The box of a picture lies in
 /// the field: all four are in -4095..=4094 (mf.web keeps such bounds in the header of an edge structure).
@@ -40,49 +38,44 @@ impl Pixels {
     }
 }
 
-/// Columns, ends included.
-#[derive(Clone, Copy, Debug)]
-pub(crate) struct Columns {
-    pub(crate) first: i32,
-    pub(crate) last: i32,
-}
-
-/// The least box round a box above row y, if there is one, and these columns of the row.
-fn with_columns(above: Option<Box4>, y: i32, columns: Columns) -> Box4
-    ensures { result ≡ with_columns above y columns }
-{
-    match above {
-        Some(above) => Box4 {
-            min_x: above.min_x.min(columns.first),
-            max_x: above.max_x.max(columns.last),
-            min_y: y,
-            max_y: above.max_y,
-        },
-        None => Box4 {
-            min_x: columns.first,
-            max_x: columns.last,
-            min_y: y,
-            max_y: y,
-        },
-    }
-}
-
-/// The least box of these pixels of the rows of these groups and the older ones together, `None` where there are none. It looks at
-/// the ends of each row.
-#[tactic(auto, using(crate::proofs::PixelBoxes::no_bounds, crate::proofs::PixelBoxes::all_bounds))]
-pub(crate) fn bounds_of(
-    groups: &[Option<Arc<Group>>],
-    older: &[Option<Arc<Group>>],
-    pixels: Pixels,
-) -> Option<Box4>
-    requires { AreRowsOfBoth (rows_of_groups groups.now) (rows_of_groups older.now) }
-    ensures { AreBounds (among_rows pixels (rows_of_both (rows_of_groups groups.now) (rows_of_groups older.now))) result }
+/// The least box of these pixels of runs, `None` where there are none. It goes over the runs once.
+pub(crate) fn bounds_of_runs(runs: Runs<'_>, pixels: Pixels) -> Option<Box4>
+    requires { AreRuns runs }
+    ensures { AreBounds (among_dots pixels (flat_map dots_of runs.entry)) result }
 {
     let mut bounds = None;
-    for row in BothRows::over(groups, older) {
-        if let Some(columns) = row.edges.columns(pixels) {
-            bounds = Some(with_columns(bounds, row.y, columns));
+    for run in runs {
+        if pixels.has(run.weight) {
+            bounds = Some(with_box(bounds, box_of_run(run)));
         }
     }
     bounds
+}
+
+/// The box of a run.
+fn box_of_run(run: Run) -> Box4
+    requires { IsRun run }
+    ensures { result ≡ box_of_run run }
+{
+    Box4 {
+        min_x: run.x,
+        max_x: run.x + (run.len as i32 - 1),
+        min_y: run.y,
+        max_y: run.y,
+    }
+}
+
+/// The least box round a box and another, if there is one.
+fn with_box(other: Option<Box4>, own: Box4) -> Box4
+    ensures { result ≡ with_box other own }
+{
+    match other {
+        Some(other) => Box4 {
+            min_x: other.min_x.min(own.min_x),
+            max_x: other.max_x.max(own.max_x),
+            min_y: other.min_y.min(own.min_y),
+            max_y: other.max_y.max(own.max_y),
+        },
+        None => own,
+    }
 }

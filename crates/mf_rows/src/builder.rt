@@ -5,16 +5,18 @@ ghost use Rattle.mf_edges.specs.Edges.{AreEdges};
 ghost use Rattle.mf_edges.specs.Merging.{EndAt};
 ghost use Rattle.mf_rows.specs.Building.{open_row, open_rows, EndInRow, EndsBefore, HasRoom, HasRun};
 ghost use Rattle.mf_rows.specs.Dots.{place};
-ghost use Rattle.mf_rows.specs.EdgeRows.{AreRows, picture_of_rows};
+ghost use Rattle.mf_rows.specs.EdgeRows.{AreRows, IsEdgeRow, picture_of_rows, weight_in_rows};
 ghost use Rattle.mf_rows.specs.Order.{AreBefore, IsRun, Fits};
+ghost use Rattle.mf_rows.specs.RowStrips.{begin_at, strips_of_row};
 ghost use Rattle.mf_rows.specs.Runs.{dots_of};
+ghost use Rattle.mf_strips.specs.Parts.{strips_in};
+ghost use Rattle.mf_strips.specs.Strips.{HaveStripWeights};
 
 use crate::picture::Picture;
-use crate::row::Row;
 use crate::run::Run;
-use crate::writer::RowWriter;
 use mf_base::OutOfMemory;
 use mf_edges::{Edge, add_edge, reach_of};
+use mf_strips::{Part, PartWriter};
 use std::alloc::Global;
 use std::marker::Model;
 
@@ -92,7 +94,7 @@ impl RowBuilder {
         ensures lawful { IfOk result IsPicture }
     {
         let alloc = self.alloc;
-        Picture::from_rows(alloc, closed_rows(alloc, self.rows)?)
+        Picture::of_part(alloc, part_of_rows(alloc, &self.rows)?)
     }
 }
 
@@ -133,23 +135,20 @@ fn push_on_last(rows: &mut [OpenRow], run: Run) -> Result<(), OutOfMemory>
     rows[last].push_run(run)
 }
 
-/// The rows, finished: no more runs are added to them.
-fn closed_rows(alloc: Global, rows: Vec<OpenRow>) -> Result<RowWriter, OutOfMemory>
-    requires { AreRows (open_rows rows.items) }
-    ensures { IfOk result (λ closed. closed ≡ open_rows rows.items) }
+/// The part of the rows. Each row is a strip, and where no other row is directly below it, a blank strip follows.
+fn part_of_rows(alloc: Global, rows: &[OpenRow]) -> Result<Part, OutOfMemory>
+    requires { AreRows (open_rows rows.now) }
+    ensures { IfOk result (λ part. HaveStripWeights (weight_in_rows (open_rows rows.now)) (strips_in part)) }
 {
-    let mut closed = RowWriter::new(alloc);
-    for row in &rows {
-        let edges: &[Edge] = &row.edges;
-        let row = Row {
-            y: row.y,
-            reach: reach_of(edges),
-            edges,
-            own: None,
-        };
-        closed.push(row.y, &row)?;
+    let mut part = PartWriter::with_room(alloc, rows.len(), 0)?;
+    let mut reach = 0;
+    let mut left = rows;
+    while let Some((row, below)) = left.split_first() {
+        row.push_strips(&mut part, below)?;
+        reach = reach.max(reach_of(&row.edges));
+        left = below;
     }
-    Ok(closed)
+    Ok(part.finish(reach))
 }
 
 impl OpenRow {
@@ -202,5 +201,28 @@ impl OpenRow {
             Some(edge) => edge.x <= x,
             None => true,
         }
+    }
+
+    /// Appends the strips of this row, which is above those `below`.
+    #[tactic(auto, using(std::proofs::lemmas::Int::ints))]
+    fn push_strips(&self, part: &mut PartWriter, below: &[OpenRow]) -> Result<(), OutOfMemory>
+        requires { IsEdgeRow (open_row self.now) }
+        ensures { OnOk result (part.new ≡ part.old ++ strips_of_row (open_row self.now) (open_rows below.now)) }
+    {
+        part.push(self.y + 1, &self.edges)?;
+        if begin_at(below, self.y - 1) {
+            return Ok(());
+        }
+        part.push(self.y, &[])
+    }
+}
+
+/// Whether the first of these rows is row y.
+fn begin_at(rows: &[OpenRow], y: i32) -> bool
+    ensures { result ≡ begin_at (open_rows rows.now) y }
+{
+    match rows.first() {
+        Some(row) => row.y == y,
+        None => false,
     }
 }

@@ -1,21 +1,12 @@
 //! Pictures.
 ghost use Rattle.std.specs.Prelude.{◌≡◌, ◌≢◌, ◌≤◌, [], IsNone, IsOk, IfSome, IfOk, IfErr, OnOk, OnErr, IsTrue, length, slice_get, ◌↔◌};
-ghost use Rattle.mf_rows.specs.EdgeRows.{AreRows};
 
-use crate::bounds::{Box4, Pixels};
-use crate::corner::{Corner, rows_of_corners};
-use crate::fault::AddFault;
-use crate::group::Group;
-use crate::groups::{groups_of, list_rows};
-use crate::pile::Pile;
-use crate::row_change::changed_rows;
+use crate::bounds::{Box4, Pixels, bounds_of_runs};
 use crate::run::Run;
 use crate::runs::Runs;
-use crate::sign::Sign;
-use crate::slice::RowSlice;
-use crate::writer::RowWriter;
 use mf_base::OutOfMemory;
 use mf_edges::{RowChange, WeightMap};
+use mf_strips::{AddFault, Corner, Part, Pile, changed, negated, part_of_corners};
 use std::alloc::Global;
 use std::marker::Model;
 use std::sync::Arc;
@@ -26,8 +17,7 @@ mod moves;
 /// elsewhere have weight 0 (The METAFONTbook, chapter 13).
 ///
 /// It keeps edges: in each row that is not blank, the columns at which the weight changes (mf.web, "edge structures").
-/// Groups and bands of rows are never written once they are made, so pictures share them. The newest contours are kept beside the
-/// rest (`Pile`), so that adding one copies little.
+/// They are in parts, whose weights are added up, and which are never written once they are made, so pictures share them (`mf_strips`).
 #[derive(Debug, Drop)]
 pub struct Picture {
     pile: Pile,
@@ -39,26 +29,28 @@ impl Model for Picture {
 
     ghost Value = { List Dot };
 
-    ghost use Rattle.mf_rows.specs.EdgeRows.{picture_of_rows, AreRows};
+    ghost use Rattle.mf_rows.specs.Weights.{picture_of};
+    ghost use Rattle.mf_strips.specs.PileWeights.{weight_in_pile};
 
-    ghost view = { λ p. picture_of_rows p.pile };
-
-    ghost invariant = { λ p. AreRows p.pile };
+    ghost view = { λ p. picture_of (weight_in_pile p.pile) };
 }
 
-#[tactic(auto, using(crate::proofs::EdgeRowsLemmas::lawful_picture_of_rows))]
+#[tactic(auto, using(crate::proofs::PicturePiles::lawful_pile))]
 impl Picture {
-    ghost use Rattle.mf_rows.specs.Bounds.{AreBounds, IsLeastBox, is_positive_at};
-    ghost use Rattle.mf_rows.specs.Corners.{AreCorners, with_corners_at};
+    ghost use Rattle.mf_rows.specs.Bounds.{AreBounds, IsLeastBox, among_dots, is_positive_at};
+    ghost use Rattle.mf_strips.specs.Corners.{AreCorners};
+    ghost use Rattle.mf_rows.specs.Corners.{with_corners_at};
     ghost use Rattle.mf_rows.specs.Dots.{IsPicture, weight_at, total_of};
     ghost use Rattle.mf_rows.specs.EdgeCounts.{edge_count};
-    ghost use Rattle.mf_rows.specs.EdgeRows.{picture_of_rows};
-    ghost use Rattle.mf_rows.specs.Groups.{rows_of_groups, AreGroups};
     ghost use Rattle.mf_rows.specs.Runs.{runs_of};
     ghost use Rattle.mf_rows.specs.Sums.{HasWeights, IsUnlawfulSomewhere, difference_at, sum_at};
     ghost use Rattle.mf_edges.specs.WeightMaps.{IsWeightMap};
     ghost use Rattle.mf_rows.specs.WeightMaps.{mapped_weights};
-    ghost use Rattle.mf_rows.specs.Weights.{HaveSameWeights};
+    ghost use Rattle.mf_rows.specs.Weights.{HaveSameWeights, picture_of};
+    ghost use Rattle.mf_strips.specs.Parts.{strips_in, weight_in_part};
+    ghost use Rattle.mf_strips.specs.PileWeights.{weight_in_pile};
+    ghost use Rattle.mf_strips.specs.Strips.{HaveStripWeights};
+    ghost use Rattle.std.specs.Arc.{arc_value};
 
     /// The blank picture, METAFONT's `nullpicture`: every weight is 0.
     pub fn blank(alloc: Global) -> Picture
@@ -76,11 +68,11 @@ impl Picture {
         ensures blank { self.now ≡ [] → IsOk result }
         ensures lawful { IsPicture self.now }
     {
-        if !self.is_blank() {
-            let pile = self.pile.copy(alloc)?;
-            return Ok(Picture { pile });
+        match self.pile.copy(alloc) {
+            Ok(pile) => Ok(Picture { pile }),
+            // Whether it is blank is looked at only where it matters.
+            Err(_) => self.blank_or_refused(alloc),
         }
-        Ok(Picture::blank(alloc))
     }
 
     /// Whether both pictures have the same weight at every pixel.
@@ -109,34 +101,38 @@ impl Picture {
         self.pile.total()
     }
 
-    /// The least box of the pixels of nonzero weight, `None` where the picture is blank. It looks at both ends of each row.
+    /// The least box of the pixels of nonzero weight, `None` where the picture is blank. It goes over the runs once.
     #[tactic(auto, using(crate::proofs::LeastBoxes::least_boxes))]
     pub fn bounds(&self) -> Option<Box4>
         ensures blank { IsNone result ↔ (self.now ≡ []) }
         ensures least { IfSome result (IsLeastBox self.now) }
         ensures lawful { IsPicture self.now }
     {
-        self.pile.bounds(Pixels::Nonzero)
+        self.bounds_of(Pixels::Nonzero)
     }
 
-    /// The least box of the pixels of positive weight, which are black in a character, `None` where there are none. It looks at the
-    /// edges of each row from both ends, up to the first and the last of these pixels.
-    #[tactic(auto, using(crate::proofs::EdgeRowsLemmas::lawful_picture_of_rows, crate::proofs::LeastBoxes::black_in_rows))]
+    /// The least box of the pixels of positive weight, which are black in a character, `None` where there are none. It goes over the
+    /// runs once.
+    #[tactic(auto, using(crate::proofs::LeastBoxes::black_in_dots))]
     pub fn black_bounds(&self) -> Option<Box4>
         ensures bounds { AreBounds (is_positive_at self.now) result }
         ensures lawful { IsPicture self.now }
     {
-        self.pile.bounds(Pixels::Black)
+        self.bounds_of(Pixels::Black)
     }
 
-    /// How many edges the picture keeps: at least those of its maximal runs, each of which begins at one and ends at one; where two runs
-    /// touch, they share it. Where the newest contours are kept apart, there may be more. It looks at each row once.
+    /// A number of edges that the picture's maximal runs have at most: two for each of them, at which it begins and ends. It goes over
+    /// the runs.
     pub fn edge_count(&self) -> usize
         ensures edges { edge_count (runs_of self.now) ≤ result }
         ensures runs { length (runs_of self.now) ≤ result }
         ensures lawful { IsPicture self.now }
     {
-        self.pile.edge_count()
+        let mut edges = 0;
+        for _run in self.runs() {
+            edges += 2;
+        }
+        edges
     }
 
     /// The maximal runs of one nonzero weight: rows from the top down, columns from left to right.
@@ -144,7 +140,7 @@ impl Picture {
         ensures runs { result ≡ runs_of self.now }
         ensures lawful { IsPicture self.now }
     {
-        self.pile.runs()
+        Runs::over(self.pile.spans())
     }
 
     /// The k-th of the maximal runs that `runs` gives, counted from 0; `None` after the last. It walks the runs before it.
@@ -156,12 +152,10 @@ impl Picture {
     }
 
     /// Adds another picture to this one, as `addto .. also` does (The METAFONTbook, chapter 13; mf.web: `merge_edges`):
-    /// the weight of each pixel is then the sum of both, and the other picture is unchanged. Bands that only one of
-    /// them has stay as they are, or are shared, unless some of the newest contours lie on them; a blank picture shares
-    /// all of the other one. Refused with `WeightTooLarge` where a weight would exceed 32767 in absolute value, and with
-    /// `OutOfMemory` where an allocation fails; a refusal leaves this picture as it was. Adding a blank picture is never
+    /// the weight of each pixel is then the sum of both, and the other picture is unchanged. A picture of one part shares that; a blank
+    /// picture shares all parts of the other one. Refused with `WeightTooLarge` where a weight would exceed 32767 in absolute value,
+    /// and with `OutOfMemory` where an allocation fails; a refusal leaves this picture as it was. Adding a blank picture is never
     /// refused.
-    #[tactic(auto, using(crate::proofs::PictureRows::sums, crate::proofs::BlankPictures::added_to_blank, crate::proofs::BlankPictures::blank_added))]
     pub fn add(&mut self, alloc: Global, other: &Picture) -> Result<(), AddFault>
         ensures weights { OnOk result (HasWeights (sum_at self.old other.now) self.new) }
         ensures blank { other.now ≡ [] → IsOk result }
@@ -169,26 +163,23 @@ impl Picture {
         ensures lawful { OnOk result (IsPicture self.new) }
         ensures too_large { IfErr result (λ fault. fault ≢ AddFault.OutOfMemory → IsUnlawfulSomewhere (sum_at self.old other.now)) }
     {
-        // Naming the field gives the proof the invariant of its type.
+        // Naming the field gives the proof what its type says.
         let _ = &self.pile;
         if other.is_blank() {
             return Ok(());
         }
         if self.is_blank() {
-            self.pile = other.pile.copy(alloc)?;
+            *self = other.copy(alloc)?;
             return Ok(());
         }
-        self.pile.settle(alloc);
-        self.pile.add(alloc, &other.pile, Sign::Plus)?;
-        Ok(())
+        let part = other.pile.joined(alloc)?;
+        self.pile.add(alloc, part)
     }
 
     /// Subtracts another picture from this one, as `addto .. also -` does: the weight of each pixel is then the one that it had, minus
-    /// the one in the other picture, which is unchanged. The other picture is negated band by band, and not as a whole. Bands that only
-    /// this picture has stay as they are, unless some of the newest contours lie on them. Refused with `WeightTooLarge` where a weight
-    /// would exceed 32767 in absolute value, and with `OutOfMemory` where an allocation fails; a refusal leaves this picture as it was.
-    /// Subtracting a blank picture is never refused.
-    #[tactic(auto, using(crate::proofs::PictureRows::differences, crate::proofs::BlankPictures::blank_subtracted))]
+    /// the one in the other picture, which is unchanged. Refused with `WeightTooLarge` where a weight would exceed 32767 in absolute
+    /// value, and with `OutOfMemory` where an allocation fails; a refusal leaves this picture as it was. Subtracting a blank picture is
+    /// never refused.
     pub fn subtract(&mut self, alloc: Global, other: &Picture) -> Result<(), AddFault>
         ensures weights { OnOk result (HasWeights (difference_at self.old other.now) self.new) }
         ensures blank { other.now ≡ [] → IsOk result }
@@ -196,17 +187,18 @@ impl Picture {
         ensures lawful { OnOk result (IsPicture self.new) }
         ensures too_large { IfErr result (λ fault. fault ≢ AddFault.OutOfMemory → IsUnlawfulSomewhere (difference_at self.old other.now)) }
     {
-        // Naming the field gives the proof the invariant of its type.
-        let _ = &mut self.pile;
-        if !other.is_blank() {
-            self.pile.settle(alloc);
-            return self.pile.add(alloc, &other.pile, Sign::Minus);
+        // Naming the field gives the proof what its type says.
+        let _ = &self.pile;
+        if other.is_blank() {
+            return Ok(());
         }
-        Ok(())
+        let part = other.pile.joined(alloc)?;
+        let negated = negated(alloc, &part)?;
+        self.pile.add(alloc, Arc::new(alloc, negated)?)
     }
 
-    /// Adds up what the picture keeps apart, as far as there is memory for that; the picture stays as it is. An operation that goes
-    /// through all rows adds it up aside otherwise, and has it in memory twice.
+    /// Joins the parts of the picture, as far as there is memory for that; the picture stays as it is. What goes through all pixels joins
+    /// them aside otherwise, and has them in memory twice.
     pub fn settle(&mut self, alloc: Global)
         ensures same { self.new ≡ self.old }
         ensures lawful { IsPicture self.new }
@@ -227,17 +219,13 @@ impl Picture {
         if self.is_blank() {
             return Ok(Picture::blank(alloc));
         }
-        let groups = self.groups(alloc)?;
-        let rows = list_rows(alloc, &groups)?;
-        let changed = changed_rows(alloc, &rows, &RowChange::Weights(*map))?;
-        Picture::from_rows(alloc, changed)
+        let part = self.pile.joined(alloc)?;
+        Picture::of_part(alloc, changed(alloc, &part, &RowChange::Weights(*map))?)
     }
 
-    /// Adds corners to the picture. Bands that no corner reaches stay as they are. Requires at most 8192 corners, with
-    /// coordinates in -4095..=4095 and weights in -3..=3, which together add nothing to the right of the field; what
-    /// they add below the field is left out. Refused with `WeightTooLarge` where a weight would exceed 32767 in absolute
-    /// value, and with `OutOfMemory` where an allocation fails; a refusal leaves the picture as it was.
-    #[tactic(auto, using(crate::proofs::PictureRows::sums, crate::proofs::PictureRows::weights_with_corners))]
+    /// Adds corners to the picture. Requires at most 8192 corners, with coordinates in -4095..=4095 and weights in -3..=3, which together
+    /// add nothing to the right of the field; what they add below the field is left out. Refused with `WeightTooLarge` where a weight
+    /// would exceed 32767 in absolute value, and with `OutOfMemory` where an allocation fails; a refusal leaves the picture as it was.
     pub fn add_corners(&mut self, alloc: Global, corners: Vec<Corner>) -> Result<(), AddFault>
         requires { AreCorners corners.items }
         ensures weights { OnOk result (HasWeights (with_corners_at self.old corners.items) self.new) }
@@ -245,36 +233,44 @@ impl Picture {
         ensures lawful { OnOk result (IsPicture self.new) }
         ensures too_large { IfErr result (λ fault. fault ≢ AddFault.OutOfMemory → IsUnlawfulSomewhere (with_corners_at self.old corners.items)) }
     {
-        let rows = rows_of_corners(alloc, corners)?;
-        self.pile.add_rows(alloc, RowSlice::of(&rows))?;
-        Ok(())
+        let part = part_of_corners(alloc, corners)?;
+        self.pile.add(alloc, Arc::new(alloc, part)?)
     }
 
     /// Whether the picture is blank.
     fn is_blank(&self) -> bool
-        ensures { IsTrue result ↔ (self.now ≡ []) }
-    {
-        self.pile.has_no_groups() || self.pile.rows().next().is_none()
-    }
-
-    /// The groups of all rows of the picture.
-    fn groups(&self, alloc: Global) -> Result<Vec<Option<Arc<Group>>>, OutOfMemory>
-        ensures groups { IfOk result (λ groups. AreGroups groups.items) }
-        ensures picture { IfOk result (λ groups. picture_of_rows (rows_of_groups groups.items) ≡ self.now) }
+        ensures answer { IsTrue result ↔ (self.now ≡ []) }
         ensures lawful { IsPicture self.now }
     {
-        self.pile.whole(alloc)
+        self.runs().next().is_none()
     }
 
-    /// The picture of the rows that were written.
-    pub(crate) fn from_rows(alloc: Global, rows: RowWriter) -> Result<Picture, OutOfMemory>
-        requires { AreRows rows }
-        ensures value { IfOk result (λ picture. picture ≡ picture_of_rows rows) }
+    /// The blank picture where this one is blank, and `OutOfMemory` otherwise.
+    fn blank_or_refused(&self, alloc: Global) -> Result<Picture, OutOfMemory>
+        ensures value { IfOk result (λ copy. copy ≡ self.now) }
+        ensures blank { self.now ≡ [] → IsOk result }
+        ensures lawful { IsPicture self.now }
+    {
+        if self.is_blank() {
+            return Ok(Picture::blank(alloc));
+        }
+        Err(OutOfMemory)
+    }
+
+    /// The least box of these pixels, `None` where there are none.
+    fn bounds_of(&self, pixels: Pixels) -> Option<Box4>
+        ensures bounds { AreBounds (among_dots pixels self.now) result }
+        ensures lawful { IsPicture self.now }
+    {
+        bounds_of_runs(self.runs(), pixels)
+    }
+
+    /// The picture of a part.
+    pub(crate) fn of_part(alloc: Global, part: Part) -> Result<Picture, OutOfMemory>
+        ensures value { IfOk result (λ picture. picture ≡ picture_of (weight_in_part part)) }
         ensures lawful { IfOk result IsPicture }
     {
-        let groups = groups_of(alloc, &rows.finish()?)?;
-        Ok(Picture {
-            pile: Pile::of(alloc, groups),
-        })
+        let pile = Pile::of(alloc, Arc::new(alloc, part)?)?;
+        Ok(Picture { pile })
     }
 }

@@ -1,131 +1,145 @@
-//! The walk over the edges of a picture, which meets its runs one after another.
-ghost use Rattle.std.specs.Prelude.{◌≡◌, ◌≢◌, [], IfNone, IfSome, pos};
-ghost use Rattle.mf_geom.specs.Coordinates.{least_coordinate};
-ghost use Rattle.mf_rows.specs.BothRest.{both_edges, remaining_both_rows};
-ghost use Rattle.mf_rows.specs.BothRows.{rows_of_both, AreRowsOfBoth};
-ghost use Rattle.mf_rows.specs.Groups.{rows_of_groups};
-ghost use Rattle.mf_rows.specs.EdgeRows.{picture_of_rows};
-ghost use Rattle.mf_rows.specs.Rest.{IsRestOfRow, IsRestOfRow-prop, AreEdgeRows, AreEdgeRows-prop};
+//! The walk over the pixels of a picture, which meets its runs one after another.
+ghost use Rattle.std.specs.Prelude.{◌≡◌, ◌≢◌, ℤ, [], ◌∷◌, IsTrue, IsFalse, pos, ◌≤ℤ◌, ◌<ℤ◌};
+ghost use Rattle.mf_geom.specs.Coordinates.{least_coordinate, greatest_coordinate, last_in_field};
+ghost use Rattle.mf_rows.specs.Ahead.{IsAhead, IsAhead-prop, AreBlankBelow};
+ghost use Rattle.mf_strips.specs.Spans.{weights_of};
 
-use crate::both_edges::BothEdges;
-use crate::both_rows::BothRows;
-use crate::group::Group;
 use crate::run::Run;
-use std::sync::Arc;
+use mf_edges::{FIELD_END, FIELD_START};
+use mf_strips::{Span, Spans};
 
-/// A walk over the edges of a picture, each passed once, which gives its maximal runs: rows from the top down, columns
-/// from left to right. Its steps, and those of `BothEdges` and `Runs`, are inlined, so that its state stays in registers in a loop over
-/// runs: a page that is shipped took 1.7 times as long otherwise. The step to the next row (`BothRows::next`) is a call.
+/// A walk over the pixels of a picture, which gives its maximal runs: rows from the top down, columns from left to right. It reads each
+/// span once, and passes equal blank rows together.
 #[derive(Drop)]
-pub(crate) struct Walk<'a> {
-    /// The rows that are still to come.
-    rows: BothRows<'a>,
-    /// The edges of row `y` that are still to come, and the weight to the left of them.
-    edges: BothEdges<'a>,
+pub struct Walk<'a> {
+    spans: Spans<'a>,
+    /// The next pixel, at the end of row `y` where `x` is the column after the last.
+    x: i32,
     y: i32,
-    weight: i32,
-    ghost rest: { IsRestOfRow least_coordinate weight (both_edges edges) } by { IsRestOfRow-prop least_coordinate weight (both_edges edges) },
-    ghost others: { AreEdgeRows (remaining_both_rows rows) } by { AreEdgeRows-prop (remaining_both_rows rows) },
+    /// The span from the next pixel on, an empty one of weight 0 at the end of a row.
+    ahead: Span,
+    ghost ahead_is: { IsAhead (weights_of spans) x y ahead } by { IsAhead-prop (weights_of spans) x y ahead },
 }
 
 impl<'a> Walk<'a> {
+    ghost use Rattle.mf_rows.specs.Remaining.{remaining_runs, HasPassed};
     ghost use Rattle.mf_rows.specs.Runs.{runs_of};
-    ghost use Rattle.mf_rows.specs.Walk.{remaining_runs, IsEdgeTaken};
+    ghost use Rattle.mf_rows.specs.Weights.{picture_of};
 
-    /// The walk over these groups and the older ones together.
-    pub(crate) fn over(
-        groups: &'a [Option<Arc<Group>>],
-        older: &'a [Option<Arc<Group>>],
-    ) -> Walk<'a>
-        requires { AreRowsOfBoth (rows_of_groups groups.now) (rows_of_groups older.now) }
-        ensures { remaining_runs result ≡ runs_of (picture_of_rows (rows_of_both (rows_of_groups groups.now) (rows_of_groups older.now))) }
+    /// The walk over the picture with these weights.
+    pub fn over(mut spans: Spans<'a>) -> Walk<'a>
+        ensures { remaining_runs result ≡ runs_of (picture_of (weights_of spans.entry)) }
     {
-        Walk {
-            rows: BothRows::over(groups, older),
-            edges: BothEdges::none(),
-            y: 0,
-            weight: 0,
-        }
+        let (x, y) = (FIELD_START, FIELD_END - 1);
+        let ahead = spans.span(x, y);
+        Walk { spans, x, y, ahead }
     }
 
-    /// Moves on to the edge at which the next run begins, and answers its column.
-    #[inline(always)]
-    fn next_start(&mut self) -> Option<i32>
-        ensures start { IfSome result (λ x. IsEdgeTaken self.old x self.new) }
-        ensures nonzero { IfSome result (λ _. self.new.weight ≢ pos 0) }
-        ensures none { IfNone result ((remaining_runs self.old ≡ []) × (remaining_runs self.new ≡ [])) }
-    {
-        let x = self.next_edge()?;
-        if self.weight != 0 {
-            return Some(x);
-        }
-        self.next_edge()
-    }
-
-    /// Moves on to the next edge, and answers its column.
-    #[inline(always)]
-    #[tactic(auto, using(crate::proofs::EdgeRuns::first_edge_of))]
-    fn next_edge(&mut self) -> Option<i32>
-        ensures edge { IfSome result (λ x. IsEdgeTaken self.old x self.new) }
-        ensures changed { IfSome result (λ _. self.new.weight ≢ self.old.weight) }
-        ensures none { IfNone result ((remaining_runs self.old ≡ []) × (remaining_runs self.new ≡ [])) }
-    {
-        self.enter_row();
-        let edge = self.edges.take_first()?;
-        self.weight += edge.weight;
-        Some(edge.x)
-    }
-
-    /// Enters the next row where no edge of this one is left.
-    #[inline(always)]
-    fn enter_row(&mut self)
+    /// Moves on to the next run, past pixels of weight 0. Answers whether there is one.
+    fn find_run(&mut self) -> bool
         ensures runs { remaining_runs self.new ≡ remaining_runs self.old }
-        ensures over { both_edges self.new.edges ≡ [] → remaining_runs self.new ≡ [] }
-        ensures weight { self.new.weight ≡ self.old.weight }
+        ensures found { IsTrue result → self.new.ahead.weight ≢ pos 0 }
+        ensures over { IsFalse result → remaining_runs self.new ≡ [] }
     {
-        if self.edges.is_empty() {
-            self.enter_next_row();
+        while self.ahead.weight == 0 {
+            let start = self.x;
+            self.pass_equal();
+            if self.x < FIELD_END {
+                return true;
+            }
+            let bottom = blank_down_to(&mut self.spans, start, self.y);
+            if bottom == FIELD_START {
+                return false;
+            }
+            self.enter_row(bottom - 1);
+        }
+        true
+    }
+
+    /// Takes the run that begins at the next pixel.
+    fn take_run(&mut self) -> Run
+        requires { self.old.ahead.weight ≢ pos 0 }
+        ensures { remaining_runs self.old ≡ result ∷ remaining_runs self.new }
+    {
+        let (x, weight) = (self.x, self.ahead.weight);
+        self.pass_equal();
+        Run {
+            y: self.y,
+            x,
+            len: self.x.abs_diff(x),
+            weight,
         }
     }
 
-    /// Enters the next row. A step of its own, so that its locals are cleared once a row, and a copy of `rows` goes to the call, so that
-    /// what is used at each edge stays in registers.
-    #[inline(always)]
-    fn enter_next_row(&mut self)
-        requires { both_edges self.old.edges ≡ [] }
-        ensures runs { remaining_runs self.new ≡ remaining_runs self.old }
-        ensures over { both_edges self.new.edges ≡ [] → remaining_runs self.new ≡ [] }
-        ensures weight { self.new.weight ≡ self.old.weight }
+    /// Passes the pixels of the row that have the weight ahead.
+    fn pass_equal(&mut self)
+        ensures passed { HasPassed self.old self.new }
+        ensures next { self.new.x <ℤ greatest_coordinate → self.new.ahead.weight ≢ self.old.ahead.weight }
     {
-        let mut rows = self.rows;
-        let next = rows.next();
-        self.rows = rows;
-        if let Some(row) = next {
-            self.y = row.y;
-            self.edges = row.edges;
+        let weight = self.ahead.weight;
+        while self.x < FIELD_END && self.ahead.weight == weight {
+            self.x = self.ahead.end;
+            self.ahead = span_from(&mut self.spans, self.x, self.y);
         }
     }
+
+    /// Goes to the first pixel of a row.
+    fn enter_row(&mut self, y: i32)
+        requires bottom { least_coordinate ≤ℤ y }
+        requires top { y ≤ℤ last_in_field }
+        ensures weights { weights_of self.new.spans ≡ weights_of self.old.spans }
+        ensures column { self.new.x ≡ least_coordinate }
+        ensures row { self.new.y ≡ y }
+    {
+        self.x = FIELD_START;
+        self.y = y;
+        self.ahead = self.spans.span(FIELD_START, y);
+    }
+}
+
+/// The span from column x of row y on, an empty one of weight 0 at the end of the row.
+fn span_from(spans: &mut Spans<'_>, x: i32, y: i32) -> Span
+    requires left { least_coordinate ≤ℤ x }
+    requires right { x ≤ℤ greatest_coordinate }
+    requires bottom { least_coordinate ≤ℤ y }
+    requires top { y ≤ℤ last_in_field }
+    ensures ahead { IsAhead (weights_of spans.old) x y result }
+    ensures same { weights_of spans.new ≡ weights_of spans.old }
+{
+    if x < FIELD_END {
+        return spans.span(x, y);
+    }
+    Span { weight: 0, end: x }
+}
+
+/// The lowest row known to be blank below row y, which is blank from column `start` on; row y itself where none is.
+fn blank_down_to(spans: &mut Spans<'_>, start: i32, y: i32) -> i32
+    requires bottom { least_coordinate ≤ℤ y }
+    requires top { y ≤ℤ last_in_field }
+    requires blank { (z : ℤ) → start ≤ℤ z → z <ℤ greatest_coordinate → weights_of spans.old z y ≡ pos 0 }
+    ensures rows { AreBlankBelow (weights_of spans.old) result y }
+    ensures same { weights_of spans.new ≡ weights_of spans.old }
+{
+    if start == FIELD_START {
+        return spans.bottom(y);
+    }
+    y
 }
 
 impl Iterator for Walk<'_> {
     type Item = Run;
 
     ghost use Rattle.std.specs.Iterator.{YieldsFirst, item_count};
-    ghost use Rattle.mf_rows.specs.Walk.{remaining_runs};
+    ghost use Rattle.mf_rows.specs.Remaining.{remaining_runs};
 
     ghost next_gives = { YieldsFirst remaining_runs };
 
     ghost remaining = { item_count remaining_runs };
 
-    #[inline(always)]
     fn next(&mut self) -> Option<Run> {
-        let x = self.next_start()?;
-        let end = self.edges.first()?;
-        Some(Run {
-            y: self.y,
-            x,
-            len: end.x.abs_diff(x),
-            weight: self.weight,
-        })
+        if !self.find_run() {
+            return None;
+        }
+        Some(self.take_run())
     }
 }

@@ -1,20 +1,19 @@
 //! What moves a picture: reflections, stretches and turns.
-ghost use Rattle.std.specs.Prelude.{All, IfOk};
-ghost use Rattle.mf_edges.specs.Axes.{IsStretch, PlaceStaysInside, opposite, source_of};
+ghost use Rattle.std.specs.Prelude.{IfOk};
+ghost use Rattle.mf_edges.specs.Axes.{IsStretch, opposite, source_of};
 ghost use Rattle.mf_rows.specs.Dots.{IsPicture, weight_at};
-ghost use Rattle.mf_rows.specs.Moves.{PixelsStayInside, moved_columns, moved_rows, quarter_turn};
+ghost use Rattle.mf_strips.specs.Moves.{moved_columns, moved_rows};
+ghost use Rattle.mf_strips.specs.Turns.{quarter_turn};
+ghost use Rattle.mf_rows.specs.Moves.{PixelsStayInside};
 ghost use Rattle.mf_rows.specs.Sums.{HasWeights};
 
 use super::Picture;
-use crate::groups::list_rows;
-use crate::row_change::changed_rows;
-use crate::row_move::{mirrored_rows, stretched_rows};
-use crate::turn::turned_rows;
 use mf_base::OutOfMemory;
 use mf_edges::{RowChange, Stretch};
+use mf_strips::{changed, mirrored_rows, stretched, turned};
 use std::alloc::Global;
 
-#[tactic(auto, using(crate::proofs::EdgeRowsLemmas::lawful_picture_of_rows))]
+#[tactic(auto, using(crate::proofs::PicturePiles::lawful_pile))]
 impl Picture {
     /// The picture reflected in the line between columns -1 and 0: column x becomes column -x - 1 (mf.web:
     /// `x_reflect_edges`). This one is unchanged. Refused with `OutOfMemory` where an allocation fails.
@@ -22,10 +21,8 @@ impl Picture {
         ensures weights { IfOk result (HasWeights (moved_columns opposite (weight_at self.now))) }
         ensures lawful { IfOk result IsPicture }
     {
-        let groups = self.groups(alloc)?;
-        let rows = list_rows(alloc, &groups)?;
-        let changed = changed_rows(alloc, &rows, &RowChange::Mirror)?;
-        Picture::from_rows(alloc, changed)
+        let part = self.pile.joined(alloc)?;
+        Picture::of_part(alloc, changed(alloc, &part, &RowChange::Mirror)?)
     }
 
     /// The picture reflected in the line between rows -1 and 0: row y becomes row -y - 1 (mf.web: `y_reflect_edges`).
@@ -34,9 +31,8 @@ impl Picture {
         ensures weights { IfOk result (HasWeights (moved_rows opposite (weight_at self.now))) }
         ensures lawful { IfOk result IsPicture }
     {
-        let groups = self.groups(alloc)?;
-        let rows = list_rows(alloc, &groups)?;
-        Picture::from_rows(alloc, mirrored_rows(alloc, &rows)?)
+        let part = self.pile.joined(alloc)?;
+        Picture::of_part(alloc, mirrored_rows(alloc, &part)?)
     }
 
     /// The picture after its columns and rows are stretched, so that each pixel becomes a rectangle of its weight
@@ -54,10 +50,8 @@ impl Picture {
         ensures weights { IfOk result (HasWeights (moved_rows (source_of rows.now) (moved_columns (source_of columns.now) (weight_at self.now)))) }
         ensures lawful { IfOk result IsPicture }
     {
-        let wide = self.with_columns_stretched(alloc, columns)?;
-        let groups = wide.groups(alloc)?;
-        let changed = list_rows(alloc, &groups)?;
-        Picture::from_rows(alloc, stretched_rows(alloc, &changed, rows)?)
+        let part = self.pile.joined(alloc)?;
+        Picture::of_part(alloc, stretched(alloc, &part, columns, rows)?)
     }
 
     /// The picture turned by 90 degrees counterclockwise round the point (0, 0): the pixel (x, y) becomes the pixel (-y
@@ -67,28 +61,7 @@ impl Picture {
         ensures weights { IfOk result (HasWeights (quarter_turn (weight_at self.now))) }
         ensures lawful { IfOk result IsPicture }
     {
-        let groups = self.groups(alloc)?;
-        let rows = list_rows(alloc, &groups)?;
-        Picture::from_rows(alloc, turned_rows(alloc, &rows)?)
-    }
-
-    /// The picture after its columns are stretched. Where all of them stay in place, it shares the groups of this one.
-    fn with_columns_stretched(
-        &self,
-        alloc: Global,
-        columns: &Stretch,
-    ) -> Result<Picture, OutOfMemory>
-        requires columns { IsStretch columns.now }
-        requires inside { All (λ dot. PlaceStaysInside columns.now dot.x) self.now }
-        ensures weights { IfOk result (HasWeights (moved_columns (source_of columns.now) (weight_at self.now))) }
-        ensures lawful { IsPicture self.now }
-    {
-        if columns.factor == 1 && columns.offset == 0 {
-            return self.copy(alloc);
-        }
-        let groups = self.groups(alloc)?;
-        let rows = list_rows(alloc, &groups)?;
-        let changed = changed_rows(alloc, &rows, &RowChange::Columns(*columns))?;
-        Picture::from_rows(alloc, changed)
+        let part = self.pile.joined(alloc)?;
+        Picture::of_part(alloc, turned(alloc, &part)?)
     }
 }

@@ -1,6 +1,6 @@
-//! Pictures with long rows, from which the newest contours are kept apart. Rows are long where they have more than 128 edges on average:
-//! where a 128th of their edges, rounded down, exceeds their number, so three rows are long from 512 edges on. The contours may have 64
-//! edges for each of these rows, or a fourth of their edges. Such a picture must answer and change like any other.
+//! Pictures of several parts, whose weights are added up. Each contour makes a part. That is joined with the part before it where this is
+//! at most twice as large, and so on. The size of a part is the number of its strips and edges: for a comb 2, and 2 more for each tooth.
+//! Such a picture must answer and change like any other.
 ghost use Rattle.mf_rows.specs.Corners.{AreCorners};
 ghost use Rattle.std.specs.Prelude.{IfOk};
 
@@ -39,18 +39,19 @@ macro_rules! comb_of {
 }
 
 mod apart;
+mod parts;
 
-/// The area in which all combs lie. It crosses borders between bands, one of which is between groups: row -2 is the first of a group.
+/// The area in which all combs lie.
 const AREA: [Rectangle; 1] = [Rectangle {
     left: -24,
     bottom: -24,
-    right: 284,
+    right: 360,
     top: 24,
     weight: 0,
 }];
 
-/// Three rows of 240 edges, from which contours of 192 edges may be kept apart.
-const LONG: Comb = comb_of!(0, 2, 120, -2, 1, 1);
+/// A part of size 242.
+const LARGE: Comb = comb_of!(0, 2, 120, -2, 1, 1);
 
 /// A picture, and the rectangles of which it is the sum, the area first.
 #[derive(Debug, Drop)]
@@ -138,7 +139,7 @@ impl Drawing {
         self.slow(rt).assert_answers_of(rt, case, &self.picture);
     }
 
-    /// The same picture, made from its runs, with no contour apart.
+    /// The same picture, made from its runs as one part.
     pub(crate) fn picture_of_runs<R: Abort + AllocGlobal>(&self, rt: &R) -> Picture {
         let runs = self.slow(rt).runs(rt.alloc());
         picture_of(rt, &runs.expect(rt, "there is room for the runs"))
@@ -172,18 +173,15 @@ fn assert_drawing<R: Abort + AllocGlobal>(rt: &R, combs: &[Comb]) {
     }
 }
 
-/// Contours on long rows. Of the 192 edges that may be kept apart from these, the first two have 90 each, so the third one exceeds that and
-/// is added to the long rows together with them. Then 192 edges may be kept apart again. The next three contours have 120, 10 and 60, so
-/// the one after them is added to the long rows, too. The five rows that there are then have 828 edges and are still long, so the last
-/// two stay apart.
-const ON_LONG: [Comb; 10] = [
-    LONG,
+/// Contours on a large part: some of them are joined with those before them, and some with the large part.
+const ON_LARGE: [Comb; 10] = [
+    LARGE,
     comb_of!(1, 3, 15, -2, 1, 2),
-    // It cancels every second one of the first teeth of the long rows.
+    // It cancels every second one of the first teeth of the large part.
     comb_of!(0, 4, 15, -2, 1, -1),
     comb_of!(30, 2, 15, -1, 0, 1),
     comb_of!(242, 2, 20, -2, 1, -3),
-    // It reaches rows above and below the long ones.
+    // It reaches rows above and below that.
     comb_of!(-20, 1, 10, -3, 2, 1),
     comb_of!(0, 4, 10, -2, 1, 1),
     comb_of!(5, 1, 1, -2, 1, 1),
@@ -192,22 +190,22 @@ const ON_LONG: [Comb; 10] = [
 ];
 
 #[test]
-fn contours_are_added_to_long_rows(rt: HostRuntime) {
-    assert_drawing(&rt, &ON_LONG);
+fn contours_are_added_to_a_large_part(rt: HostRuntime) {
+    assert_drawing(&rt, &ON_LARGE);
 }
 
-/// The long rows have 720 edges. The contour apart from them has 90, all of them in columns where the long rows have one, too.
+/// Each of the three rows has the 120 runs of the large part, and 8 of the 15 of the contour: the other 7 are in columns where the part has
+/// one, too.
 #[test]
-fn counts_the_edges_of_contours_apart(rt: HostRuntime) {
-    let drawing = Drawing::of(&rt, &[ON_LONG[0], ON_LONG[1]]);
+fn counts_the_edges_of_the_runs_of_two_parts(rt: HostRuntime) {
+    let drawing = Drawing::of(&rt, &[ON_LARGE[0], ON_LARGE[1]]);
     let settled = drawing.picture_of_runs(&rt);
-    assert_same(&rt, drawing.picture.edge_count(), 810, "edges of both");
-    assert_same(&rt, settled.edge_count(), 720, "edges of the sum");
+    assert_same(&rt, drawing.picture.edge_count(), 768, "edges of two parts");
+    assert_same(&rt, settled.edge_count(), 768, "edges of one part");
 }
 
-/// Rows that become long. The first contour has 160 edges in each of them, which is too few. After it, the picture looks at its size
-/// again when 192 more edges have come: at the fifth one, with which the rows have 198 edges.
-const BECOME_LONG: [Comb; 6] = [
+/// Small contours after a larger one, which are joined with each other.
+const SMALL: [Comb; 6] = [
     comb_of!(0, 2, 80, -2, 1, 1),
     comb_of!(160, 2, 8, -2, 1, 1),
     comb_of!(176, 2, 8, -2, 1, 1),
@@ -217,28 +215,26 @@ const BECOME_LONG: [Comb; 6] = [
 ];
 
 #[test]
-fn rows_become_long(rt: HostRuntime) {
-    assert_drawing(&rt, &BECOME_LONG);
+fn small_contours_are_joined(rt: HostRuntime) {
+    assert_drawing(&rt, &SMALL);
 }
 
-/// A contour of forty short rows, which has too many edges to stay apart. After it, the rows have few edges on average.
-const BECOME_SHORT: [Comb; 4] = [
-    LONG,
+/// Contours of which one has other rows, too.
+const IN_MORE_ROWS: [Comb; 4] = [
+    LARGE,
     comb_of!(1, 3, 10, -2, 1, 1),
     comb_of!(250, 2, 2, -22, 18, 1),
     comb_of!(0, 4, 10, -2, 1, -1),
 ];
 
 #[test]
-fn long_rows_become_few(rt: HostRuntime) {
-    assert_drawing(&rt, &BECOME_SHORT);
+fn contours_reach_more_rows(rt: HostRuntime) {
+    assert_drawing(&rt, &IN_MORE_ROWS);
 }
 
-/// Contours with a row of 140 edges, which has a list of its own like each of the long rows. The first one of them stays apart, on a short
-/// row of the contour before it. The next one is added to the long rows together with those, and the last one stays apart again. It
-/// cancels teeth of a long row.
-const OWN_LISTS: [Comb; 5] = [
-    LONG,
+/// Contours of size 142, each of which is joined with all parts before it. The last one cancels teeth of the first.
+const HALF_AS_LARGE: [Comb; 5] = [
+    LARGE,
     comb_of!(3, 1, 2, -2, 1, 1),
     comb_of!(1, 2, 70, -1, 0, 2),
     comb_of!(0, 2, 70, -2, -1, -2),
@@ -246,27 +242,27 @@ const OWN_LISTS: [Comb; 5] = [
 ];
 
 #[test]
-fn contours_have_long_rows(rt: HostRuntime) {
-    assert_drawing(&rt, &OWN_LISTS);
+fn larger_contours_are_joined_with_all(rt: HostRuntime) {
+    assert_drawing(&rt, &HALF_AS_LARGE);
 }
 
-/// Contours that cancel long rows, one after another, until nothing is left. None of them stays apart: each has 240 edges.
+/// Contours that cancel the rows of the large part, one after another, until nothing is left.
 const CANCELLED: [Comb; 4] = [
-    LONG,
+    LARGE,
     comb_of!(0, 2, 120, 0, 1, -1),
     comb_of!(0, 2, 120, -2, -1, -1),
     comb_of!(0, 2, 120, -1, 0, -1),
 ];
 
 #[test]
-fn contours_cancel_long_rows(rt: HostRuntime) {
+fn contours_cancel_a_large_part(rt: HostRuntime) {
     assert_drawing(&rt, &CANCELLED);
 }
 
-/// Long rows and contours apart from them. The first two contours reach long rows and change or cancel their edges; row 0 has none of
-/// them. The others are in rows of their own, above and below the long ones.
+/// A large part and contours apart from it. The first two contours change or cancel teeth of it in rows -2 and -1. The others are in rows
+/// of their own, above and below.
 pub(crate) const APART: [Comb; 5] = [
-    LONG,
+    LARGE,
     comb_of!(1, 3, 15, -2, 0, 2),
     comb_of!(0, 4, 10, -2, -1, -1),
     comb_of!(3, 1, 4, 18, 19, 3),
@@ -296,14 +292,14 @@ pub(crate) const APART_MIRRORED: [Comb; 5] = [
     comb_of!(-9, 1, 3, 21, 22, -2),
 ];
 
-/// Long rows and contours apart from them with 180 edges, so many that the next contour finds too little room.
+/// A large part and contours apart from it, which are joined with each other.
 pub(crate) const MANY_APART: [Comb; 3] = [
-    LONG,
+    LARGE,
     comb_of!(1, 3, 15, -2, 1, 2),
     comb_of!(0, 4, 15, -2, 1, -1),
 ];
 
-/// Other long rows, one of them below those, and a contour apart from them.
+/// Another large part, and a contour apart from it.
 pub(crate) const OTHERS: [Comb; 2] = [
     comb_of!(1, 2, 100, -3, -1, -1),
     comb_of!(5, 3, 8, -3, -2, -2),
@@ -311,3 +307,15 @@ pub(crate) const OTHERS: [Comb; 2] = [
 
 /// A contour that is added later.
 pub(crate) const LAST: Comb = comb_of!(2, 2, 6, -3, 1, 1);
+
+/// Contours of the sizes 382, 190, 94, 46, 22, 10 and 4. Each is less than half as large as the one before, so each is a part.
+pub(crate) const PARTS: [Comb; 7] = [
+    comb_of!(-20, 2, 190, 0, 1, 1),
+    comb_of!(-19, 3, 94, 0, 1, 2),
+    comb_of!(0, 4, 46, -1, 0, -1),
+    comb_of!(1, 5, 22, 0, 2, 3),
+    comb_of!(-20, 7, 10, -2, 3, 1),
+    comb_of!(30, 2, 4, 0, 1, -3),
+    // It cancels the first tooth of the first one.
+    comb_of!(-20, 1, 1, -1, 1, -1),
+];

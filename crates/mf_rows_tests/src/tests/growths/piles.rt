@@ -1,11 +1,11 @@
-//! Pictures with long rows, and the newest contours beside these, in which allocations fail.
+//! Pictures of several parts, in which allocations fail.
 
 use crate::tests::assertions::{assert_holds, assert_same};
 use crate::tests::derived::Derived;
-use crate::tests::expect_picture;
 use crate::tests::piles::{
-    APART, APART_CHOSEN, APART_MIRRORED, Comb, Drawing, LAST, MANY_APART, OTHERS,
+    APART, APART_CHOSEN, APART_MIRRORED, Comb, Drawing, LAST, MANY_APART, OTHERS, PARTS,
 };
+use crate::tests::{assert_equality, expect_picture};
 use mf_base::OutOfMemory;
 use mf_rows::AddFault;
 use mf_testing::{grow_again, refuse_growths};
@@ -29,28 +29,41 @@ fn assert_contour_added<R: Abort + AllocGlobal>(rt: &R, combs: &[Comb], last: &C
     drawing.assert_answers(rt, 1);
 }
 
-/// The contour is kept apart.
 #[test]
-fn a_contour_is_added_apart(rt: HostRuntime) {
+fn a_contour_is_added(rt: HostRuntime) {
     assert_contour_added(&rt, &APART, &LAST);
 }
 
-/// The contours that are apart leave too little room for this one, so all of them are added to the long rows.
 #[test]
-fn contours_are_added_to_long_rows(rt: HostRuntime) {
+fn a_contour_is_added_to_those_apart(rt: HostRuntime) {
     assert_contour_added(&rt, &MANY_APART, &LAST);
 }
 
-/// Where an allocation fails, nothing is refused: contours stay apart.
+/// The contour is larger than the last two parts, so it is joined with these, and their sum with those before.
 #[test]
-fn a_picture_is_settled(rt: HostRuntime) {
-    let mut drawing = Drawing::of(&rt, &APART);
+fn a_contour_is_added_to_four_parts(rt: HostRuntime) {
+    assert_contour_added(&rt, &PARTS[3..], &LAST);
+}
+
+/// Asserts that nothing is refused where an allocation fails: parts stay apart.
+fn assert_settled<R: Abort + AllocGlobal>(rt: &R, combs: &[Comb]) {
+    let mut drawing = Drawing::of(rt, combs);
     refuse_growths(rt.alloc());
     drawing.picture.settle(rt.alloc());
     grow_again(rt.alloc());
-    drawing.assert_answers(&rt, 0);
-    drawing.draw(&rt, &LAST);
-    drawing.assert_answers(&rt, 1);
+    drawing.assert_answers(rt, 0);
+    drawing.draw(rt, &LAST);
+    drawing.assert_answers(rt, 1);
+}
+
+#[test]
+fn a_picture_is_settled(rt: HostRuntime) {
+    assert_settled(&rt, &APART);
+}
+
+#[test]
+fn four_parts_are_settled(rt: HostRuntime) {
+    assert_settled(&rt, &PARTS[3..]);
 }
 
 /// Asserts that the second picture of combs is added to the first one, or refused and then added again. The second one stays as it is.
@@ -75,6 +88,16 @@ fn assert_combs_added<R: Abort + AllocGlobal>(rt: &R, combs: &[Comb], others: &[
 #[test]
 fn pictures_with_contours_apart_are_added(rt: HostRuntime) {
     assert_combs_added(&rt, &APART, &OTHERS);
+}
+
+#[test]
+fn a_picture_is_added_to_four_parts(rt: HostRuntime) {
+    assert_combs_added(&rt, &PARTS[3..], &OTHERS);
+}
+
+#[test]
+fn four_parts_are_added(rt: HostRuntime) {
+    assert_combs_added(&rt, &OTHERS, &PARTS[3..]);
 }
 
 /// Asserts that what is made from a picture with contours apart while allocations fail is the sum of these combs, and that this
@@ -109,4 +132,38 @@ fn weights_with_contours_apart_are_chosen(rt: HostRuntime) {
 #[test]
 fn contours_apart_are_mirrored(rt: HostRuntime) {
     assert_makes_apart(&rt, Derived::RowsMirrored, &APART_MIRRORED);
+}
+
+/// Asserts that what is made from four parts while allocations fail is what is made from the same picture as one part.
+fn assert_makes_of_parts<R: Abort + AllocGlobal>(rt: &R, what: Derived) {
+    let drawing = Drawing::of(rt, &PARTS[3..]);
+    let same = drawing.picture_of_runs(rt);
+    let expected = expect_picture(rt, what.of(rt.alloc(), &same));
+    refuse_growths(rt.alloc());
+    let new = what.of(rt.alloc(), &drawing.picture);
+    grow_again(rt.alloc());
+    drawing.assert_answers(rt, 0);
+    let new = match new {
+        Ok(new) => new,
+        Err(fault) => {
+            assert_same(rt, fault, OutOfMemory, what);
+            expect_picture(rt, what.of(rt.alloc(), &drawing.picture))
+        }
+    };
+    assert_equality(rt, &new, &expected, true, what);
+}
+
+#[test]
+fn four_parts_are_copied(rt: HostRuntime) {
+    assert_makes_of_parts(&rt, Derived::Copy);
+}
+
+#[test]
+fn weights_of_four_parts_become_level(rt: HostRuntime) {
+    assert_makes_of_parts(&rt, Derived::Level);
+}
+
+#[test]
+fn four_parts_are_turned(rt: HostRuntime) {
+    assert_makes_of_parts(&rt, Derived::Turned);
 }

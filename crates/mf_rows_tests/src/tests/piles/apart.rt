@@ -1,6 +1,6 @@
-//! Pictures with contours apart from long rows: what is made from them, sums of them, and which weights they refuse.
+//! Pictures with contours apart from a large part: what is made from them, sums of them, and which weights they refuse.
 
-use super::{APART, CANCELLED, Comb, Drawing, LAST, LONG, OTHERS};
+use super::{APART, CANCELLED, Comb, Drawing, LARGE, LAST, OTHERS};
 use crate::tests::assertions::assert_same;
 use crate::tests::derived::Derived;
 use crate::tests::moves::{assert_stays_inside, stretch};
@@ -10,7 +10,7 @@ use mf_edges::Stretch;
 use mf_rows::{AddFault, Picture};
 use std::process::Abort;
 
-/// A contour that cancels all but thirty teeth of the long rows.
+/// A contour that cancels all but thirty teeth of the large part.
 const MOST: Comb = comb_of!(0, 2, 90, -2, 1, -1);
 
 /// Contours that cancel the other teeth, one row after another.
@@ -20,13 +20,12 @@ const REST: [Comb; 3] = [
     comb_of!(180, 2, 30, -1, 0, -1),
 ];
 
-/// The picture in which those teeth are left: a sum, which has its rows in the place of long ones, since one of the two pictures does. As
-/// many edges may be kept apart from them as from those of either picture: 192.
+/// The picture in which those teeth are left.
 fn little_left<R: Abort + AllocGlobal>(rt: &R) -> Drawing {
-    Drawing::of(rt, &[LONG]).with(rt, &Drawing::of(rt, &[MOST]))
+    Drawing::of(rt, &[LARGE]).with(rt, &Drawing::of(rt, &[MOST]))
 }
 
-/// A picture of which nothing is left. The contours that cancel the last teeth have 180 edges, so they stay apart.
+/// A picture of which nothing is left.
 fn nothing_left<R: Abort + AllocGlobal>(rt: &R) -> Drawing {
     let mut drawing = little_left(rt);
     for comb in &REST {
@@ -46,7 +45,11 @@ fn contours_apart_cancel_rows(rt: HostRuntime) {
 }
 
 /// Asserts that what is made from a picture is what is made from another one, which has the same weights.
-fn assert_makes_equal<R: Abort + AllocGlobal>(rt: &R, picture: &Picture, other: &Picture) {
+pub(super) fn assert_makes_equal<R: Abort + AllocGlobal>(
+    rt: &R,
+    picture: &Picture,
+    other: &Picture,
+) {
     for how in Derived::ALL {
         let one = expect_picture(rt, how.of(rt.alloc(), picture));
         let same = expect_picture(rt, how.of(rt.alloc(), other));
@@ -69,7 +72,7 @@ fn pictures_are_made_from_nothing_that_is_left(rt: HostRuntime) {
 }
 
 /// Asserts that a picture is stretched as another one, which has the same weights.
-fn assert_stretched_alike<R: Abort + AllocGlobal>(
+pub(super) fn assert_stretched_alike<R: Abort + AllocGlobal>(
     rt: &R,
     picture: &Picture,
     other: &Picture,
@@ -118,7 +121,7 @@ fn contours_apart_are_added(rt: HostRuntime) {
 }
 
 #[test]
-fn contours_apart_are_added_to_settled_rows(rt: HostRuntime) {
+fn contours_apart_are_added_to_a_settled_picture(rt: HostRuntime) {
     let one = Drawing::of(&rt, &APART);
     let mut other = Drawing::of(&rt, &OTHERS);
     other.picture = other.picture_of_runs(&rt);
@@ -146,7 +149,7 @@ fn pictures_are_settled(rt: HostRuntime) {
     assert_settled(&rt, &mut drawing);
 }
 
-/// Columns and rows of pixels of the picture with contours apart, and whether they have a weight above 0: of a long row alone, of a
+/// Columns and rows of pixels of the picture with contours apart, and whether they have a weight above 0: of the large part alone, of a
 /// contour alone, of both, of neither, and of a tooth that a contour cancels.
 const PIXELS: [(i32, i32, bool); 6] = [
     (2, 0, true),
@@ -185,7 +188,7 @@ fn weights_are_refused_where_contours_are_apart(rt: HostRuntime) {
     }
 }
 
-/// Columns and weights of contours that are added to long rows in which the pixels of column -2 have weight 32765 or -32765, and whether
+/// Columns and weights of contours that are added to a large part in which the pixels of column -2 have weight 32765 or -32765, and whether
 /// they are accepted. The weights have the sign of those pixels. The sum of the greatest ones exceeds 32767 from the third contour on,
 /// and only in column -2 are there weights that would.
 const HEAVY: [(i32, i32, bool); 9] = [
@@ -200,9 +203,9 @@ const HEAVY: [(i32, i32, bool); 9] = [
     (-2, 1, false),
 ];
 
-/// A long picture with a column of this weight.
+/// A large part with a column of this weight.
 fn heavy<R: Abort + AllocGlobal>(rt: &R, weight: i32) -> Drawing {
-    let mut drawing = Drawing::of(rt, &[LONG]);
+    let mut drawing = Drawing::of(rt, &[LARGE]);
     drawing
         .rectangles
         .push(make_rectangle(-2, -2, -1, 1, weight))
@@ -228,7 +231,7 @@ fn assert_heavy<R: Abort + AllocGlobal>(rt: &R, sign: i32) {
 }
 
 #[test]
-fn weights_of_long_rows_are_refused(rt: HostRuntime) {
+fn weights_of_a_large_part_are_refused(rt: HostRuntime) {
     assert_heavy(&rt, 1);
     assert_heavy(&rt, -1);
 }

@@ -1,4 +1,4 @@
-use Rattle.std.proofs.Common.{◌≡◌, [], ap, ◌∙◌, refl, arith}
+use Rattle.std.proofs.Common.{◌≡◌, ℕ, true, nat_eq, List, length, [], ap, ◌∙◌, refl, arith}
 use Rattle.std.proofs.lemmas.Bool.{false≢true}
 use Rattle.std.proofs.lemmas.List.{nil_from_length}
 use Rattle.mf_show.proofs.WrittenRuns.{all_written, first_is_lawful, lines_text, none_written, one_more_written, some_written}
@@ -6,6 +6,10 @@ use Rattle.mf_show.specs.RunText.{run_line}
 use Rattle.mf_show.proofs.run_text.show_runs.Goals as goal
 use Rattle.mf_show.proofs.run_text.show_runs.Goals.{then-is_empty+in_ok-extend_from_slice, else-is_empty}
 use Rattle.std.proofs.lemmas.Int.{ints}
+
+-- a text of length 0 is empty
+none_from_test : (text : List ℕ) → true ≡ nat_eq (length text) 0 → text ≡ []
+none_from_test text test = nil_from_length text (grind (arith, test))
 
 pub loop-run-init : goal.loop-run-init
 loop-run-init c =
@@ -24,7 +28,7 @@ returns c =
     let count = c.loop-run.text.ok.0 in
     elim c.if-is_empty.branch [
       | then-is_empty+in_ok-extend_from_slice w ↦
-          (let empty : c.loop-run.text.items ≡ [] = nil_from_length c.loop-run.text.items (grind (arith, w.if-is_empty.ensures, count)) in
+          (let empty : c.loop-run.text.items ≡ [] = none_from_test c.loop-run.text.items (rw count at w.if-is_empty.ensures) in
           ap (λ v. v.items) w.text-is ∙ w.in_ok-extend_from_slice.ensures.items ∙ rw empty (grind (arith, ints, some_written)))
       | else-is_empty w ↦
           ap (λ v. v.items) w.text-is ∙ lines_text _ _ lines (λ empty. false≢true (w.if-is_empty.ensures ∙ rw (count, empty) refl))

@@ -1,8 +1,11 @@
+use Rattle.std.proofs.lemmas.Result.{IfOk-weaker}
 use Rattle.mf_edges.specs.Axes.{opposite}
-use Rattle.mf_rows.specs.Moves.{moved_rows}
-use Rattle.mf_rows.proofs.PictureRows.{image_made}
+use Rattle.mf_strips.specs.Moves.{moved_rows}
+use Rattle.mf_rows.proofs.PicturePiles.{image_made}
 use Rattle.mf_rows.proofs.picture.Picture.mirror_rows.Goals as goal
-use Rattle.std.proofs.Common.{arith}
 
 pub returns-clause-weights : goal.returns-clause-weights
-returns-clause-weights c = grind (arith, image_made (moved_rows opposite))
+returns-clause-weights c =
+    let weights = rw c.deref.ensures at c.in_ok-mirrored_rows.ensures.weights in
+    rw (← c.self.view_is)
+    (IfOk-weaker c.of_part.result _ _ (λ picture is. image_made (moved_rows opposite) c.self.inside.pile _ _ picture c.in_ok-part.ensures is (λ x y _. weights.weights x y)) c.of_part.ensures.value)

@@ -1,15 +1,17 @@
 use Rattle.std.proofs.lemmas.Result.{IfOk-weaker}
-use Rattle.mf_rows.proofs.StretchBounds.{rows_allowed, weights_stretched}
-use Rattle.mf_rows.proofs.PictureGroups.{picture_of_rows-groups}
+use Rattle.std.proofs.Common.{ℤ}
+use Rattle.mf_edges.specs.Axes.{source_of}
+use Rattle.mf_strips.specs.Moves.{moved_columns, moved_rows}
+use Rattle.mf_rows.proofs.PicturePiles.{image_made, strips_inside}
 use Rattle.mf_rows.proofs.picture.Picture.stretch.Goals as goal
-use Rattle.std.proofs.Common.{arith}
 
-pub stretched_rows-requires-clause-allowed : goal.stretched_rows-requires-clause-allowed
-stretched_rows-requires-clause-allowed c =
-    let rows = c.in_ok-changed.ensures in
-    let picture = picture_of_rows-groups _ c.in_ok-groups.groups.items _ (rw c.deref.ensures.value at rows.all) c.in_ok-groups.ensures.picture in
-    rw c.deref-2.ensures.value
-    (rows_allowed c.args.columns.now c.args.rows.now c.args.self.now _ rows.rows c.requires.inside.up (rw picture c.in_ok-wide.ensures.weights))
+pub stretched-requires-clause-inside : goal.stretched-requires-clause-inside
+stretched-requires-clause-inside c =
+    rw c.deref.ensures (strips_inside c.args.columns.now c.args.rows.now c.self.inside.pile _ c.in_ok-part.ensures (rw (← c.self.view_is) at c.requires.inside))
 
 pub returns-clause-weights : goal.returns-clause-weights
-returns-clause-weights c = grind (arith, picture_of_rows-groups, IfOk-weaker, weights_stretched)
+returns-clause-weights c =
+    let weights = rw c.deref.ensures at c.in_ok-stretched.ensures.weights in
+    let image = λ (f : ℤ → ℤ → ℤ). moved_rows (source_of c.args.rows.now) (moved_columns (source_of c.args.columns.now) f) in
+    rw (← c.self.view_is)
+    (IfOk-weaker c.of_part.result _ _ (λ picture is. image_made image c.self.inside.pile _ _ picture c.in_ok-part.ensures is (λ x y _. weights.weights x y)) c.of_part.ensures.value)

@@ -1,0 +1,25 @@
+-- What a walk over the pixels of a picture has left.
+use Rattle.std.specs.Prelude.{◌≡◌, ℤ, pos, ◌-ℤ◌, ◌≤ℤ◌, ◌<ℤ◌, List, ◌++◌}
+use Rattle.std.specs.Int.RustNames.{unsigned_abs}
+use Rattle.mf_geom.specs.Coordinates.{least_coordinate, greatest_coordinate}
+use Rattle.mf_rows.specs.declared.run.Run.{Run}
+use Rattle.mf_rows.specs.declared.walk.Walk.{Walk}
+use Rattle.mf_rows.specs.Dots.{Dot}
+use Rattle.mf_rows.specs.Runs.{runs_of}
+use Rattle.mf_strips.specs.Spans.{weights_of}
+use Rattle.mf_rows.specs.Weights.{row_of, rows_of}
+
+-- the pixels of nonzero weight from column x of row y on, in reading order
+unfoldable pub dots_from : (ℤ → ℤ → ℤ) → ℤ → ℤ → List Dot
+dots_from f x y = row_of f y x (unsigned_abs (greatest_coordinate -ℤ x)) ++ rows_of f (y -ℤ pos 1) (unsigned_abs (y -ℤ least_coordinate))
+
+-- the runs that are still to come
+abbrev pub remaining_runs : Walk → List Run
+remaining_runs w = runs_of (dots_from (weights_of w.spans) w.x w.y)
+
+-- the pixels from that of s up to that of t in one row were passed, which have the weight ahead of s
+pub record HasPassed (s t : Walk) : Type 0 where
+  pub weights : weights_of t.spans ≡ weights_of s.spans
+  pub row : t.y ≡ s.y
+  pub order : s.x ≤ℤ t.x
+  pub same : (z : ℤ) → s.x ≤ℤ z → z <ℤ t.x → weights_of s.spans z s.y ≡ s.ahead.weight
