@@ -1,5 +1,5 @@
 -- The stretches of a picture, spelled one after another.
-use Rattle.std.proofs.Common.{◌≡◌, ℕ, ℤ, pos, ◌+ℤ◌, List, [], ◌∷◌, ◌++◌, sym, ap, ◌∙◌, arith, append_assoc}
+use Rattle.std.proofs.Common.{◌≡◌, ℕ, ℤ, pos, ◌+ℤ◌, List, [], ◌∷◌, ◌++◌, refl, sym, subst, ap, ◌∙◌, arith, append_assoc}
 use Rattle.std.specs.List.{All}
 use Rattle.std.proofs.lemmas.Int.{ints}
 use Rattle.std.proofs.lemmas.List.{append-nil}
@@ -9,6 +9,7 @@ use Rattle.mf_rows.specs.declared.run.Run.{Run}
 use Rattle.mf_rows.specs.Order.{IsRun}
 use Rattle.mf_gf.specs.declared.spelling.Spelling.{Spelling}
 use Rattle.mf_gf.specs.Spelling.{approach, paint, stretches_text}
+use Rattle.mf_gf.specs.Spellings.{Holds}
 use Rattle.mf_gf.proofs.Writing.{Writes, write_both, write_same}
 
 -- the stretches still to come, from a position of the machine and in a box with this left end
@@ -30,6 +31,18 @@ pub record AreSpelled (before out : Spelling) (text : List ℕ) (c : Coming) : T
   pub runs : All IsRun c.runs
   pub row_in_range : IsCoordinate c.row
   pub column_in_range : IsCoordinate c.column
+
+-- nothing is spelled yet
+pub none_spelled : (before : Spelling) (c : Coming) → All IsRun c.runs → IsCoordinate c.row → IsCoordinate c.column → AreSpelled before before (text_of c) c
+none_spelled before c runs row column = record {
+  written = [];
+  writes = λ text holds. subst (Holds before) (sym (append-nil text)) holds;
+  rest = refl;
+  room = refl;
+  runs = runs;
+  row_in_range = row;
+  column_in_range = column;
+}
 
 module _ (before out : Spelling) (text : List ℕ) (c : Coming) where
   pub next_is_run : (r : Run) (others : List Run) → c.runs ≡ r ∷ others → AreSpelled before out text c → IsRun r

@@ -2,9 +2,8 @@ use Rattle.std.proofs.Common.{◌≡◌, pos, ◌+ℤ◌, to_z, of_z, w32, arith
 use Rattle.std.proofs.lemmas.Int.{ints}
 use Rattle.mf_rows.proofs.PassedRuns.{lawful_runs_of}
 use Rattle.mf_rows.proofs.RunDots.{picture-runs}
-use Rattle.mf_gf.proofs.SpelledRows.{next_is_run, one_more_spelled, all_spelled}
+use Rattle.mf_gf.proofs.SpelledRows.{none_spelled, next_is_run, one_more_spelled, all_spelled}
 use Rattle.mf_gf.proofs.rows.spell_rows.Goals as goal
-use Rattle.std.proofs.lemmas.List.{append-nil}
 
 pub loop-stretch-init : goal.loop-stretch-init
 loop-stretch-init c =
@@ -12,7 +11,7 @@ loop-stretch-init c =
     let top : to_z w32 (of_z w32 b.max_n) ≡ b.max_n = omega (arith, ints) in
     let left : to_z w32 (of_z w32 b.min_m) ≡ b.min_m = omega (arith, ints) in
     let runs = lawful_runs_of _ (picture-runs _ c.requires.order.order) in
-    rw (c.into_iter-stretch-iterator.ensures.into_iter_gives, top, left) (grind (arith, ints, append-nil, c.requires.top, c.requires.left))
+    rw (c.into_iter-stretch-iterator.ensures.into_iter_gives, top, left) (none_spelled _ _ runs c.requires.top c.requires.left)
 
 pub put_stretch-requires-clause-stretch : goal.put_stretch-requires-clause-stretch
 put_stretch-requires-clause-stretch c = next_is_run _ _ _ _ _ _ c.in-Some.ensures.steps c.loop-stretch.invariant
