@@ -43,33 +43,16 @@ void *malloc(size_t size) { return count(size), __libc_malloc(size); }
 void *realloc(void *old, size_t size) { return count(size), __libc_realloc(old, size); }
 """
 
-# The field has 8190 rows, in 512 bands of 16, and these in 32 groups of 16. The list of groups takes 16 bytes for each. A row takes
-# at least 16 bytes, and an edge takes 8.
-FIELD, EDGE = 8190, 8
-ROWS = 16 * FIELD
-GROUPS = 32 * 16
-# A group that is made anew has a list of up to 16 bands, 8 bytes each, which grows by doubling and so allocates at most four times its
-# length. A band that is made anew has up to 17 heads of rows, 32 bytes each, few edges and 72 bytes more. The points of a
-# rectangle and its corners take at most 512 bytes.
-GROUP, BAND, LINE = 4 * 8 * 16, 1024, 512
-# A contour has its rows in a list. It makes two groups anew at most, and the list of groups may have to become longer. Where the newest
-# contours are added to long rows, their list of groups is made as long as that of the newest contours.
-CONTOUR = LINE + 2 * (GROUPS + GROUP)
-# A copy needs a list of groups in the command, in the sum and in the picture that it becomes, and a sum of few groups makes these anew.
-LISTS = 4 * GROUPS
-# Where rows have more than 128 edges on average, a picture keeps the newest contours apart from them, in a second list of groups. They
-# may have this many edges for each of the long rows, or a fourth of the edges of these, which is not more in a comb of 128 teeth. A
-# contour that exceeds that is added to the long rows, after those before it (mf_rows/src/pile.rt).
-NEWEST_EDGES = 64
-# A command that goes through all rows has them in a list, which grows by doubling, and in bands.
-PASS = 3 * 4 * ROWS
-# The edges of a row of a comb. With 128 teeth, those of all rows are ten times a pass.
-TEETH = 128
-COMB = 2 * TEETH * EDGE
-# With 30 teeth and a pole, a row has 62 edges. It is not long, and they are few enough for the list of its band. A band that is made anew
-# first has room for those of each of its rows, and gives back what rows with equal edges do not need.
-FEW = 30
-SHORT = 17 * (2 * FEW + 2) * EDGE
+# A strip takes 8 bytes, and an edge 8. The points of a rectangle and its corners, its two strips, its two edges and the part that has
+# them take at most this together.
+FIELD, STRIP, EDGE, CONTOUR = 8190, 8, 8, 1024
+# A list of parts takes 8 bytes for each. A picture that is copied, or published, needs up to two such lists.
+LISTS = 2 * 8 * 32
+# A command without a contour needs few bytes for itself.
+LINE = 512
+# A comb has two strips and the blank one below it, and a row of its teeth has two edges for each.
+TEETH = 1000
+COMB = (2 * TEETH + 2) * EDGE + 3 * STRIP
 
 
 @dataclasses.dataclass(frozen=True)
@@ -91,104 +74,58 @@ def box(name, left, bottom, right, top):
 
 
 def tall(name):
-    """A line for a picture with a run of 3 pixels in each row of the field. The rows of a band share their edges."""
+    """A line for a picture with a run of 3 pixels in each row of the field."""
     return box(name, 0, -4095, 3, 4095)
 
 
-def comb(name, bottom, top, teeth=TEETH):
-    """A line for a comb in the rows `bottom + 1` to `top - 1`, which are long. The row `bottom` has one run."""
+def comb(name, bottom=0, top=100, teeth=TEETH):
+    """A line for a comb in the rows `bottom + 1` to `top - 1`. The row `bottom` has one run."""
     points = [f"(0,{bottom})", f"({2 * teeth},{bottom})"]
     for right in range(2 * teeth, 0, -2):
         points += [f"({right},{top})", f"({right - 1},{top})", f"({right - 1},{bottom + 1})", f"({right - 2},{bottom + 1})"]
     return f"addto {name} contour {'--'.join(points)}--cycle\n"
 
 
-def stripes(name, teeth=TEETH):
-    """Lines for a comb in all rows of the field, and for a pole in all of them, which the picture keeps apart where those are long."""
-    return comb(name, -4095, 4095, teeth) + box(name, -2, -4095, -1, 4095)
-
-
-def settled_rows(name, teeth=TEETH):
-    """Lines for the same picture after an operation that goes through all rows, and so adds the pole to them where it is apart. Each
-    row has its own edges then, or each band where they are few."""
-    return stripes(name, teeth) + f"{name} := {name} yscaled 1\n"
-
-
 def cases():
     """Commands that share some of a picture, and make the rest anew."""
-    of_tall, of_comb = 3 * FIELD, (TEETH + 1) * FIELD + TEETH
-    a_and_b = tall("a") + "addto b also a\n"
-    # Rows of the first, the second and the last band. The second one begins with row 4078.
-    few = box("b", 1, 4070, 5, 4083) + box("b", 1, -4095, 5, -4094)
-    # Row 15 is the last of a band.
-    halves = box("b", 0, 15, 3, 4095) + box("c", 0, -4095, 3, 15)
-    live = tall("currentpicture")
-    yield Case("a picture made anew", "", tall("a"), {"a": of_tall}, PASS, ROWS)
-    yield Case("a copy", tall("a"), "addto b also a\n", {"a": of_tall, "b": of_tall}, LISTS)
-    yield Case("a sum of few bands and all", tall("a") + few, "addto b also a\n", {"b": of_tall + 56}, LISTS + 2 * GROUP + 3 * BAND)
-    # The rows that are subtracted are negated first, so each band that both pictures have is made twice.
-    shown = {"a": of_tall - 56, "b": 56}
-    yield Case("a difference of all bands and few", tall("a") + few, "addto a also -b\n", shown, LISTS + 2 * GROUP + 3 * 2 * BAND)
-    yield Case("a sum of two halves", halves, "addto b also c\n", {"b": of_tall, "c": 3 * 4110}, LISTS + GROUP + BAND)
-    yield Case("nothing is added", tall("a"), "addto a also nullpicture\n", {"a": of_tall}, LINE)
-    for bottom, top in [(0, 1), (4078, 4079), (-4095, -4094)]:
-        line, shown = box("b", 1, bottom, 5, top), {"a": of_tall, "b": of_tall + 4}
-        yield Case("a row of one band", a_and_b, line, shown, CONTOUR + 2 * BAND)
-    line, shown = box("b", 1, 4078, 5, 4080), {"a": of_tall, "b": of_tall + 8}
-    yield Case("a row of each of two bands", a_and_b, line, shown, CONTOUR + 4 * BAND)
-    yield Case("a publish", live, "publish\n", {"currentpicture": of_tall}, LISTS)
-    line, shown = box("currentpicture", 1, 0, 5, 1), {"currentpicture": of_tall + 4}
-    yield Case("a row of one band after a publish", live + "publish\n", line, shown, CONTOUR + 2 * BAND)
-    yield from on_long_rows(of_comb)
-    yield from on_settled_rows(of_comb)
+    of_tall, of_comb = 3 * FIELD, 99 * TEETH + 2 * TEETH
+    yield Case("equal rows", "", tall("a"), {"a": of_tall}, CONTOUR)
+    yield Case("nothing is added", comb("a"), "addto a also nullpicture\n", {"a": of_comb}, LINE)
+    yield Case("a copy", comb("a"), "addto b also a\n", {"a": of_comb, "b": of_comb}, LINE + LISTS)
+    live = comb("currentpicture")
+    yield Case("a publish", live, "publish\n", {"currentpicture": of_comb}, LINE + LISTS)
+    # A contour is a part of its own, and stays apart from a part that is more than twice as large.
+    line, shown = box("a", -9, -9, -8, 9), {"a": of_comb + 18}
+    yield Case("a contour beside a large part", comb("a"), line, shown, CONTOUR)
+    yield Case("a contour on a copy", comb("a") + "addto b also a\n", line, shown, CONTOUR + LISTS)
+    line, shown = box("currentpicture", -9, -9, -8, 9), {"currentpicture": of_comb + 18}
+    yield Case("a contour after a publish", live + "publish\n", line, shown, CONTOUR + LISTS)
+    before = live + box("currentpicture", -9, -9, -8, 9)
+    yield Case("a publish of two parts", before, "publish\n", {"currentpicture": of_comb + 18}, LINE + LISTS)
+    # A picture of one part is shared where it is added to a part that is more than twice as large.
+    before = comb("a") + comb("b", -10, -5, TEETH // 4)
+    small = 2 * (TEETH // 4) + 4 * (TEETH // 4)
+    yield Case("a small picture beside a large part", before, "addto a also b\n", {"a": of_comb + small, "b": small}, LINE + LISTS)
+    yield from of_one_part(of_comb)
 
 
-def on_long_rows(of_comb):
-    """Contours that are kept apart from long rows."""
-    # The contour is added to the pole, so it makes short rows anew, however long the others are. All rows of a comb would need ten
-    # times a pass, and those of a band ten times as much as is allowed.
-    for about, bottom, top, bands in [("a row", 4070, 4071, 1), ("a band", 4063, 4079, 1), ("two bands", 4047, 4079, 2)]:
-        line, shown = box("a", -9, bottom, -8, top), {"a": of_comb + top - bottom}
-        yield Case(f"a contour on {about} of long rows", stripes("a"), line, shown, CONTOUR + 2 * bands * BAND)
-    line, shown = box("a", -9, -4094, -8, 4095), {"a": of_comb + FIELD - 1}
-    yield Case("a contour on all long rows", stripes("a"), line, shown, PASS)
-    # A copy of a picture shares both of its lists of groups.
-    yield Case("a copy of long rows", stripes("a"), "addto b also a\n", {"b": of_comb}, 2 * LISTS)
-    live, line = stripes("currentpicture"), box("currentpicture", -9, 4070, -8, 4071)
-    yield Case("a publish of long rows", live, "publish\n", {"currentpicture": of_comb}, 2 * LISTS)
-    shown = {"currentpicture": of_comb + 1}
-    yield Case("a contour on long rows after a publish", live + "publish\n", line, shown, CONTOUR + 2 * BAND)
-    # A box in the 16 rows of a band has 32 edges, so as many boxes as this stay apart from the long rows. The one after them finds no
-    # room: the boxes are added to the long rows, of which the band has 15, and then it is. Half as much again is for the rest of a row.
-    line, count, bands = box("a", -9, 4063, -8, 4079), NEWEST_EDGES // 2, comb("a", 4063, 4079)
-    total, least = 15 * TEETH + 2 * TEETH, 15 * COMB
-    shown = {"a": total + 16 * count}
-    yield Case("the last contour apart from long rows", bands + (count - 1) * line, line, shown, CONTOUR + 2 * BAND)
-    shown, most = {"a": total + 16 * (count + 1)}, 2 * (CONTOUR + 2 * BAND + least * 3 // 2)
-    yield Case("contours are added to long rows", bands + count * line, line, shown, most, least)
-    # The rows of a comb share their edges until the pole is added to them. That is done once; then a pass makes the cull.
-    line, least = "cull a keeping (1,3) withweight 2\n", (FIELD - 1) * COMB
-    yield Case("a cull of long rows", stripes("a"), line, {"a": 2 * of_comb}, least * 3 // 2 + PASS, least)
-
-
-def on_settled_rows(of_comb):
-    """Commands on a picture all of whose contours are in its long rows. The first contour is added to them: a picture that an
-    operation has made anew does not know yet how long its rows are, and how great its weights."""
-    # Every row that is reached gets its own edges. Half as much again is for the rest of the row, and for the line.
-    for about, bottom, top in [("a band", 4063, 4079), ("two bands", 4047, 4079), ("all rows", -4094, 4095)]:
-        least = (top - bottom) * COMB
-        line, shown = box("a", -9, bottom, -8, top), {"a": of_comb + top - bottom}
-        yield Case(f"edges of {about}", settled_rows("a"), line, shown, least * 3 // 2, least)
-    # Only the row that is reached gets its own edges; the other rows of its band share theirs.
-    line, shown = box("a", -9, 4070, -8, 4071), {"a": of_comb + 1}
-    yield Case("edges of one row", settled_rows("a"), line, shown, CONTOUR + 2 * BAND + COMB * 3 // 2, COMB)
-    line, shown = box("a", -9, 4070, -8, 4071), {"a": (FEW + 1) * FIELD + FEW + 1}
-    yield Case("a row of a band with one list", settled_rows("a", FEW), line, shown, CONTOUR + 2 * BAND + SHORT)
-    line, shown = "cull a keeping (1,3) withweight 2\n", {"a": 2 * of_comb}
-    yield Case("a cull of equal rows", settled_rows("a"), line, shown, PASS)
-    yield Case("a negation of equal rows", settled_rows("a"), "addto b also -a\n", {"b": -of_comb}, LISTS + PASS)
-    # A scale by a negative factor reflects first, and then stretches.
-    yield Case("mirrored rows", settled_rows("a"), "a := a yscaled -1\n", {"a": of_comb}, 2 * PASS)
+def of_one_part(of_comb):
+    """Commands that make a part anew, of which no more is made than what is needed."""
+    # A part that is made has room for all strips and edges of those that it is made from, and gives back what is left over.
+    before, both = comb("a") + comb("b", -200, -100), {"a": 2 * of_comb}
+    yield Case("two parts of one size", before, "addto a also b\n", both, LINE + LISTS + 2 * COMB + COMB // 2, 2 * COMB - STRIP)
+    # What is subtracted is negated first.
+    both = {"a": 0, "b": of_comb}
+    yield Case("two parts that cancel", comb("a") + comb("b", -200, -100), "addto a also -b\n", both, LINE + LISTS + 4 * COMB, 3 * COMB - STRIP)
+    both = {"a": of_comb}
+    yield Case("a shift", comb("a"), "a := a shifted (3,-17)\n", both, LINE + LISTS + COMB + COMB // 4, COMB)
+    yield Case("a reflection", comb("a"), "a := a yscaled -1\n", both, LINE + LISTS + 2 * (COMB + COMB // 4), COMB)
+    # Each row that changes is made by itself, and then becomes one of the part.
+    most = LINE + LISTS + 2 * COMB + COMB // 2
+    yield Case("a cull", comb("a"), "cull a keeping (1,3) withweight 2\n", {"a": 2 * of_comb}, most, COMB)
+    # The parts are joined first.
+    before, shown = comb("a") + box("a", -9, -9, -8, 9), {"a": 2 * of_comb + 36}
+    yield Case("a cull of two parts", before, "cull a keeping (1,3) withweight 2\n", shown, most + COMB + COMB // 4, 2 * COMB)
 
 
 class Counter:
