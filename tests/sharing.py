@@ -45,13 +45,13 @@ void *realloc(void *old, size_t size) { return count(size), __libc_realloc(old, 
 
 # A strip takes 8 bytes, and an edge 8. The points of a rectangle and its corners, its two strips, its two edges and the part that has
 # them take at most this together.
-FIELD, STRIP, EDGE, CONTOUR = 8190, 8, 8, 1024
+FIELD, STRIP, EDGE, CONTOUR = 8190, 8, 8, 2048
 # A list of parts takes 8 bytes for each. A picture that is copied, or published, needs up to two such lists.
 LISTS = 2 * 8 * 32
 # A command without a contour needs few bytes for itself.
-LINE = 512
+LINE = 1024
 # A comb has two strips and the blank one below it, and a row of its teeth has two edges for each.
-TEETH = 1000
+TEETH = 200
 COMB = (2 * TEETH + 2) * EDGE + 3 * STRIP
 
 

@@ -65,6 +65,17 @@ fn changed<R: Abort + AllocGlobal>(rt: &R, one: &Picture, other: &Picture, plus:
     new
 }
 
+/// Adds a contour to a picture.
+fn add_last<R: Abort + AllocGlobal>(rt: &R, picture: &mut Picture) {
+    let corners = LAST.corners(rt).expect(rt, "there is room for corners");
+    assert_same(
+        rt,
+        picture.add_corners(rt.alloc(), corners),
+        Ok(()),
+        "a contour",
+    );
+}
+
 /// Asserts that sums and differences of two pictures are those of the same pictures as one part, also after a contour, and that they are
 /// undone by the opposite.
 fn assert_changes<R: Abort + AllocGlobal>(rt: &R, one: &Picture, other: &Picture) {
@@ -75,10 +86,8 @@ fn assert_changes<R: Abort + AllocGlobal>(rt: &R, one: &Picture, other: &Picture
         assert_equality(rt, &new, &expected, true, plus);
         let back = changed(rt, &new, other, !plus);
         assert_equality(rt, &back, one, true, ("back", plus));
-        for picture in [&mut new, &mut expected] {
-            let corners = LAST.corners(rt).expect(rt, "there is room for corners");
-            assert_same(rt, picture.add_corners(rt.alloc(), corners), Ok(()), plus);
-        }
+        add_last(rt, &mut new);
+        add_last(rt, &mut expected);
         assert_equality(rt, &new, &expected, true, ("a contour", plus));
     }
 }
