@@ -26,11 +26,8 @@ pub fn sum_of_parts(alloc: Global, left: &Part, right: &Part) -> Result<Part, Ad
         → IsUnlawfulSomewhere (sum_in_strips (strips_in left.now) (strips_in right.now))) }
 {
     let most = left.reach() + right.reach();
-    let mut sum = PartWriter::with_room(
-        alloc,
-        left.heads.len().saturating_add(right.heads.len()),
-        left.edges.len().saturating_add(right.edges.len()),
-    )?;
+    let heads = left.heads.len().saturating_add(right.heads.len());
+    let mut sum = PartWriter::with_room(alloc, heads, most_edges(left, right, heads))?;
     let (mut left, mut right) = (Side::of(left.strips()), Side::of(right.strips()));
     let mut reach = 0;
     while let Some(top) = higher_of(left.top(), right.top()) {
@@ -39,6 +36,22 @@ pub fn sum_of_parts(alloc: Global, left: &Part, right: &Part) -> Result<Part, Ad
         reach = reach.max(push_sum(&mut sum, top, &left, &right, most)?);
     }
     Ok(sum.finish(reach))
+}
+
+/// How many edges the sum of two parts has at most, which have so many strips together: each of its strips has at most those of both.
+fn most_edges(left: &Part, right: &Part, strips: usize) -> usize {
+    let (mut left, mut right) = (Side::of(left.strips()), Side::of(right.strips()));
+    let mut most = 0usize;
+    for _ in 0..strips {
+        let Some(top) = higher_of(left.top(), right.top()) else {
+            break;
+        };
+        left.pass(top);
+        right.pass(top);
+        most = most.saturating_add(left.row.len());
+        most = most.saturating_add(right.row.len());
+    }
+    most
 }
 
 /// Appends the sum of the rows that were passed last, none of whose weights exceeds `most` in absolute value, and answers a reach of it.
