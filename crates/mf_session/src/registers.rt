@@ -51,6 +51,14 @@ impl Registers {
         &self.pictures[number as usize]
     }
 
+    /// Joins the parts of the picture of a register, as far as there is memory for that. The picture stays as it is.
+    pub fn settle(&mut self, alloc: Global, number: u8)
+        requires { number < COUNT }
+        ensures { self.new ≡ self.old }
+    {
+        self.pictures[number as usize].settle(alloc);
+    }
+
     /// Performs an operation on the picture of a register. It is refused as `mf_ops::apply` refuses it, and then nothing changes.
     pub fn apply(&mut self, alloc: Global, number: u8, op: &Op) -> Result<(), OpFault>
         requires { number < COUNT }

@@ -139,7 +139,10 @@ impl Session {
         ensures identity { identity self.new ≡ identity self.old }
     {
         match read {
-            Ok(command) => self.perform(rt, alloc, command),
+            Ok(command) => {
+                self.settle(alloc, &command);
+                self.perform(rt, alloc, command)
+            }
             Err(TextFault::OutOfMemory) => Err(OutOfMemory),
             Err(fault) => refusal_line(alloc, Refusal::Line(fault)),
         }

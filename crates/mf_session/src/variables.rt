@@ -87,6 +87,20 @@ impl Variables {
         }
     }
 
+    /// Joins the parts of the picture that a command reads, as far as there is memory for that. All pictures stay as they are.
+    pub fn settle(&mut self, alloc: Global, source: &Source)
+        requires { IsSource source.now }
+        ensures pictures { pictures self.new ≡ pictures self.old }
+        ensures max_ops { max_ops self.new ≡ max_ops self.old }
+        ensures identity { identity self.new ≡ identity self.old }
+    {
+        match source {
+            Source::Null => {}
+            Source::Named(Name::Current) => self.writer.settle(alloc),
+            Source::Named(Name::Register(number)) => self.registers.settle(alloc, *number),
+        }
+    }
+
     /// Adds or subtracts a picture. It may be the one that is changed, and then has its value before the command.
     pub fn add(
         &mut self,

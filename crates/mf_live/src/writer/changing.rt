@@ -55,6 +55,13 @@ impl Writer {
         &self.holder.working
     }
 
+    /// Joins the parts of the working picture, as far as there is memory for that. The picture stays as it is, and is faster to read.
+    pub fn settle(&mut self, alloc: Global)
+        ensures { IsSameWriter self.old self.new }
+    {
+        self.holder.working.settle(alloc);
+    }
+
     /// Its revision: how many operations were accepted.
     pub fn revision(&self) -> u32
         ensures { result ≡ revision_at (accepted_list self.now) }

@@ -67,6 +67,21 @@ impl Session {
         self.variables.operate(alloc, name, op)
     }
 
+    /// Joins the parts of a picture whose pixels a command all reads, as far as there is memory for that: read again, it costs less.
+    pub(crate) fn settle(&mut self, alloc: Global, command: &Command)
+        requires { HasNames command.now }
+        ensures same { (s : State) → StandsFor self.old s → StandsFor self.new s }
+        ensures limits { limits self.new ≡ limits self.old }
+        ensures identity { identity self.new ≡ identity self.old }
+    {
+        match command {
+            Command::Show(source) => self.variables.settle(alloc, source),
+            Command::Proof(source) => self.variables.settle(alloc, source),
+            Command::Ship(source, _, _, _) => self.variables.settle(alloc, source),
+            _ => {}
+        }
+    }
+
     /// Sets the turning check. It prints nothing.
     fn set_check(&mut self, alloc: Global, check: Check) -> Vec<u8>
         ensures text { result.items ≡ [] }
