@@ -10,7 +10,7 @@ use Rattle.mf_rows.specs.declared.bounds.Pixels.TheVariants.{Nonzero, Black}
 use Rattle.mf_rows.specs.Bounds.{AreBounds, IsBoxRound, IsLeastBox, among_dots, is_positive_at}
 use Rattle.mf_rows.specs.Dots.{Dot, IsDot, IsPicture, start_of_field, weight_at}
 use Rattle.mf_rows.proofs.DotsLemmas.{dots_from-lawful, weight_at-dot, weight_at-elsewhere}
-use Rattle.mf_rows.proofs.EdgeRowsLemmas.{by_same}
+use Rattle.mf_rows.proofs.PlacesLemmas.{by_same}
 use Rattle.mf_rows.proofs.BoxesJoined.{any_right, box_of_some}
 
 -- ---- pixels of nonzero weight

@@ -2,10 +2,8 @@ pub mod BlankPictures
 pub mod BoundsInField
 pub mod BoxesJoined
 pub mod BoxesOfDots
-pub mod BuildingLemmas
 pub mod DotsLemmas
 pub mod EdgeCountsLemmas
-pub mod EdgeRowsLemmas
 pub mod EqualRuns
 pub mod FieldTotals
 pub mod LeastBoxes
@@ -13,13 +11,11 @@ pub mod MaximalRuns
 pub mod PassedPixels
 pub mod PassedRuns
 pub mod PicturePiles
-pub mod PictureRows
 pub mod PlacesLemmas
 pub mod RemainingLemmas
-pub mod RowStrips
 pub mod RunBoxes
+pub mod RunCorners
 pub mod RunDots
-pub mod RunEdges
 pub mod RunsLemmas
 pub mod StretchBounds
 pub mod WeightsLemmas

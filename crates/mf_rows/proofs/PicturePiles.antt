@@ -1,12 +1,15 @@
 -- The pictures of piles.
 use Rattle.std.proofs.Common.{◌≡◌, ◌≢◌, ℤ, pos, neg_ℤ, ◌+ℤ◌, ◌-ℤ◌, ◌≤ℤ◌, ◌<ℤ◌, List, [], ◌∷◌, refl, ap, sym, subst, ◌∙◌, arith}
 use Rattle.std.specs.Arc.{arc_value}
+use Rattle.std.specs.List.{All}
 use Rattle.std.specs.declared.alloc.Global.{Global}
 use Rattle.std.specs.declared.sync.Arc.{Arc}
 use Rattle.std.proofs.lemmas.Int.{ints, by_lt_z}
+use Rattle.std.proofs.lemmas.List.Elements.{All-head, All-tail}
 use Rattle.mf_geom.specs.Coordinates.{least_coordinate, greatest_coordinate, last_in_field}
 use Rattle.mf_geom.specs.Field.{IsInField}
 use Rattle.mf_edges.specs.declared.edge.Edge.{Edge}
+use Rattle.mf_edges.specs.Edges.{AreEdges, weight_in}
 use Rattle.mf_edges.specs.LawfulWeights.{IsLawfulWeight}
 use Rattle.mf_edges.specs.Axes.{PlaceStaysInside}
 use Rattle.mf_edges.specs.declared.stretch.Stretch.{Stretch}
@@ -97,6 +100,29 @@ blank_pile p none =
     same_pictures (picture_of (weight_in_pile p)) [] (lawful_pile p) (record { dots = tt })
     (record { same = λ x y inside. pile_weight p x y ∙ ap (λ ps. weight_in_parts ps x y) none })
 
+-- ---- the rows of edges of parts
+
+pub edges_of_part : (p : Part) (x y : ℤ) → weight_in_part p x y ≡ weight_in (row_in [] (strips_in p) y) x
+unfolding weight_in_strips
+edges_of_part p x y = refl
+
+pub rows_of_part : (p : Part) (y : ℤ) → AreEdges (row_in [] (strips_in p) y)
+rows_of_part p y = row_lawful greatest_coordinate p.reach [] (strips_in p) y no_edges p.lawful.strips
+
+no_edges_of_parts : (ps : List (Arc Part Global)) (x y : ℤ) → All (λ q. row_in [] (strips_in (arc_value q)) y ≡ []) ps → weight_in_parts ps x y ≡ pos 0
+unfolding weight_in_parts weight_in_strips
+no_edges_of_parts [] x y none = refl
+no_edges_of_parts (p ∷ ps) x y none =
+    let has_none = λ (q : Arc Part Global). row_in [] (strips_in (arc_value q)) y ≡ [] in
+    let own = ap (λ es. weight_in es x) (All-head has_none p ps none) ∙ no_weight x in
+    omega (arith, ints, own, no_edges_of_parts ps x y (All-tail has_none p ps none))
+
+pub other_rows : (p : Pile) (x y : ℤ) → All (λ q. row_in [] (strips_in (arc_value q)) y ≡ []) p.parts.items → weight_at (picture_of (weight_in_pile p)) x y ≡ pos 0
+other_rows p x y none = pile_weight p x y ∙ no_edges_of_parts p.parts.items x y none
+
+-- what `weight_is_the_sum_of_edges` says
+pub ruleset weights_of_edges = (lawful_pile, pile_weight, edges_of_part, other_rows)
+
 -- ---- what becomes of a picture
 
 -- a picture whose part has these weights in the field
@@ -140,6 +166,10 @@ sum_unlawful old part added is f sum somewhere =
     let y = somewhere.y in
     let same : f x y ≡ weight_with_part old part x y = omega (arith, ints, pile_weight old x y, is x y somewhere.in_field, sum x y) in
     record { x = x; y = y; in_field = somewhere.in_field; unlawful = λ lawful. somewhere.unlawful (subst IsLawfulWeight same lawful) }
+
+pub unlawful_as : {f g : ℤ → ℤ → ℤ} (unlawful : IsUnlawfulSomewhere f) → (IsInField unlawful.x unlawful.y → g unlawful.x unlawful.y ≡ f unlawful.x unlawful.y)
+    → IsUnlawfulSomewhere g
+unlawful_as unlawful same = grind (arith, ints)
 
 -- ---- stretches
 

@@ -1,40 +1,26 @@
 -- The least box of pixels of some kind, grown run by run.
-use Rattle.std.proofs.Common.{◌≡◌, true, false, ℤ, pos, ◌+ℤ◌, ◌-ℤ◌, ◌≤ℤ◌, ◌<ℤ◌, List, [], ◌∷◌, ◌++◌, Option, None, Some}
+use Rattle.std.proofs.Common.{◌≡◌, true, false, ℤ, pos, ◌+ℤ◌, ◌-ℤ◌, List, [], ◌∷◌, ◌++◌, Option, None, Some}
 use Rattle.std.proofs.Common.{refl, sym, ap, subst, ◌∙◌, append-nil, append_assoc, arith}
 use Rattle.std.specs.List.{flat_map}
 use Rattle.std.proofs.lemmas.Bool.{false≢true}
-use Rattle.std.proofs.lemmas.Int.{ints, clamps, by_lt_z}
+use Rattle.std.proofs.lemmas.Int.{ints, clamps}
 use Rattle.std.proofs.lemmas.List.Concat.{flat_map-append}
-use Rattle.std.proofs.lemmas.List.Elements.{All-nil, All-append, All-weaker}
 use Rattle.mf_rows.specs.declared.bounds.Box4.{Box4}
 use Rattle.mf_rows.specs.declared.bounds.Pixels.{Pixels}
 use Rattle.mf_rows.specs.declared.bounds.Pixels.TheVariants.{Nonzero, Black}
 use Rattle.mf_rows.specs.declared.run.Run.{Run}
 use Rattle.mf_rows.specs.Bounds.{AreBounds, IsBoxRound, IsIn, among_dots, box_of_run, is_among, with_box}
 use Rattle.mf_rows.specs.Boxes.{box_round_both}
-use Rattle.mf_rows.specs.Dots.{Dot, place, weight_at, start_of_field}
+use Rattle.mf_rows.specs.Dots.{Dot, weight_at, start_of_field}
 use Rattle.mf_rows.specs.Order.{AreRuns, AreRunsFrom, Fits, IsRun}
 use Rattle.mf_rows.specs.Runs.{dots_of}
 use Rattle.mf_rows.proofs.BoxesJoined.{either_min, either_max}
-use Rattle.mf_rows.proofs.DotsLemmas.{weight_at-after}
 use Rattle.mf_rows.proofs.LeastBoxes.{same_bounds}
-use Rattle.mf_rows.proofs.EdgeRowsLemmas.{by_same}
-use Rattle.mf_rows.proofs.RunDots.{IsOnRun, weight_at-on_run, weight_at-off_run, before_equal_dots-end, place-le}
+use Rattle.mf_rows.proofs.RunDots.{IsOnRun, by_on_run, fits_next, weight_at-before_run, weight_at-on_run, weight_at-off_run}
 
 zero_is_none : (p : Pixels) → is_among p (pos 0) ≡ false
 zero_is_none Nonzero = refl
 zero_is_none Black = refl
-
--- a pixel is on a run or not
-by_on_run : {P : Type 0} (r : Run) (x y : ℤ) → (IsOnRun r x y → P) → ((IsOnRun r x y → ⊥) → P) → P
-by_on_run r x y on off =
-    by_same r.y y
-    (λ row. by_lt_z x r.x
-    (λ before. off (λ is. omega (arith, ints, is.left)))
-    (λ left. by_lt_z x (r.x +ℤ pos r.len)
-    (λ right. on (record { row = row; left = left; right = right }))
-    (λ after. off (λ is. omega (arith, ints, is.right)))))
-    (λ apart. off (λ is. apart is.row))
 
 within_first : (a b : Box4) (x y : ℤ) → IsIn a x y → IsIn (box_round_both a b) x y
 within_first a b x y inside = grind (arith, ints, clamps)
@@ -56,10 +42,7 @@ module _ (p : Pixels) (ds : List Dot) (r : Run) (fits : Fits ds r) where
   -- no dot before the run is on it
   none_on_run : (x y : ℤ) → IsOnRun r x y → among_dots p ds x y ≡ false
   unfolding among_dots
-  none_on_run x y on =
-      let further : place r.x r.y ≤ℤ place x y = subst (λ v. place r.x r.y ≤ℤ place x v) on.row (place-le r.x x r.y on.left) in
-      ap (is_among p) (weight_at-after ds x y (All-weaker (λ d. place d.x d.y <ℤ place r.x r.y) (λ d. place d.x d.y <ℤ place x y) (λ d lower. omega (arith, ints)) ds fits.before))
-      ∙ zero_is_none p
+  none_on_run x y on = ap (is_among p) (weight_at-before_run ds r x y fits on) ∙ zero_is_none p
 
   still_true : (x y : ℤ) → among_dots p ds x y ≡ true → among_dots p (ds ++ dots_of r) x y ≡ true
   still_true x y found = by_on_run r x y (λ on. absurd (false≢true (sym (none_on_run x y on) ∙ found))) (λ off. off_run x y off ∙ found)
@@ -111,22 +94,6 @@ pub record AreBoundsBefore (p : Pixels) (all rest : List Run) (bounds : Option B
 pub no_bounds : (p : Pixels) (rs : List Run) → AreBoundsBefore p rs rs None
 unfolding among_dots weight_at
 no_bounds p rs = record { passed = []; split = refl; box = λ x y. zero_is_none p }
-
--- each run fits after those before it
-fits_next : (low : ℤ) (passed : List Run) (r : Run) (others : List Run) → AreRunsFrom low (passed ++ r ∷ others)
-    → (low ≤ℤ place r.x r.y) × Fits (flat_map dots_of passed) r
-unfolding dots_of
-fits_next low [] r others runs = (runs.1, record { run = runs.0; before = All-nil (λ d. place d.x d.y <ℤ place r.x r.y) })
-fits_next low (q ∷ qs) r others runs =
-    let later = fits_next (place (q.x +ℤ pos q.len) q.y) qs r others runs.2 in
-    let further = place-le q.x (q.x +ℤ pos q.len) q.y (omega (arith, ints)) in (
-      omega (arith, ints, runs.1, later.0),
-      record {
-        run = later.1.run;
-        before = All-append (λ d. place d.x d.y <ℤ place r.x r.y) (dots_of q) (flat_map dots_of qs)
-            (before_equal_dots-end q.y q.x q.weight q.len (place r.x r.y) later.0) later.1.before;
-      },
-    )
 
 module _ (p : Pixels) (all rest : List Run) (bounds : Option Box4) (r : Run) (others : List Run) (runs : AreRuns all)
     (next : rest ≡ r ∷ others) (so_far : AreBoundsBefore p all rest bounds) where

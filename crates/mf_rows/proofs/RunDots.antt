@@ -4,15 +4,15 @@ use Rattle.std.proofs.Common.{refl, sym, ap, append-nil, ◌∙◌, subst, arith
 use Rattle.std.specs.List.{All, flat_map}
 use Rattle.std.specs.Ordering.{int_eq}
 use Rattle.std.proofs.lemmas.Int.{ints, by_lt_z}
-use Rattle.std.proofs.lemmas.List.Elements.{All-nil, All-cons, All-head, All-tail, All-weaker}
+use Rattle.std.proofs.lemmas.List.Elements.{All-nil, All-cons, All-append, All-head, All-tail, All-weaker}
 use Rattle.mf_geom.specs.Coordinates.{last_in_field}
 use Rattle.mf_rows.specs.declared.run.Run.{Run}
 use Rattle.mf_edges.specs.LawfulWeights.{IsLawfulWeight}
 use Rattle.mf_rows.specs.Dots.{Dot, IsPicture, AreDotsFrom, place, start_of_field, weight_at}
 use Rattle.mf_rows.specs.Order.{AreBefore, IsRun, AreRunsFrom, AreRuns, Fits}
 use Rattle.mf_rows.specs.Runs.{equal_dots, dots_of, AreMaximal}
-use Rattle.mf_rows.proofs.DotsLemmas.{weight_at-here, weight_at-elsewhere, weight_at-before, not_at, dots_from-lower, dots_from-append}
-use Rattle.mf_rows.proofs.PlacesLemmas.{AreFieldColumns, first_column, next_columns, place-next, start_of_field-le}
+use Rattle.mf_rows.proofs.DotsLemmas.{weight_at-here, weight_at-elsewhere, weight_at-after, weight_at-before, not_at, dots_from-lower, dots_from-append}
+use Rattle.mf_rows.proofs.PlacesLemmas.{AreFieldColumns, by_same, first_column, next_columns, place-next}
 
 pub equal_dots-from : (y x w : ℤ) (n : ℕ) → AreFieldColumns x y n → IsLawfulWeight w → w ≢ pos 0 → AreDotsFrom (place x y) (equal_dots y x w n)
 unfolding equal_dots
@@ -20,21 +20,22 @@ equal_dots-from y x w zero columns lawful nonzero = tt
 equal_dots-from y x w (suc n) columns lawful nonzero =
     grind (arith, ints, first_column, place-next, next_columns, equal_dots-from y (x +ℤ pos 1) w n (next_columns x y n columns) lawful nonzero)
 
--- a picture followed by a run that fits is a picture
-pub picture-push : (ds : List Dot) (r : Run) → IsPicture ds → Fits ds r → IsPicture (ds ++ dots_of r)
-unfolding dots_of
-picture-push ds r picture fits =
-    let run = fits.run in
-    let start = start_of_field-le r.x r.y (record { left = run.left; right = omega (arith, ints, run.right, run.some); bottom = run.bottom; top = run.top }) in
-    let columns : AreFieldColumns r.x r.y r.len = record { left = run.left; right = run.right; bottom = run.bottom; top = run.top } in
-    let own = equal_dots-from r.y r.x r.weight r.len columns run.lawful run.nonzero in
-    record { dots = dots_from-append start_of_field (place r.x r.y) ds (equal_dots r.y r.x r.weight r.len) start picture.dots fits.before own }
-
 -- a pixel of a run
 pub record IsOnRun (r : Run) (x y : ℤ) : Type 0 where
   pub row : r.y ≡ y
   pub left : r.x ≤ℤ x
   pub right : x <ℤ (r.x +ℤ pos r.len)
+
+-- a pixel is on a run or not
+pub by_on_run : {P : Type 0} (r : Run) (x y : ℤ) → (IsOnRun r x y → P) → ((IsOnRun r x y → ⊥) → P) → P
+by_on_run r x y on off =
+    by_same r.y y
+    (λ row. by_lt_z x r.x
+    (λ before. off (λ is. omega (arith, ints, is.left)))
+    (λ left. by_lt_z x (r.x +ℤ pos r.len)
+    (λ right. on (record { row = row; left = left; right = right }))
+    (λ after. off (λ is. omega (arith, ints, is.right)))))
+    (λ apart. off (λ is. apart is.row))
 
 pub weight_at-equal_dots : (y x w : ℤ) (n : ℕ) (u : ℤ) → x ≤ℤ u → u <ℤ (x +ℤ pos n) → weight_at (equal_dots y x w n) u y ≡ w
 unfolding equal_dots
@@ -75,6 +76,12 @@ pub place-le : (x u y : ℤ) → x ≤ℤ u → place x y ≤ℤ place u y
 unfolding place
 place-le x u y le = omega (arith, ints)
 
+-- no dot before a run is on it
+pub weight_at-before_run : (ds : List Dot) (r : Run) (x y : ℤ) → Fits ds r → IsOnRun r x y → weight_at ds x y ≡ pos 0
+weight_at-before_run ds r x y fits on =
+    let further : place r.x r.y ≤ℤ place x y = subst (λ v. place r.x r.y ≤ℤ place x v) on.row (place-le r.x x r.y on.left) in
+    weight_at-after ds x y (All-weaker (λ d. place d.x d.y <ℤ place r.x r.y) (λ d. place d.x d.y <ℤ place x y) (λ d lower. omega (arith, ints)) ds fits.before)
+
 -- a pushed run gives its weight to its pixels
 pub weight_at-on_run : (ds : List Dot) (r : Run) (x y : ℤ) → Fits ds r → IsOnRun r x y → weight_at (ds ++ dots_of r) x y ≡ r.weight
 unfolding dots_of
@@ -111,6 +118,22 @@ pub runs-rest : (r : Run) (rs : List Run) → AreRuns (r ∷ rs) → AreRuns rs
 unfolding place
 runs-rest r rs ordered = record { runs = runs_from-lower start_of_field (place (r.x +ℤ pos r.len) r.y) rs (omega (arith, ints, ordered.runs.1)) ordered.runs.2 }
 
+-- each run fits after those before it
+pub fits_next : (low : ℤ) (passed : List Run) (r : Run) (others : List Run) → AreRunsFrom low (passed ++ r ∷ others)
+    → (low ≤ℤ place r.x r.y) × Fits (flat_map dots_of passed) r
+unfolding dots_of
+fits_next low [] r others runs = (runs.1, record { run = runs.0; before = All-nil (λ d. place d.x d.y <ℤ place r.x r.y) })
+fits_next low (q ∷ qs) r others runs =
+    let later = fits_next (place (q.x +ℤ pos q.len) q.y) qs r others runs.2 in
+    let further = place-le q.x (q.x +ℤ pos q.len) q.y (omega (arith, ints)) in (
+      omega (arith, ints, runs.1, later.0),
+      record {
+        run = later.1.run;
+        before = All-append (λ d. place d.x d.y <ℤ place r.x r.y) (dots_of q) (flat_map dots_of qs)
+            (before_equal_dots-end q.y q.x q.weight q.len (place r.x r.y) later.0) later.1.before;
+      },
+    )
+
 -- and so are the dots of the runs
 pub dots_from-runs : (low : ℤ) (rs : List Run) → AreRunsFrom low rs → AreDotsFrom low (flat_map dots_of rs)
 unfolding dots_of
@@ -129,6 +152,8 @@ dots_from-runs low (r ∷ rs) runs =
 
 pub picture-runs : (rs : List Run) → AreRuns rs → IsPicture (flat_map dots_of rs)
 picture-runs rs ordered = record { dots = dots_from-runs start_of_field rs ordered.runs }
+
+pub ruleset lawful_runs = (picture-runs)
 
 -- to the left of the first run of its row a pixel has weight 0
 pub weight_at-left_of : (x y u : ℤ) (rs : List Run) → AreRunsFrom (place x y) rs → u <ℤ x → weight_at (flat_map dots_of rs) u y ≡ pos 0

@@ -1,15 +1,12 @@
 pub mod Ahead
 pub mod Bounds
 pub mod Boxes
-pub mod Building
 pub mod Corners
 pub mod Dots
 pub mod EdgeCounts
-pub mod EdgeRows
 pub mod Moves
 pub mod Order
 pub mod Remaining
-pub mod RowStrips
 pub mod Runs
 pub mod Sums
 pub mod WeightMaps

@@ -1,6 +1,7 @@
 //! Laws of the definitions. Each is the contract of a function that does nothing: the toolchain proves a statement only
 //! where a function's contract names it.
-ghost use Rattle.std.specs.Prelude.{◌≡◌, ◌≢◌, ◌↔◌, ℤ, pos, ◌+ℤ◌, ◌≤ℤ◌, All, Contains, List, flat_map};
+ghost use Rattle.std.specs.Prelude.{◌≡◌, ◌↔◌, ℤ, pos, ◌+ℤ◌, ◌≤ℤ◌, All, List, [], flat_map};
+ghost use Rattle.std.specs.Arc.{arc_value};
 ghost use Rattle.mf_geom.specs.Field.{IsInField, sum_over_field};
 ghost use Rattle.mf_edges.specs.Axes.{IsStretch, source_of, target_of};
 ghost use Rattle.mf_edges.specs.declared.stretch.Stretch.{Stretch};
@@ -8,8 +9,12 @@ ghost use Rattle.mf_edges.specs.LawfulWeights.{IsLawfulWeight};
 ghost use Rattle.mf_rows.specs.Bounds.{IsLeastBox};
 ghost use Rattle.mf_rows.specs.declared.bounds.Box4.{Box4};
 ghost use Rattle.mf_rows.specs.Dots.{Dot, IsPicture, total_of, weight_at};
-ghost use Rattle.mf_edges.specs.Edges.{weight_in};
-ghost use Rattle.mf_rows.specs.EdgeRows.{EdgeRow, AreRows, weight_in_rows, picture_of_rows};
+ghost use Rattle.mf_edges.specs.Edges.{AreEdges, weight_in};
+ghost use Rattle.mf_strips.specs.declared.part.Part.{Part};
+ghost use Rattle.mf_strips.specs.declared.pile.Pile.{Pile};
+ghost use Rattle.mf_strips.specs.Parts.{strips_in, weight_in_part, weight_in_parts};
+ghost use Rattle.mf_strips.specs.PileWeights.{weight_in_pile};
+ghost use Rattle.mf_strips.specs.Strips.{row_in};
 ghost use Rattle.mf_rows.specs.Order.{IsRun};
 ghost use Rattle.mf_rows.specs.Runs.{dots_of, runs_of, AreMaximal, IsMaximalRun};
 ghost use Rattle.mf_rows.specs.Weights.{picture_of, HaveSameWeights};
@@ -58,14 +63,16 @@ pub fn same_weights_make_same_pictures()
     ensures { (ds es : List Dot) → IsPicture ds → IsPicture es → HaveSameWeights ds es → ds ≡ es }
 {}
 
-/// Rows of edges (mf.web, "edge structures") represent a picture. The weight of a pixel is the sum of the edges of its
-/// row at or to the left of its column, and pixels of other rows have weight 0.
-#[tactic(auto, using(crate::proofs::PictureRows::weights_of_rows))]
+/// Rows of edges (mf.web, "edge structures") represent a picture. It has parts, and the weight of a pixel is the sum of its weights in
+/// all of them. In a part it is the sum of the edges of the pixel's row at or to the left of its column. These are the edges of a row:
+/// sorted by column, at most one a column, none of weight 0, and with a sum of 0. So pixels of rows without edges have weight 0.
+#[tactic(auto, using(crate::proofs::PicturePiles::weights_of_edges))]
 pub fn weight_is_the_sum_of_edges()
-    ensures lawful { (rs : List EdgeRow) → AreRows rs → IsPicture (picture_of_rows rs) }
-    ensures edges { (rs : List EdgeRow) (x y : ℤ) → AreRows rs → weight_at (picture_of_rows rs) x y ≡ weight_in_rows rs x y }
-    ensures row { (rs : List EdgeRow) (r : EdgeRow) (x : ℤ) → AreRows rs → Contains rs r → weight_at (picture_of_rows rs) x r.y ≡ weight_in r.edges x }
-    ensures other_rows { (rs : List EdgeRow) (x y : ℤ) → AreRows rs → All (λ r. r.y ≢ y) rs → weight_at (picture_of_rows rs) x y ≡ pos 0 }
+    ensures lawful { (p : Pile) → IsPicture (picture_of (weight_in_pile p)) }
+    ensures parts { (p : Pile) (x y : ℤ) → weight_at (picture_of (weight_in_pile p)) x y ≡ weight_in_parts p.parts.items x y }
+    ensures edges { (p : Part) (x y : ℤ) → weight_in_part p x y ≡ weight_in (row_in [] (strips_in p) y) x }
+    ensures rows { (p : Part) (y : ℤ) → AreEdges (row_in [] (strips_in p) y) }
+    ensures other_rows { (p : Pile) (x y : ℤ) → All (λ q. row_in [] (strips_in (arc_value q)) y ≡ []) p.parts.items → weight_at (picture_of (weight_in_pile p)) x y ≡ pos 0 }
 {}
 
 /// The total weight of a picture is the sum of its weights over all pixels of the field, since a pixel of weight 0 adds

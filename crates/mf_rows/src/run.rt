@@ -2,6 +2,7 @@
 ghost use Rattle.std.specs.Prelude.{◌≢◌, ◌↔◌, IsTrue, pos, ◌+ℤ◌, ◌≤ℤ◌};
 ghost use Rattle.mf_geom.specs.Coordinates.{least_coordinate, greatest_coordinate, last_in_field};
 ghost use Rattle.mf_edges.specs.LawfulWeights.{IsLawfulWeight};
+ghost use Rattle.mf_rows.specs.Dots.{place};
 ghost use Rattle.mf_rows.specs.Order.{IsRun};
 
 use mf_edges::{FIELD_END, FIELD_START, is_lawful_weight};
@@ -23,6 +24,16 @@ impl Run {
         ensures { IsTrue result ↔ IsRun self.now }
     {
         self.len > 0 && self.lies_in_columns() && self.lies_in_rows() && self.has_weight()
+    }
+
+    /// Whether the run ends before another one begins: that is in a row below, or further to the right in the same row.
+    #[tactic(auto, using(std::proofs::lemmas::Int::ints), unfolding(crate::specs::Dots::place))]
+    pub(crate) fn ends_before(&self, next: &Run) -> bool
+        requires own { IsRun self.now }
+        requires next { IsRun next.now }
+        ensures { IsTrue result ↔ (place (self.now.x +ℤ pos self.now.len) self.now.y ≤ℤ place next.now.x next.now.y) }
+    {
+        next.y < self.y || (next.y == self.y && self.x + self.len as i32 <= next.x)
     }
 
     /// Whether all its columns lie in the field.

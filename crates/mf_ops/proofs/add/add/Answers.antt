@@ -1,7 +1,7 @@
 use Rattle.std.proofs.Common.{refl}
 use Rattle.std.proofs.lemmas.Result.{err_from_is_err_and}
 use Rattle.mf_rows.specs.declared.sign.Sign.TheVariants.{Plus, Minus}
-use Rattle.mf_rows.proofs.PictureRows.{unlawful_as}
+use Rattle.mf_rows.proofs.PicturePiles.{unlawful_as}
 use Rattle.mf_ops.specs.declared.op.Op.TheVariants.{Also}
 use Rattle.mf_rows.specs.Sums.{difference_at, sum_at}
 use Rattle.mf_ops.proofs.Faults.{makes_anyway, op_fault-sum_fault, stays_anyway}

@@ -1,7 +1,7 @@
 use Rattle.std.proofs.Common.{to_z-of_z, refl, sym}
 use Rattle.std.proofs.lemmas.Result.{err_from_is_err_and}
 use Rattle.mf_geom.specs.declared.check.Check.TheVariants.{Off}
-use Rattle.mf_rows.proofs.PictureRows.{unlawful_as}
+use Rattle.mf_rows.proofs.PicturePiles.{unlawful_as}
 use Rattle.mf_ops.specs.declared.op.Op.TheVariants.{Contour}
 use Rattle.mf_ops.proofs.Faults.{HasWeights-same, makes_anyway, op_fault-sum_fault, stays_anyway}
 use Rattle.mf_ops.proofs.Sides.{with_corners_at-contour}

@@ -21,7 +21,7 @@ struct Push {
     all: &'static [Run],
 }
 
-/// The first run: it allocates the edges of its row, and the list of rows.
+/// The first run: it allocates the list of runs.
 const FIRST: Push = Push {
     before: &[],
     run: run_of!(5, 0, 2, 1),
@@ -39,7 +39,7 @@ const FIRST: Push = Push {
     ],
 };
 
-/// The run of a fifth row: it allocates the edges of its row, and a list of four rows grows.
+/// A fifth run, in a row of its own: a list of four runs grows.
 const FIFTH_ROW: Push = Push {
     before: &[
         run_of!(5, 0, 1, 1),
@@ -66,29 +66,14 @@ const FIFTH_ROW: Push = Push {
     ],
 };
 
-/// The third run of a row, apart from the others: a list of four edges grows.
-const THIRD_IN_ROW: Push = Push {
-    before: &[run_of!(0, 0, 1, 1), run_of!(0, 2, 1, 2)],
-    run: run_of!(0, 4, 1, 3),
-    after: &[run_of!(0, 6, 1, 4), run_of!(-70, 0, 1, 1)],
-    fitting: &[
-        run_of!(0, 3, 1, 1),
-        run_of!(0, 4, 1, 3),
-        run_of!(-1, -4095, 8190, 1),
-    ],
-    others: &[run_of!(0, 2, 1, 1), run_of!(1, 0, 1, 1)],
-    all: &[
-        run_of!(0, 0, 1, 1),
-        run_of!(0, 2, 1, 2),
-        run_of!(0, 4, 1, 3),
-        run_of!(0, 6, 1, 4),
-        run_of!(-70, 0, 1, 1),
-    ],
-};
-
-/// A third run that touches the second: one edge changes, and only the other one is new.
+/// A fifth run, which touches the fourth.
 const TOUCHING: Push = Push {
-    before: &[run_of!(0, 0, 2, 7), run_of!(0, 4, 2, 7)],
+    before: &[
+        run_of!(2, 0, 1, 1),
+        run_of!(1, 0, 1, 1),
+        run_of!(0, 0, 2, 7),
+        run_of!(0, 4, 2, 7),
+    ],
     run: run_of!(0, 6, 3, -7),
     after: &[],
     fitting: &[
@@ -98,6 +83,8 @@ const TOUCHING: Push = Push {
     ],
     others: &[run_of!(0, 5, 1, 1), run_of!(1, 0, 1, 1)],
     all: &[
+        run_of!(2, 0, 1, 1),
+        run_of!(1, 0, 1, 1),
         run_of!(0, 0, 2, 7),
         run_of!(0, 4, 2, 7),
         run_of!(0, 6, 3, -7),
@@ -106,16 +93,6 @@ const TOUCHING: Push = Push {
 
 /// Two rows of three pixels.
 const RECTANGLE: &[Run] = &[run_of!(1, 0, 3, 1), run_of!(0, 0, 3, 1)];
-
-/// The lower one of these rows. After it no run of the upper one fits.
-const LOWER_ROW: Push = Push {
-    before: &[run_of!(1, 0, 3, 1)],
-    run: run_of!(0, 0, 3, 1),
-    after: &[],
-    fitting: &[run_of!(0, 0, 3, 1), run_of!(1, 5, 1, 1)],
-    others: &[run_of!(1, 2, 1, 1), run_of!(2, 0, 1, 1)],
-    all: RECTANGLE,
-};
 
 /// Pushes a run, which must fit, while allocations fail. Returns whether it was pushed, and asserts that it was refused with
 /// `OutOfMemory` where it was not.
@@ -154,8 +131,7 @@ fn assert_pushed<R: Abort + AllocGlobal>(rt: &R, push: &Push) {
     assert_runs(rt, &expect_picture(rt, builder.finish()), push.all);
 }
 
-/// Asserts that a builder that refused the run makes the picture without it. If one edge of the run stayed alone, it
-/// would be in no run, but would show in the weight of the run's pixels.
+/// Asserts that a builder that refused the run makes the picture without it.
 fn assert_left_out<R: Abort + AllocGlobal>(rt: &R, push: &Push) {
     let mut builder = builder_of(rt, push.before);
     let (runs, weight) = if is_pushed_while_refused(rt, &mut builder, push.run) {
@@ -174,18 +150,8 @@ fn a_first_run_is_pushed(rt: HostRuntime) {
 }
 
 #[test]
-fn a_run_of_a_second_row_is_pushed(rt: HostRuntime) {
-    assert_pushed(&rt, &LOWER_ROW);
-}
-
-#[test]
 fn a_run_of_a_fifth_row_is_pushed(rt: HostRuntime) {
     assert_pushed(&rt, &FIFTH_ROW);
-}
-
-#[test]
-fn a_third_run_of_a_row_is_pushed(rt: HostRuntime) {
-    assert_pushed(&rt, &THIRD_IN_ROW);
 }
 
 #[test]
@@ -198,7 +164,7 @@ fn a_refused_run_is_left_out(rt: HostRuntime) {
     assert_left_out(&rt, &TOUCHING);
 }
 
-/// More rows than a list of rows has room for at first, of which two are in a band of their own.
+/// More runs than a list has room for at first.
 const MANY_ROWS: &[Run] = &[
     run_of!(5, 0, 1, 1),
     run_of!(4, 1, 1, 2),
