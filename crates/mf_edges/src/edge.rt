@@ -1,5 +1,5 @@
 //! The edges of a row, and the weights between them.
-ghost use Rattle.std.specs.Prelude.{◌≡◌, ◌≢◌, ◌<◌, ◌≤◌, ◌+◌, ◌/◌, ◌++◌, All, IsOk, OnOk, OnErr, pos};
+ghost use Rattle.std.specs.Prelude.{◌≡◌, ◌≢◌, ◌<◌, ◌≤◌, ◌+◌, ◌++◌, All, IsOk, OnOk, OnErr, pos};
 ghost use Rattle.std.specs.List.{HoldsAt};
 ghost use Rattle.std.specs.Vec.{vec_len, vec_capacity};
 ghost use Rattle.mf_geom.specs.Coordinates.{least_coordinate, IsCoordinate};
@@ -138,18 +138,4 @@ pub fn push_unless_zero(edges: &mut Vec<Edge>, edge: Edge) -> Result<(), OutOfMe
         edges.push(edge)?;
     }
     Ok(())
-}
-
-/// Gives back the room that cancelled edges have left, where fewer edges stay than half of the capacity, rounded down.
-/// A list with no edge then keeps none; how much a list with edges gives back, no clause says. The edges are unchanged.
-/// Giving back less would cost more time than it saves memory.
-pub fn give_back_room(edges: &mut Vec<Edge>)
-    ensures items { edges.new.items ≡ edges.old.items }
-    ensures capacity { vec_capacity edges.new ≤ vec_capacity edges.old }
-    ensures stays { vec_capacity edges.old / 2 ≤ vec_len edges.old → vec_capacity edges.new ≡ vec_capacity edges.old }
-    ensures frees { 2 ≤ vec_capacity edges.old → vec_len edges.old ≡ 0 → vec_capacity edges.new ≡ 0 }
-{
-    if edges.len() < edges.capacity() / 2 {
-        edges.shrink_to_fit();
-    }
 }

@@ -13,7 +13,7 @@ use Rattle.mf_strips.specs.declared.strips.Head.{Head}
 use Rattle.mf_strips.specs.Heads.{strip_at, strips_at, IsHead, AreHeads}
 use Rattle.mf_strips.specs.Moves.{stretched_head}
 use Rattle.mf_strips.specs.Strips.{EdgeStrip, IsStrip, AreAbove, AreStrips, AreStripsFrom, row_in}
-use Rattle.mf_strips.proofs.RowChangesLemmas.{last_row-is}
+use Rattle.mf_strips.proofs.MappedStrips.{last_row-is}
 use Rattle.mf_strips.proofs.StripMaps.{starts_from, strips_from-all}
 use Rattle.mf_strips.proofs.StripsLemmas.{row_in-below, row_in-from}
 

@@ -8,7 +8,7 @@ use Rattle.mf_geom.specs.Coordinates.{least_coordinate, greatest_coordinate, IsC
 use Rattle.mf_edges.specs.declared.edge.Edge.{Edge}
 use Rattle.mf_edges.specs.Edges.{AreEdges, weight_in}
 use Rattle.mf_edges.specs.Reaches.{StaysInReach}
-use Rattle.mf_edges.specs.Sums.{HaveWeights}
+use Rattle.mf_edges.proofs.EdgeChanges.{RowBecomes}
 use Rattle.mf_strips.specs.declared.part.Part.{Part}
 use Rattle.mf_strips.specs.declared.strips.Head.{Head}
 use Rattle.mf_strips.specs.Heads.{strip_at, strips_at, AreHeads}
@@ -22,6 +22,11 @@ with_row g s = record { top = s.top; edges = g s.edges }
 
 abbrev pub with_rows : (List Edge → List Edge) → List EdgeStrip → List EdgeStrip
 with_rows g ss = map (with_row g) ss
+
+-- two changes of edges that are equal at each of these
+pub map_same : (f g : Edge → Edge) (es : List Edge) → All (λ e. f e ≡ g e) es → map f es ≡ map g es
+map_same f g [] same = refl
+map_same f g (e ∷ es) same = λ i. All-head (λ e. f e ≡ g e) e es same i ∷ map_same f g es (All-tail (λ e. f e ≡ g e) e es same) i
 
 -- where all edges that stand in a list are changed, so are all rows
 pub strips_at-map : (g : Edge → Edge) (es : List Edge) (hs : List Head) → strips_at (map g es) hs ≡ with_rows (map g) (strips_at es hs)
@@ -73,12 +78,6 @@ tops_in_range es top reach (h ∷ hs) strips high =
 pub tops_of_part : (p : Part) (hs : List Head) → hs ≡ p.heads.items → All (λ h. IsCoordinate h.top) hs
 tops_of_part p hs same = rw same (tops_in_range p.edges.items greatest_coordinate p.reach p.heads.items p.lawful.strips (omega (arith, ints)))
 
--- the edges of a row become those of another, whose weights are an image of its weights
-pub record RowBecomes (image : (ℤ → ℤ) → ℤ → ℤ) (reach : ℤ) (es new : List Edge) : Type 0 where
-  pub edges : AreEdges new
-  pub reached : StaysInReach reach new
-  pub weights : HaveWeights (image (weight_in es)) new
-
 module _ (g : List Edge → List Edge) (image : (ℤ → ℤ) → ℤ → ℤ) (reach : ℤ) where
   with_rows-from : (top : ℤ) (ss : List EdgeStrip) → AreStripsFrom top reach ss → All (λ s. RowBecomes image reach s.edges (g s.edges)) ss
       → AreStripsFrom top reach (with_rows g ss)
@@ -109,3 +108,7 @@ module _ (g : List Edge → List Edge) (image : (ℤ → ℤ) → ℤ → ℤ) (
       ap (λ es. weight_in (row_in es (with_rows g ss) y) x) (sym blank) ∙ ap (λ es. weight_in es x) (row_in-with_rows g [] ss y)
       ∙ row_in-has (λ es. weight_in (g es) x ≡ image (weight_in es) x) [] ss y (ap (λ es. weight_in es x) blank ∙ sym none)
       (λ k d lt. (all k d lt).weights.weights x)
+
+  pub rows_become : (ss : List EdgeStrip) → AreStrips reach ss → ((es : List Edge) → AreEdges es → StaysInReach reach es → RowBecomes image reach es (g es))
+      → All (λ s. RowBecomes image reach s.edges (g s.edges)) ss
+  rows_become ss strips row = λ k d lt. let strip = strips_from-all greatest_coordinate reach ss strips.strips k d lt in row _ strip.edges strip.reached
