@@ -14,10 +14,10 @@ use Rattle.mf_edges.proofs.EdgeChanges.{RowBecomes, move_row, opposite_edge, opp
 use Rattle.mf_edges.proofs.EdgesAt.{change_at_edge, edges_from-at}
 use Rattle.mf_strips.specs.declared.strips.Head.{Head}
 use Rattle.mf_strips.specs.Heads.{strips_at, IsHead, AreHeads}
-use Rattle.mf_strips.specs.Moves.{moved_columns, reflected_edge, reversed_head}
-use Rattle.mf_strips.specs.Strips.{EdgeStrip, AreStrips, HaveStripWeights, weight_in_strips}
+use Rattle.mf_strips.specs.Moves.{reflected_edge, reversed_head}
+use Rattle.mf_strips.specs.Strips.{EdgeStrip, AreStrips}
 use Rattle.mf_strips.proofs.Negations.{wrapped_negation}
-use Rattle.mf_strips.proofs.StripMaps.{rows_become, with_rows, with_rows-strips, with_rows-weights}
+use Rattle.mf_strips.proofs.StripMaps.{StripsBecome, each_row, strips_become, with_rows}
 
 -- ---- heads
 
@@ -85,15 +85,6 @@ row_reflected reach es edges reached =
     λ i. record { x = x i; weight = weight i }))
     (row_opposite reach es edges reached)
 
-module _ (reach : ℤ) (ss : List EdgeStrip) (strips : AreStrips reach ss) where
-  pub strips_reflected : AreStrips reach (with_rows reflected_edges ss)
-  strips_reflected =
-      with_rows-strips reflected_edges (move_row opposite) reach ss strips refl (rows_become reflected_edges (move_row opposite) reach ss strips (row_reflected reach))
-
-  pub weights_reflected : HaveStripWeights (moved_columns opposite (weight_in_strips ss)) (with_rows reflected_edges ss)
-  unfolding weight_in
-  weights_reflected = record {
-    weights = λ x y.
-        with_rows-weights reflected_edges (move_row opposite) reach ss x y refl refl
-        (rows_become reflected_edges (move_row opposite) reach ss strips (row_reflected reach));
-  }
+pub columns_mirrored : (reach : ℤ) (ss : List EdgeStrip) → AreStrips reach ss → StripsBecome (move_row opposite) reach ss (with_rows reflected_edges ss)
+unfolding weight_in
+columns_mirrored reach ss strips = strips_become _ _ reach ss strips refl (λ x. refl) (each_row _ _ reach ss strips (row_reflected reach))

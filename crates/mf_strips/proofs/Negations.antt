@@ -11,7 +11,7 @@ use Rattle.mf_edges.proofs.EdgeChanges.{RowBecomes, negate_row, negative_edge, r
 use Rattle.mf_edges.proofs.EdgesAt.{change_at_edge}
 use Rattle.mf_strips.specs.Changes.{negated_edge, negated_weight_in}
 use Rattle.mf_strips.specs.Strips.{EdgeStrip, AreStrips, HaveStripWeights}
-use Rattle.mf_strips.proofs.StripMaps.{map_same, rows_become, with_rows, with_rows-strips, with_rows-weights}
+use Rattle.mf_strips.proofs.StripMaps.{StripsBecome, each_row, map_same, strips_become, with_rows}
 
 pub wrapped_negation : (z : ℤ) → IsChange z → int_wrapping_neg w32 z ≡ neg_ℤ z
 wrapped_negation z change = wrapping_neg_is w32 z (omega (arith, ints, change)) ∙ int_wrap_fits w32 (neg_ℤ z) (omega (arith, ints, change))
@@ -24,13 +24,10 @@ row_negated reach es edges reached =
     (row_negative reach es edges reached)
 
 module _ (reach : ℤ) (ss : List EdgeStrip) (strips : AreStrips reach ss) where
-  pub strips_negated : AreStrips reach (with_rows (map negated_edge) ss)
-  strips_negated =
-      with_rows-strips (map negated_edge) negate_row reach ss strips refl (rows_become (map negated_edge) negate_row reach ss strips (row_negated reach))
+  pub negated_strips : StripsBecome negate_row reach ss (with_rows (map negated_edge) ss)
+  unfolding weight_in
+  negated_strips = strips_become _ _ reach ss strips refl (λ x. refl) (each_row _ _ reach ss strips (row_negated reach))
 
-  pub weights_negated : HaveStripWeights (negated_weight_in ss) (with_rows (map negated_edge) ss)
-  unfolding negated_weight_in weight_in
-  weights_negated = record {
-    weights = λ x y.
-        with_rows-weights (map negated_edge) negate_row reach ss x y refl refl (rows_become (map negated_edge) negate_row reach ss strips (row_negated reach));
-  }
+  pub negated_weights : HaveStripWeights (negated_weight_in ss) (with_rows (map negated_edge) ss)
+  unfolding negated_weight_in
+  negated_weights = record { weights = negated_strips.weights }

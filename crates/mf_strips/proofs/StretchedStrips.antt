@@ -15,7 +15,7 @@ use Rattle.mf_strips.specs.Moves.{StripsStayInside, moved_columns, moved_rows, s
 use Rattle.mf_strips.specs.Strips.{EdgeStrip, AreStrips, HaveStripWeights, row_in, weight_in_strips}
 use Rattle.mf_strips.proofs.StretchedPlaces.{wrapped_is}
 use Rattle.mf_strips.proofs.StretchedRows.{RowsStayInside, each_own, stretched_strips, rows_stretched, strips_stretched}
-use Rattle.mf_strips.proofs.StripMaps.{map_same, with_rows, with_rows-strips, with_rows-weights, row_in-with_rows, strips_from-all}
+use Rattle.mf_strips.proofs.StripMaps.{StripsBecome, map_same, strips_become, with_rows, row_in-with_rows, strips_from-all}
 use Rattle.mf_strips.proofs.StripsLemmas.{row_lawful, no_edges}
 
 -- ---- edges
@@ -77,12 +77,9 @@ module _ (columns rows : Stretch) (reach : ℤ) (ss : List EdgeStrip) (strips : 
       let strip = strips_from-all greatest_coordinate reach ss strips.strips k d lt in
       row_wide columns reach (get_or ss k d).edges across strip.edges strip.reached (columns_allowed columns reach ss strips inside.across k d lt)
 
-  strips_wide : AreStrips reach wide
-  strips_wide = with_rows-strips (map (stretched_edge columns)) (move_row (source_of columns)) reach ss strips refl rows_wide
-
-  weights_wide : (x y : ℤ) → weight_in_strips wide x y ≡ weight_in_strips ss (source_of columns x) y
+  strips_wide : StripsBecome (move_row (source_of columns)) reach ss wide
   unfolding weight_in
-  weights_wide x y = with_rows-weights (map (stretched_edge columns)) (move_row (source_of columns)) reach ss x y refl refl rows_wide
+  strips_wide = strips_become _ _ reach ss strips refl (λ x. refl) rows_wide
 
   rows_inside : RowsStayInside rows wide
   unfolding weight_in_strips
@@ -95,10 +92,10 @@ module _ (columns rows : Stretch) (reach : ℤ) (ss : List EdgeStrip) (strips : 
   }
 
   pub strips_in_place : AreStrips reach (stretched_strips rows wide)
-  strips_in_place = strips_stretched rows up reach wide strips_wide rows_inside
+  strips_in_place = strips_stretched rows up reach wide strips_wide.strips rows_inside
 
   pub weights_in_place : HaveStripWeights (moved_rows (source_of rows) (moved_columns (source_of columns) (weight_in_strips ss))) (stretched_strips rows wide)
   unfolding weight_in_strips
   weights_in_place = record {
-    weights = λ x y. ap (λ es. weight_in es x) (rows_stretched rows up reach wide strips_wide rows_inside y) ∙ weights_wide x (source_of rows y);
+    weights = λ x y. ap (λ es. weight_in es x) (rows_stretched rows up reach wide strips_wide.strips rows_inside y) ∙ strips_wide.weights x (source_of rows y);
   }

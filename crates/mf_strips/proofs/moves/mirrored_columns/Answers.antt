@@ -1,7 +1,7 @@
 use Rattle.std.proofs.Common.{◌≡◌, map, length, reverse, to_z, of_z, w32, ap, ◌∙◌, arith}
 use Rattle.std.proofs.lemmas.Int.{ints}
 use Rattle.mf_strips.specs.Moves.{reflected_edge, reversed_head}
-use Rattle.mf_strips.proofs.MirroredColumns.{heads-reversed, reflected_edges, strips_at-reversed, strips_reflected, weights_reflected}
+use Rattle.mf_strips.proofs.MirroredColumns.{columns_mirrored, heads-reversed, reflected_edges, strips_at-reversed}
 use Rattle.mf_strips.proofs.moves.mirrored_columns.Goals as goal
 
 pub of-requires : goal.of-requires
@@ -15,7 +15,7 @@ of-requires c =
     let same : to_z w32 (of_z w32 c.reach.result) ≡ part.reach = omega (arith, ints) in
     rw (edges, heads, same) (record {
       placed = heads-reversed es hs part.placed;
-      lawful = rw (strips_at-reversed es hs part.placed) (strips_reflected part.reach _ part.lawful);
+      lawful = rw (strips_at-reversed es hs part.placed) (columns_mirrored part.reach _ part.lawful).strips;
     })
 
 pub returns-clause-weights : goal.returns-clause-weights
@@ -26,4 +26,4 @@ returns-clause-weights c =
     let reflected : c.in_ok-edges.edges.items ≡ map reflected_edge es = cc c.in_ok-edges.ensures in
     let edges : c.reverse.new.self.items ≡ reflected_edges es = c.reverse.ensures.items ∙ ap reverse reflected in
     let heads : c.in_ok-heads.heads.items ≡ map (reversed_head (length es)) hs = cc c.in_ok-heads.ensures in
-    rw (c.of.ensures.strips, edges, heads, strips_at-reversed es hs part.placed) (weights_reflected part.reach _ part.lawful)
+    rw (c.of.ensures.strips, edges, heads, strips_at-reversed es hs part.placed) (record { weights = (columns_mirrored part.reach _ part.lawful).weights })
