@@ -20,11 +20,11 @@ pub record RowBecomes (image : (ℤ → ℤ) → ℤ → ℤ) (reach : ℤ) (es 
   pub reached : StaysInReach reach new
   pub weights : HaveWeights (image (weight_in es)) new
 
--- the weights of a row with negated weights
+-- a row with negated weights
 abbrev pub negate_row : (ℤ → ℤ) → ℤ → ℤ
 negate_row f x = neg_ℤ (f x)
 
--- the weights of a row whose columns move: column x comes from column `source x`
+-- a row whose columns move: column x comes from column `source x`
 abbrev pub move_row : (ℤ → ℤ) → (ℤ → ℤ) → ℤ → ℤ
 move_row source f x = f (source x)
 

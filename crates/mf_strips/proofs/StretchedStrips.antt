@@ -59,7 +59,7 @@ row_wide s reach es stretch edges reached inside =
 -- ---- strips
 
 -- the pixels on both sides of an edge stay in the field, and so does the edge
-pub columns_allowed : (columns : Stretch) (reach : ℤ) (ss : List EdgeStrip) → AreStrips reach ss
+columns_allowed : (columns : Stretch) (reach : ℤ) (ss : List EdgeStrip) → AreStrips reach ss
     → ((x y : ℤ) → weight_in_strips ss x y ≢ pos 0 → PlaceStaysInside columns x) → All (λ t. EdgesStayInside columns t.edges) ss
 unfolding weight_in_strips
 columns_allowed columns reach ss strips inside =

@@ -26,7 +26,7 @@ pub record HasMappedStrip (m : WeightMap) (top : ℤ) (es : List Edge) (before a
   pub mapped : AreMapped m es edges
   pub strips : (after ≡ before ++ record { top = top; edges = edges } ∷ []) ⊎ ((edges ≡ last_row before) × (after ≡ before))
 
--- `reach` is the reach of a part, and no weight exceeds it in absolute value that a map makes, and that a pixel may have
+-- a number in 0..=32767, which no lawful weight that a map makes exceeds in absolute value
 pub record IsReachOfMap (m : WeightMap) (reach : ℤ) : Type 0 where
   pub least : pos 0 ≤ℤ reach
   pub most : reach ≤ℤ greatest_weight
