@@ -1,21 +1,69 @@
--- The edges of a row after its columns are reflected, or stretched.
-use Rattle.std.proofs.Common.{◌≡◌, ◌≤◌, ◌*◌, ℕ, ℤ, pos, neg_ℤ, ◌+ℤ◌, ◌*ℤ◌, ◌≤ℤ◌, ◌<ℤ◌, ◌<◌, FitsSigned, unsigned_abs, w32, to_z, of_z}
-use Rattle.std.proofs.Common.{mul-le-mul, List, [], ◌∷◌, ◌++◌, length, get_or, map, refl, sym, ap, ◌∙◌, append_assoc, append-nil, arith}
+-- The edges of a row after each of them is negated, reflected or stretched.
+use Rattle.std.proofs.Common.{◌≡◌, ◌≤◌, ℤ, pos, neg_ℤ, ◌+ℤ◌, ◌≤ℤ◌, ◌<ℤ◌, unsigned_abs, List, [], ◌∷◌, ◌++◌, map, refl, sym, ap, subst, ◌∙◌, arith}
 use Rattle.std.specs.List.{All}
-use Rattle.std.proofs.lemmas.Int.{ints, by_lt_z, to_z-of_z, unsigned_abs-mul, fits_signed_from_abs}
-use Rattle.std.proofs.lemmas.List.{get_or-append-add, length-append}
+use Rattle.std.proofs.lemmas.Int.{ints, by_lt_z}
 use Rattle.std.proofs.lemmas.List.Elements.{All-nil, All-head, All-tail, All-push}
 use Rattle.mf_geom.specs.Coordinates.{least_coordinate, greatest_coordinate, IsCoordinate}
 use Rattle.mf_edges.specs.declared.edge.Edge.{Edge}
-use Rattle.mf_edges.specs.declared.row_change.RowChange.TheVariants.{Mirror, Columns}
 use Rattle.mf_edges.specs.declared.stretch.Stretch.{Stretch}
 use Rattle.mf_edges.specs.Edges.{weight_in, IsEdge, AreEdgesFrom, AreEdges}
 use Rattle.mf_edges.specs.Axes.{opposite, target_of, source_of, IsStretch}
-use Rattle.mf_edges.specs.Merging.{IsChange}
-use Rattle.mf_edges.specs.RowChanges.{image_in, AreChanged}
-use Rattle.mf_edges.proofs.EdgesAt.{edges_from-at, change_at_edge}
+use Rattle.mf_edges.specs.LawfulWeights.{IsInReach, IsLawfulWeight}
+use Rattle.mf_edges.specs.Reaches.{StaysInReach}
+use Rattle.mf_edges.specs.Sums.{HaveWeights}
 use Rattle.mf_edges.proofs.EdgesLemmas.{weight_in-left, weight_in-right, weight_in-before, weight_in-append, edges_from-append}
 use Rattle.mf_edges.proofs.Sources.{target_of-lt, source_of-reached, source_of-from}
+
+-- the edges of a row become those of another, whose weights are an image of its weights
+pub record RowBecomes (image : (ℤ → ℤ) → ℤ → ℤ) (reach : ℤ) (es new : List Edge) : Type 0 where
+  pub edges : AreEdges new
+  pub reached : StaysInReach reach new
+  pub weights : HaveWeights (image (weight_in es)) new
+
+-- a row with negated weights
+abbrev pub negate_row : (ℤ → ℤ) → ℤ → ℤ
+negate_row f x = neg_ℤ (f x)
+
+-- a row whose columns move: column x comes from column `source x`
+abbrev pub move_row : (ℤ → ℤ) → (ℤ → ℤ) → ℤ → ℤ
+move_row source f x = f (source x)
+
+row_moved : (source : ℤ → ℤ) (reach : ℤ) (es new : List Edge) → AreEdges es → StaysInReach reach es → AreEdgesFrom least_coordinate new
+    → ((x : ℤ) → weight_in new x ≡ weight_in es (source x)) → weight_in new greatest_coordinate ≡ pos 0 → RowBecomes (move_row source) reach es new
+row_moved source reach es new edges reached sorted weights closed = record {
+  edges = record { sorted = sorted; lawful = λ x. subst IsLawfulWeight (sym (weights x)) (edges.lawful (source x)); closed = closed };
+  reached = record { most = reached.most; within = λ x. subst (IsInReach reach) (sym (weights x)) (reached.within (source x)) };
+  weights = record { weights = weights };
+}
+
+-- ---- weights that are negated
+
+abbrev pub negative_edge : Edge → Edge
+negative_edge e = record { x = e.x; weight = neg_ℤ e.weight }
+
+weight_in-negative : (es : List Edge) (x : ℤ) → weight_in (map negative_edge es) x ≡ neg_ℤ (weight_in es x)
+unfolding weight_in
+weight_in-negative [] x = refl
+weight_in-negative (e ∷ es) x =
+    let rest = weight_in-negative es x in
+    by_lt_z x e.x
+    (λ before. omega (arith, ints, rest, weight_in-right e es x before, weight_in-right (negative_edge e) (map negative_edge es) x before))
+    (λ here. omega (arith, ints, rest, weight_in-left e es x here, weight_in-left (negative_edge e) (map negative_edge es) x here))
+
+edges_from-negative : (low : ℤ) (es : List Edge) → AreEdgesFrom low es → AreEdgesFrom low (map negative_edge es)
+edges_from-negative low [] edges = tt
+edges_from-negative low (e ∷ es) edges = (
+  record { column = edges.0.column; nonzero = λ none. edges.0.nonzero (omega (arith, ints, none)) },
+  edges.1,
+  edges_from-negative (e.x +ℤ pos 1) es edges.2,
+)
+
+pub row_negative : (reach : ℤ) (es : List Edge) → AreEdges es → StaysInReach reach es → RowBecomes negate_row reach es (map negative_edge es)
+row_negative reach es edges reached = record {
+  edges = grind (arith, ints, edges_from-negative, weight_in-negative);
+  reached = grind (arith, ints, weight_in-negative);
+  weights = record { weights = weight_in-negative es };
+}
 
 -- ---- columns that are reflected
 
@@ -61,128 +109,63 @@ weight_in-opposite_edges low (e ∷ es) x edges =
     let whole = weight_in-append (e ∷ []) es (opposite x) in
     omega (arith, ints)
 
--- the edges that were passed, from the last one on, and their images
-pub record AreOppositeSoFar (es left new : List Edge) : Type 0 where
-  pub passed : List Edge
-  pub all : es ≡ left ++ passed
-  pub images : new ≡ opposite_edges passed
-
-pub opposite_none : (es : List Edge) → AreOppositeSoFar es es []
-opposite_none es = record { passed = []; all = sym (append-nil es); images = refl }
-
-module _ (es before left : List Edge) (e : Edge) (new : List Edge) (last : left ≡ before ++ e ∷ []) (so_far : AreOppositeSoFar es left new) where
-  here : es ≡ before ++ e ∷ so_far.passed
-  here = so_far.all ∙ (ap (λ t. t ++ so_far.passed) last ∙ append_assoc before (e ∷ []) so_far.passed)
-
-  is_place : length before < length es
-  is_place = rw (here, length-append) (omega arith)
-
-  read : get_or es (length before) e ≡ e
-  read = rw here (grind (arith, get_or-append-add before (e ∷ so_far.passed) 0 e))
-
-  pub last_edge : AreEdges es → IsEdge e
-  last_edge edges = rw read at (edges_from-at least_coordinate es (length before) e edges.sorted is_place).0
-
-  -- its weight is the difference of two lawful weights
-  pub last_weight : AreEdges es → IsChange e.weight
-  last_weight edges = rw read at (change_at_edge least_coordinate es (length before) e edges.sorted edges.lawful is_place)
-
-  pub opposite_more : AreOppositeSoFar es before (new ++ opposite_edge e ∷ [])
-  opposite_more = record { passed = e ∷ so_far.passed; all = here; images = ap (λ t. t ++ opposite_edge e ∷ []) so_far.images }
-
 -- the edges of a row have a sum of 0, so a column of the images has the weight of the opposite column of the row
-mirrored_of : (es : List Edge) → AreEdges es → AreChanged Mirror es (opposite_edges es)
-unfolding image_in
-mirrored_of es row =
+pub row_opposite : (reach : ℤ) (es : List Edge) → AreEdges es → StaysInReach reach es → RowBecomes (move_row opposite) reach es (opposite_edges es)
+row_opposite reach es edges reached =
     let weights : (x : ℤ) → weight_in (opposite_edges es) x ≡ weight_in es (opposite x) =
-    λ x. let sum = weight_in-opposite_edges least_coordinate es x row.sorted in omega (arith, ints, row.closed) in
-    record {
-      edges = grind (arith, ints, opposite_edges-sorted, weight_in-before);
-      weights = record { weights = weights };
-    }
-
-pub opposite_all : (es left new : List Edge) → AreEdges es → length left ≡ 0 → AreOppositeSoFar es left new → AreChanged Mirror es new
-opposite_all es [] new row none so_far = rw (so_far.images, ← so_far.all) (mirrored_of es row)
-opposite_all es (e ∷ left) new row none so_far = absurd (omega arith)
+    λ x. let sum = weight_in-opposite_edges least_coordinate es x edges.sorted in omega (arith, ints, edges.closed) in
+    row_moved opposite reach es (opposite_edges es) edges reached (opposite_edges-sorted least_coordinate es edges.sorted) weights
+    (weights greatest_coordinate ∙ weight_in-before least_coordinate es (opposite greatest_coordinate) edges.sorted (omega (arith, ints)))
 
 -- ---- columns that are stretched
 
-abbrev pub stretched_edge : Stretch → Edge → Edge
-stretched_edge s e = record { x = target_of s e.x; weight = e.weight }
+abbrev pub target_edge : Stretch → Edge → Edge
+target_edge s e = record { x = target_of s e.x; weight = e.weight }
 
-stretched-weights : (s : Stretch) (es : List Edge) (x : ℤ) → IsStretch s → weight_in (map (stretched_edge s) es) x ≡ weight_in es (source_of s x)
-unfolding weight_in
-stretched-weights s [] x stretch = refl
-stretched-weights s (e ∷ es) x stretch =
-    grind (arith, ints, by_lt_z, source_of-reached, weight_in-right, sym, weight_in-left, source_of-from, stretched-weights s es x stretch)
+-- all edges of a row go to columns in range
+abbrev pub EdgesStayInside : Stretch → List Edge → Type 0
+EdgesStayInside s es = All (λ e. IsCoordinate (target_of s e.x)) es
 
--- the points at or to the right of a column are, when stretched, at or to the right of another
-stretched-sorted : (s : Stretch) (low new : ℤ) (es : List Edge) → IsStretch s
-    → ((x : ℤ) → low ≤ℤ x → IsCoordinate (target_of s x) → new ≤ℤ target_of s x) → AreEdgesFrom low es
-    → All (λ e. IsCoordinate (target_of s e.x)) es → AreEdgesFrom new (map (stretched_edge s) es)
-stretched-sorted s low new [] stretch right edges inside = tt
-stretched-sorted s low new (e ∷ es) stretch right edges inside =
-    let in_range = All-head (λ e. IsCoordinate (target_of s e.x)) e es inside in (
-      record { column = in_range; nonzero = edges.0.nonzero },
-      right e.x edges.1 in_range,
-      stretched-sorted s (e.x +ℤ pos 1) (target_of s e.x +ℤ pos 1) es stretch
-          (λ x after reached. let target = target_of-lt s e.x x stretch (omega (arith, ints)) in omega (arith, ints))
-          edges.2 (All-tail (λ e. IsCoordinate (target_of s e.x)) e es inside),
-    )
+module _ (s : Stretch) (stretch : IsStretch s) where
+  weight_in-stretched : (es : List Edge) (x : ℤ) → weight_in (map (target_edge s) es) x ≡ weight_in es (source_of s x)
+  unfolding weight_in
+  weight_in-stretched [] x = refl
+  weight_in-stretched (e ∷ es) x =
+      grind (arith, ints, by_lt_z, source_of-reached, weight_in-right, sym, weight_in-left, source_of-from, weight_in-stretched es x)
 
--- to the right of the field both rows have the sum of all their edges
-stretched-closed : (s : Stretch) (low : ℤ) (es : List Edge) → AreEdgesFrom low es
-    → All (λ e. IsCoordinate (target_of s e.x)) es → weight_in (map (stretched_edge s) es) greatest_coordinate ≡ weight_in es greatest_coordinate
-unfolding weight_in
-stretched-closed s low [] edges inside = refl
-stretched-closed s low (e ∷ es) edges inside =
-    let in_range = All-head (λ e. IsCoordinate (target_of s e.x)) e es inside in
-    weight_in-left (stretched_edge s e) (map (stretched_edge s) es) greatest_coordinate in_range.greatest
-    ∙ (ap (λ w. e.weight +ℤ w) (stretched-closed s (e.x +ℤ pos 1) es edges.2 (All-tail (λ e. IsCoordinate (target_of s e.x)) e es inside))
-    ∙ sym (weight_in-left e es greatest_coordinate edges.0.column.greatest))
+  -- the points at or to the right of a column are, when stretched, at or to the right of another
+  stretched-sorted : (low new : ℤ) (es : List Edge)
+      → ((x : ℤ) → low ≤ℤ x → IsCoordinate (target_of s x) → new ≤ℤ target_of s x) → AreEdgesFrom low es
+      → EdgesStayInside s es → AreEdgesFrom new (map (target_edge s) es)
+  stretched-sorted low new [] right edges inside = tt
+  stretched-sorted low new (e ∷ es) right edges inside =
+      let in_range = All-head (λ e. IsCoordinate (target_of s e.x)) e es inside in (
+        record { column = in_range; nonzero = edges.0.nonzero },
+        right e.x edges.1 in_range,
+        stretched-sorted (e.x +ℤ pos 1) (target_of s e.x +ℤ pos 1) es
+            (λ x after reached. let target = target_of-lt s e.x x stretch (omega (arith, ints)) in omega (arith, ints))
+            edges.2 (All-tail (λ e. IsCoordinate (target_of s e.x)) e es inside),
+      )
 
-pub stretched_of : (s : Stretch) (es : List Edge) → AreEdges es → IsStretch s
-    → All (λ e. IsCoordinate (target_of s e.x)) es → AreChanged (Columns s) es (map (stretched_edge s) es)
-unfolding image_in
-stretched_of s es row stretch inside = grind (arith, ints, stretched-sorted, stretched-weights, stretched-closed)
+  -- to the right of the field both rows have the sum of all their edges
+  stretched-closed : (low : ℤ) (es : List Edge) → AreEdgesFrom low es → EdgesStayInside s es
+      → weight_in (map (target_edge s) es) greatest_coordinate ≡ weight_in es greatest_coordinate
+  unfolding weight_in
+  stretched-closed low [] edges inside = refl
+  stretched-closed low (e ∷ es) edges inside =
+      let in_range = All-head (λ e. IsCoordinate (target_of s e.x)) e es inside in
+      weight_in-left (target_edge s e) (map (target_edge s) es) greatest_coordinate in_range.greatest
+      ∙ ap (λ w. e.weight +ℤ w) (stretched-closed (e.x +ℤ pos 1) es edges.2 (All-tail (λ e. IsCoordinate (target_of s e.x)) e es inside))
+      ∙ sym (weight_in-left e es greatest_coordinate edges.0.column.greatest)
+
+  pub row_stretched : (reach : ℤ) (es : List Edge) → AreEdges es → StaysInReach reach es → EdgesStayInside s es
+      → RowBecomes (move_row (source_of s)) reach es (map (target_edge s) es)
+  row_stretched reach es edges reached inside =
+      row_moved (source_of s) reach es (map (target_edge s) es) edges reached
+      (stretched-sorted least_coordinate least_coordinate es (λ x low in_range. in_range.least) edges.sorted inside) (weight_in-stretched es)
+      (stretched-closed least_coordinate es edges.sorted inside ∙ edges.closed)
 
 -- ---- the numbers that the code computes
 
 pub size-at_most : (z : ℤ) → least_coordinate ≤ℤ z → z ≤ℤ greatest_coordinate → unsigned_abs z ≤ unsigned_abs greatest_coordinate
 size-at_most z least greatest = omega (arith, ints)
-
--- the greatest size of a product of two coordinates
-abbrev greatest_product : ℕ
-greatest_product = unsigned_abs greatest_coordinate * unsigned_abs greatest_coordinate
-
-offset_is-small : (p o : ℤ) → unsigned_abs p ≤ greatest_product → IsCoordinate (p +ℤ o) → to_z w32 (of_z w32 o) ≡ o
-offset_is-small p o small in_range =
-    grind (arith, ints)
-
-coordinate_fits : (x : ℤ) → IsCoordinate x → FitsSigned w32 x
-coordinate_fits x in_range = omega (arith, ints)
-
-module _ (s : Stretch) (e : Edge) (stretch : IsStretch s) (edge : IsEdge e) where
-  product_size : unsigned_abs (e.x *ℤ s.factor) ≤ greatest_product
-  product_size = grind (arith, ints, unsigned_abs-mul, mul-le-mul, size-at_most)
-
-  x_is : to_z w32 (of_z w32 e.x) ≡ e.x
-  x_is = omega (arith, ints, edge.column)
-
-  factor_is : to_z w32 (of_z w32 s.factor) ≡ s.factor
-  factor_is = omega (arith, ints, stretch.least, stretch.greatest)
-
-  pub product_fits : FitsSigned w32 (to_z w32 (of_z w32 e.x) *ℤ to_z w32 (of_z w32 s.factor))
-  product_fits = rw (x_is, factor_is) (fits_signed_from_abs w32 (e.x *ℤ s.factor) (omega (arith, product_size)))
-
-  module _ (in_range : IsCoordinate (target_of s e.x)) where
-    -- the product is small, and so is the sum, so the offset is small, too
-    sum_is : to_z w32 (of_z w32 (to_z w32 (of_z w32 e.x) *ℤ to_z w32 (of_z w32 s.factor))) +ℤ to_z w32 (of_z w32 s.offset) ≡ target_of s e.x
-    sum_is = grind (arith, ints, to_z-of_z, fits_signed_from_abs, product_size, offset_is-small, x_is, factor_is)
-
-    pub sum_fits : FitsSigned w32 (to_z w32 (of_z w32 (to_z w32 (of_z w32 e.x) *ℤ to_z w32 (of_z w32 s.factor))) +ℤ to_z w32 (of_z w32 s.offset))
-    sum_fits = rw sum_is (coordinate_fits (target_of s e.x) in_range)
-
-    pub point_is : to_z w32 (of_z w32 (to_z w32 (of_z w32 (to_z w32 (of_z w32 e.x) *ℤ to_z w32 (of_z w32 s.factor))) +ℤ to_z w32 (of_z w32 s.offset)))
-        ≡ target_of s e.x
-    point_is = rw sum_is (to_z-of_z w32 (target_of s e.x) (coordinate_fits (target_of s e.x) in_range))

@@ -1,112 +1,103 @@
 -- A row of edges after each weight is mapped, edge by edge.
-use Rattle.std.proofs.Common.{◌≡◌, ℕ, ◌+◌, ◌<◌, ℤ, pos, ◌+ℤ◌, ◌-ℤ◌, ◌≤ℤ◌, ◌<ℤ◌, List, [], ◌∷◌, ◌++◌, length, drop, get_or, refl, subst, sym, ap, ◌∙◌, arith}
+use Rattle.std.proofs.Common.{◌≡◌, ℕ, ◌+◌, ◌<◌, ◌≤◌, ℤ, pos, ◌+ℤ◌, ◌-ℤ◌, ◌≤ℤ◌, ◌<ℤ◌, List, [], ◌∷◌, ◌++◌, length, take, drop, get_or, refl, subst, sym, ap, ◌∙◌, arith}
 use Rattle.std.specs.List.{All}
 use Rattle.std.proofs.lemmas.Int.{ints, by_lt_z}
-use Rattle.std.proofs.lemmas.List.{drop_more}
+use Rattle.std.proofs.lemmas.List.{drop_more, take_all}
 use Rattle.std.proofs.lemmas.List.Elements.{All-nil}
-use Rattle.mf_geom.specs.Coordinates.{least_coordinate}
+use Rattle.mf_geom.specs.Coordinates.{least_coordinate, greatest_coordinate}
 use Rattle.mf_edges.specs.declared.edge.Edge.{Edge}
-use Rattle.mf_edges.specs.declared.row_change.RowChange.TheVariants.{Weights}
 use Rattle.mf_edges.specs.declared.weight_map.WeightMap.{WeightMap}
 use Rattle.mf_edges.specs.LawfulWeights.{IsLawfulWeight}
 use Rattle.mf_edges.specs.Edges.{weight_in, AreEdgesFrom, AreEdges}
 use Rattle.mf_edges.specs.Merging.{unless_zero}
-use Rattle.mf_edges.specs.RowChanges.{image_in, AreChanged}
-use Rattle.mf_edges.specs.WeightMaps.{mapped_weight, IsWeightMap}
-use Rattle.mf_edges.proofs.EdgesLemmas.{weight_in-left, weight_in-right, weight_in-before}
-use Rattle.mf_edges.proofs.EdgeSums.{with_edge_in-before, with_edge_in-after, weight_in-push, sorted_push, before_push, zero_lawful, IsColumnFrom}
+use Rattle.mf_edges.specs.WeightMaps.{mapped_in, mapped_weight, AreMapped, IsWeightMap}
+use Rattle.mf_edges.proofs.EdgesAt.{step_at_edge, weight_in-take_after, weight_in-take_more, weight_in-take_same}
+use Rattle.mf_edges.proofs.EdgeSums.{with_edge_in-before, with_edge_in-after, weight_in-push, sorted_push, before_push, IsColumnFrom}
 
--- to the left of a column, the new edges have the mapped weights of a row, the rest of whose edges are still to come;
--- from the column on, the row without the rest has the running weight, and the new edges have its image
--- (the new edges come with the weight at their end, and the rest with the weight before it)
-pub record IsMappedSoFar (m : WeightMap) (es : List Edge) (new left : List Edge × ℤ) : Type 0 where
+-- new edges, to the left of those that are still to come, have the mapped weights of the first i edges of a row, the last of which is `weight`
+pub record IsMappedSoFar (m : WeightMap) (es new : List Edge) (i : ℕ) (weight image : ℤ) : Type 0 where
   pub low : ℤ
-  pub rest : AreEdgesFrom low left.0
-  pub sorted : AreEdgesFrom least_coordinate new.0
-  pub before : All (λ e. e.x <ℤ low) new.0
-  pub weights : (x : ℤ) → x <ℤ low → weight_in new.0 x ≡ mapped_weight m (weight_in es x)
-  pub sum : (x : ℤ) → low ≤ℤ x → weight_in es x ≡ left.1 +ℤ weight_in left.0 x
-  pub running : (x : ℤ) → low ≤ℤ x → weight_in new.0 x ≡ new.1
-  pub lawful : IsLawfulWeight left.1
-  pub image_is : new.1 ≡ mapped_weight m left.1
+  pub rest : AreEdgesFrom low (drop i es)
+  pub sorted : AreEdgesFrom least_coordinate new
+  pub before : All (λ e. e.x <ℤ low) new
+  pub weights : (x : ℤ) → weight_in new x ≡ mapped_weight m (weight_in (take i es) x)
+  pub weight_is : weight ≡ weight_in (take i es) greatest_coordinate
+  pub image_is : image ≡ mapped_weight m weight
 
-pub mapped_none : (m : WeightMap) (es : List Edge) → AreEdges es → IsWeightMap m → IsMappedSoFar m es ([], pos 0) (es, pos 0)
+pub mapped_none : (m : WeightMap) (es : List Edge) → AreEdges es → IsWeightMap m → IsMappedSoFar m es [] 0 (pos 0) (pos 0)
 unfolding weight_in
 mapped_none m es row map = record {
   low = least_coordinate;
   rest = row.sorted;
   sorted = tt;
   before = All-nil (λ e. e.x <ℤ least_coordinate);
-  weights = λ x before. sym (ap (mapped_weight m) (weight_in-before least_coordinate es x row.sorted before) ∙ map.zero);
-  sum = λ x after. omega (arith, ints);
-  running = λ x after. refl;
-  lawful = zero_lawful;
+  weights = λ x. sym map.zero;
+  weight_is = refl;
   image_is = sym map.zero;
 }
 
-pub mapped_read : (m : WeightMap) (es mapped : List Edge) (i : ℕ) (d : Edge) (weight image : ℤ) → i < length es
-    → IsMappedSoFar m es (mapped, image) (drop i es, weight) → IsMappedSoFar m es (mapped, image) (get_or es i d ∷ drop (i + 1) es, weight)
-mapped_read m es mapped i d weight image inside so_far = subst (λ rest. IsMappedSoFar m es (mapped, image) (rest, weight)) (drop_more es i d inside) so_far
+module _ (m : WeightMap) (es new : List Edge) (i : ℕ) (weight image : ℤ) (so_far : IsMappedSoFar m es new i weight image)
+    (d : Edge) (row : AreEdges es) (inside : i < length es) where
+  abbrev e : Edge
+  e = get_or es i d
 
--- where the rest adds nothing, the new edges have the mapped weight of the row
-mapped_where_none : (m : WeightMap) (es mapped rest : List Edge) (weight image : ℤ)
-    → IsMappedSoFar m es (mapped, image) (rest, weight) → (x : ℤ) → weight_in rest x ≡ pos 0 → weight_in mapped x ≡ mapped_weight m (weight_in es x)
-mapped_where_none m es mapped rest weight image so_far x none = grind (arith, ints, by_lt_z)
+  rest : AreEdgesFrom so_far.low (e ∷ drop (i + 1) es)
+  rest = subst (AreEdgesFrom so_far.low) (drop_more es i d inside) so_far.rest
 
-module _ (m : WeightMap) (es mapped : List Edge) (e : Edge) (rest : List Edge) (weight image : ℤ)
-    (so_far : IsMappedSoFar m es (mapped, image) (e ∷ rest, weight)) where
-  reach : IsColumnFrom so_far.low e.x
-  reach = record { from = so_far.rest.1; column = so_far.rest.0.column }
+  column : IsColumnFrom so_far.low e.x
+  column = record { from = rest.1; column = rest.0.column }
 
-  weight_here : weight_in es e.x ≡ weight +ℤ e.weight
-  weight_here =
-      let sum = so_far.sum e.x reach.from in
-      let first = weight_in-left e rest e.x (omega (arith, ints)) in
-      let none = weight_in-before (e.x +ℤ pos 1) rest e.x so_far.rest.2 (omega (arith, ints)) in
-      omega (arith, ints)
+  -- the weight up to the next edge, from its column on, and in the row just before it
+  running : (x : ℤ) → e.x ≤ℤ x → weight_in (take i es) x ≡ weight
+  running x after =
+      weight_in-take_after _ es i d x row.sorted inside after ∙ sym (weight_in-take_after _ es i d greatest_coordinate row.sorted inside rest.0.column.greatest)
+      ∙ sym so_far.weight_is
 
-  pub lawful_more : AreEdges es → IsLawfulWeight (weight +ℤ e.weight)
-  lawful_more row = subst IsLawfulWeight weight_here (row.lawful e.x)
+  here : weight_in es (e.x -ℤ pos 1) ≡ weight
+  here = sym (weight_in-take_after _ es i d e.x row.sorted inside (omega (arith, ints))) ∙ running e.x (omega (arith, ints))
+
+  pub lawful_before : IsLawfulWeight weight
+  lawful_before = subst IsLawfulWeight here (row.lawful (e.x -ℤ pos 1))
+
+  pub lawful_after : IsLawfulWeight (weight +ℤ e.weight)
+  lawful_after = subst IsLawfulWeight (step_at_edge _ es i d row.sorted inside ∙ ap (λ w. w +ℤ e.weight) here) (row.lawful e.x)
 
   module _ (next : ℤ) (next_is : next ≡ mapped_weight m (weight +ℤ e.weight)) where
-    running_more : (x : ℤ) → e.x ≤ℤ x → weight_in (mapped ++ unless_zero (record { x = e.x; weight = next -ℤ image })) x ≡ next
-    running_more x after =
-        let old = so_far.running x (omega (arith, ints, reach.from)) in
-        let more = weight_in-push mapped e.x (next -ℤ image) x ∙ with_edge_in-after mapped e.x (next -ℤ image) x after in
-        omega (arith, ints)
+    weights_more : (x : ℤ) → weight_in (new ++ unless_zero (record { x = e.x; weight = next -ℤ image })) x ≡ mapped_weight m (weight_in (take (i + 1) es) x)
+    weights_more x =
+        weight_in-push new e.x (next -ℤ image) x
+        ∙ by_lt_z x e.x
+        (λ left. with_edge_in-before new e.x (next -ℤ image) x left ∙ so_far.weights x ∙ ap (mapped_weight m) (sym (weight_in-take_same es i d x inside left)))
+        (λ after.
+        let old = so_far.weights x ∙ ap (mapped_weight m) (running x after) ∙ sym so_far.image_is in
+        let more = with_edge_in-after new e.x (next -ℤ image) x after in
+        let both : weight_in (take (i + 1) es) x ≡ weight +ℤ e.weight =
+        weight_in-take_more es i d x inside after ∙ ap (λ w. w +ℤ e.weight) (running x after) in
+        rw (both, ← next_is) (omega (arith, ints)))
 
-    weights_before : (x : ℤ) → x <ℤ e.x → weight_in (mapped ++ unless_zero (record { x = e.x; weight = next -ℤ image })) x ≡ mapped_weight m (weight_in es x)
-    weights_before x before =
-        let none : weight_in (e ∷ rest) x ≡ pos 0 =
-        weight_in-right e rest x before ∙ weight_in-before (e.x +ℤ pos 1) rest x so_far.rest.2 (omega (arith, ints)) in
-        weight_in-push mapped e.x (next -ℤ image) x
-        ∙ (with_edge_in-before mapped e.x (next -ℤ image) x before ∙ mapped_where_none m es mapped (e ∷ rest) weight image so_far x none)
-
-    weights_here : (x : ℤ) → x ≡ e.x → weight_in (mapped ++ unless_zero (record { x = e.x; weight = next -ℤ image })) x ≡ mapped_weight m (weight_in es x)
-    weights_here x here = rw here (running_more e.x (omega (arith, ints)) ∙ (next_is ∙ ap (mapped_weight m) (sym weight_here)))
-
-    pub mapped_more : AreEdges es → IsMappedSoFar m es (mapped ++ unless_zero (record { x = e.x; weight = next -ℤ image }), next) (rest, weight +ℤ e.weight)
-    mapped_more row = record {
+    pub mapped_more : IsMappedSoFar m es (new ++ unless_zero (record { x = e.x; weight = next -ℤ image })) (i + 1) (weight +ℤ e.weight) next
+    mapped_more = record {
       low = e.x +ℤ pos 1;
-      rest = so_far.rest.2;
-      sorted = sorted_push mapped so_far.low e.x (next -ℤ image) so_far.sorted so_far.before reach;
-      before = before_push mapped so_far.low e.x (next -ℤ image) so_far.before reach.from;
-      weights = λ x before. by_lt_z x e.x (weights_before x) (λ after. weights_here x (omega (arith, ints)));
-      sum = λ x after.
-          let old = so_far.sum x (omega (arith, ints, reach.from)) in
-          let first = weight_in-left e rest x (omega (arith, ints)) in
-          omega (arith, ints);
-      running = λ x after. running_more x (omega (arith, ints));
-      lawful = lawful_more row;
+      rest = rest.2;
+      sorted = sorted_push new so_far.low e.x (next -ℤ image) so_far.sorted so_far.before column;
+      before = before_push new so_far.low e.x (next -ℤ image) so_far.before column.from;
+      weights = weights_more;
+      weight_is =
+          ap (λ w. w +ℤ e.weight) so_far.weight_is ∙ sym (weight_in-take_more es i d greatest_coordinate inside rest.0.column.greatest);
       image_is = next_is;
     }
 
-pub mapped_all : (m : WeightMap) (es mapped : List Edge) (weight image : ℤ) → AreEdges es → IsWeightMap m
-    → IsMappedSoFar m es (mapped, image) ([], weight) → AreChanged (Weights m) es mapped
-unfolding weight_in image_in
-mapped_all m es mapped weight image row map so_far =
-    let weights : (x : ℤ) → weight_in mapped x ≡ mapped_weight m (weight_in es x) = λ x. mapped_where_none m es mapped [] weight image so_far x refl in
+pub mapped_all : (m : WeightMap) (es new : List Edge) (i : ℕ) (weight image : ℤ) → AreEdges es → IsWeightMap m → length es ≤ i
+    → IsMappedSoFar m es new i weight image → AreMapped m es new
+unfolding mapped_in
+mapped_all m es new i weight image row map end so_far =
+    let weights : (x : ℤ) → weight_in new x ≡ mapped_weight m (weight_in es x) =
+    λ x. so_far.weights x ∙ ap (λ es. mapped_weight m (weight_in es x)) (take_all i es end) in
     record {
-      edges = grind (arith, ints);
+      edges = record {
+        sorted = so_far.sorted;
+        lawful = λ x. subst IsLawfulWeight (sym (weights x)) (map.lawful _ (row.lawful x));
+        closed = weights greatest_coordinate ∙ ap (mapped_weight m) row.closed ∙ map.zero;
+      };
       weights = record { weights = weights };
     }

@@ -1,9 +1,9 @@
 -- Lists whose heights fall, and what a partition point says of a list.
-use Rattle.std.proofs.Common.{◌≡◌, ℕ, zero, suc, ◌+◌, ◌≤◌, ℤ, ◌≤ℤ◌, ◌<ℤ◌, List, [], ◌∷◌, Bool, true, length, take, drop, get_or, arith}
+use Rattle.std.proofs.Common.{◌≡◌, ℕ, zero, suc, ◌≤◌, ℤ, ◌≤ℤ◌, ◌<ℤ◌, List, [], ◌∷◌, Bool, true, length, take, get_or, arith}
 use Rattle.std.specs.List.{All, AllWithin}
 use Rattle.std.specs.List.Sorted.{IsPartitionedBy}
 use Rattle.std.proofs.lemmas.Int.{ints}
-use Rattle.std.proofs.lemmas.List.{get_or-take, get_or-drop, length-take-le, length-drop}
+use Rattle.std.proofs.lemmas.List.{get_or-take, length-take-le}
 
 -- each height is less than all before it
 abbrev pub Falls : {X : Type 0} → (X → ℤ) → List X → Type 0
@@ -21,9 +21,6 @@ IsPartitionedBy-falls f p up (x ∷ xs) falls zero (suc j) d le lt e =
 IsPartitionedBy-falls f p up (x ∷ xs) falls (suc i) zero d le lt e = absurd (omega arith)
 IsPartitionedBy-falls f p up (x ∷ xs) falls (suc i) (suc j) d le lt e = IsPartitionedBy-falls f p up xs falls.1 i j d (omega arith) (omega arith) e
 
--- what a partition point says of the elements before it, and of those from it on
+-- what a partition point says of the elements before it
 pub All-take_within : {X : Type 0} (P : X → Type 0) (xs : List X) (n : ℕ) → n ≤ length xs → AllWithin P xs 0 n → All P (take n xs)
 All-take_within P xs n le within k d lt = grind (arith, ints, length-take-le, get_or-take)
-
-pub All-drop_within : {X : Type 0} (P : X → Type 0) (xs : List X) (n : ℕ) → AllWithin P xs n (length xs) → All P (drop n xs)
-All-drop_within P xs n within k d lt = rw get_or-drop (within (n + k) d (omega arith) (omega (arith, length-drop n xs)))

@@ -1,4 +1,3 @@
-pub mod AddedEdges
 pub mod ColumnTotals
 pub mod EdgeChanges
 pub mod EdgeMaps

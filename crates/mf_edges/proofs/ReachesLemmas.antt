@@ -109,9 +109,6 @@ reach_bounds reach es stays = let within = stays.within (pos 0) in (omega (arith
 pub reach_is : (reach : ℤ) (es : List Edge) → StaysInReach reach es → to_z w32 (of_z w32 reach) ≡ reach
 reach_is reach es stays = let bounds = reach_bounds reach es stays in omega (arith, ints)
 
-pub least_reach_is : (reach : ℤ) (es : List Edge) → AreChanges es → IsLeastReach reach es → to_z w32 (of_z w32 reach) ≡ reach
-least_reach_is reach es changes least = grind (arith, ints)
-
 -- the least reach is one where it is at most 32767
 pub least_is_reach : (reach : ℤ) (es : List Edge) → IsLeastReach reach es → reach ≤ℤ greatest_weight → StaysInReach reach es
 least_is_reach reach es least most = record { most = most; within = least.within }
@@ -140,15 +137,3 @@ module _ (es fs sum : List Edge) (is_sum : IsEdgeSum es fs sum) where
   -- and where no column is unlawful
   pub row_unless_unlawful : AreEdges es → AreChanges fs → (IsUnlawfulColumn (weight_in_both es fs) → ⊥) → AreEdges sum
   row_unless_unlawful left right none = grind (arith, ints, by_lt_z, sum_is_row)
-
-  -- the sum of two reaches is a reach of the sum
-  pub reach_of_sum : (a b : ℤ) → StaysInReach a es → StaysInReach b fs → (a +ℤ b) ≤ℤ greatest_weight → StaysInReach (a +ℤ b) sum
-  unfolding weight_in_both
-  reach_of_sum a b left right most = record {
-    most = most;
-    within = λ x.
-        let all = is_sum.weights.weights x in
-        let l = left.within x in
-        let r = right.within x in
-        record { least = omega (arith, ints); greatest = omega (arith, ints) };
-  }

@@ -20,11 +20,6 @@ abbrev pub AreEdgesFrom : ℤ → List Edge → Type 0
 AreEdgesFrom low [] = Unit {0}
 AreEdgesFrom low (e ∷ es) = IsEdge e × (low ≤ℤ e.x) × AreEdgesFrom (e.x +ℤ pos 1) es
 
--- the edges of a row, of which some may be missing: sorted, with lawful weights between them
-pub record AreOpenEdges (es : List Edge) : Type 0 where
-  pub sorted : AreEdgesFrom least_coordinate es
-  pub lawful : (x : ℤ) → IsLawfulWeight (weight_in es x)
-
 -- the edges of a row: sorted, with lawful weights between them, and with a sum of 0
 pub record AreEdges (es : List Edge) : Type 0 where
   pub sorted : AreEdgesFrom least_coordinate es

@@ -3,7 +3,6 @@ pub mod Edges
 pub mod LawfulWeights
 pub mod Merging
 pub mod Reaches
-pub mod RowChanges
 pub mod Sums
 pub mod Totals
 pub mod WeightMaps

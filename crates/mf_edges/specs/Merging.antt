@@ -45,10 +45,6 @@ abbrev pub BeginAt : ℤ → List Edge → Type 0
 BeginAt x [] = ⊥
 BeginAt x (e ∷ es) = e.x ≡ x
 
--- each edge is at or to the left of column x
-abbrev pub EndAt : ℤ → List Edge → Type 0
-EndAt x es = All (λ e. e.x ≤ℤ x) es
-
 -- the edge at column x has weight w, or there is none and w is 0; the others are to the right of it and still to be added, and are
 -- fewer where there is one
 pub record IsSplitAt (es : List Edge) (x w : ℤ) (others : List Edge) : Type 0 where

@@ -1,13 +1,9 @@
 //! The edges of a row, and the weights between them.
-ghost use Rattle.std.specs.Prelude.{◌≡◌, ◌≢◌, ◌<◌, ◌≤◌, ◌+◌, ◌/◌, ◌++◌, All, IsOk, OnOk, OnErr, pos};
-ghost use Rattle.std.specs.List.{HoldsAt};
+ghost use Rattle.std.specs.Prelude.{◌≡◌, ◌≢◌, ◌<◌, ◌≤◌, ◌++◌, IsOk, OnOk, OnErr, pos};
 ghost use Rattle.std.specs.Vec.{vec_len, vec_capacity};
-ghost use Rattle.mf_geom.specs.Coordinates.{least_coordinate, IsCoordinate};
-ghost use Rattle.mf_edges.specs.LawfulWeights.{IsLawfulWeight};
-ghost use Rattle.mf_edges.specs.Edges.{AreEdges, AreEdgesFrom, AreOpenEdges, weight_in};
+ghost use Rattle.mf_edges.specs.Edges.{AreEdges, weight_in};
 ghost use Rattle.mf_edges.specs.Merging.{unless_zero, AreChanges};
 ghost use Rattle.mf_edges.specs.Reaches.{IsLeastReach};
-ghost use Rattle.mf_edges.specs.Sums.{HaveWeights, with_edge_in};
 ghost use Rattle.mf_edges.specs.Totals.{edges_total};
 
 use crate::field::FIELD_END;
@@ -70,61 +66,6 @@ pub fn reach_of(edges: &[Edge]) -> i32
     reach
 }
 
-/// Adds a weight to all columns from column x on. The weight is added to the edge at x, which is removed where the two
-/// cancel; where there is no edge at x, one is inserted, unless the weight is 0. Refused with `OutOfMemory`, only where an
-/// edge must be inserted and there is no room left for it; the edges are then unchanged. Requires edges sorted by column,
-/// at most one a column, in -4095..=4095, none of weight 0, with weights in -32767..=32767 between them; a column in
-/// -4095..=4095; and a weight in -32767..=32767. The edges stay sorted, at most one a column, in -4095..=4095, none of weight
-/// 0. The weights between them may then exceed 32767 in absolute value, but the next call requires that they do not. The
-/// list gets at most one edge more, and its capacity never shrinks.
-#[tactic(auto, using(crate::proofs::AddedEdges::nothing_added))]
-pub fn add_edge(edges: &mut Vec<Edge>, x: i32, weight: i32) -> Result<(), OutOfMemory>
-    requires edges { AreOpenEdges edges.old.items }
-    requires column { IsCoordinate x }
-    requires weight { IsLawfulWeight weight }
-    ensures sorted { AreEdgesFrom least_coordinate edges.new.items }
-    ensures weights { OnOk result (HaveWeights (with_edge_in edges.old.items x weight) edges.new.items) }
-    ensures unchanged { OnErr result (edges.new.items ≡ edges.old.items) }
-    ensures succeeds { vec_len edges.old < vec_capacity edges.old → IsOk result }
-    ensures nonzero { OnErr result (weight ≢ pos 0) }
-    ensures absent { OnErr result (All (λ edge. edge.x ≢ x) edges.old.items) }
-    ensures capacity { vec_capacity edges.old ≤ vec_capacity edges.new }
-    ensures len { vec_len edges.new ≤ vec_len edges.old + 1 }
-{
-    match edges.binary_search_by_key(&x, |edge| edge.x) {
-        Ok(at) => change_edge(edges, at, weight),
-        Err(at) => {
-            if weight != 0 {
-                edges.insert(at, Edge { x, weight })?;
-            }
-        }
-    }
-    Ok(())
-}
-
-/// Adds a weight to an edge, and removes the edge where the two cancel.
-#[tactic(auto, using(std::proofs::lemmas::Int::ints, crate::proofs::AddedEdges::edge_is_small))]
-fn change_edge(edges: &mut Vec<Edge>, at: usize, weight: i32)
-    requires edges { AreOpenEdges edges.old.items }
-    requires weight { IsLawfulWeight weight }
-    requires in_range { at < vec_len edges.old }
-    ensures sorted { AreEdgesFrom least_coordinate edges.new.items }
-    ensures weights { HoldsAt (λ edge. HaveWeights (with_edge_in edges.old.items edge.x weight) edges.new.items) edges.old.items at }
-    ensures capacity { vec_capacity edges.new ≡ vec_capacity edges.old }
-    ensures len { vec_len edges.new ≤ vec_len edges.old }
-{
-    let edge = edges[at];
-    let changed = edge.weight + weight;
-    if changed == 0 {
-        edges.remove(at);
-    } else {
-        edges[at] = Edge {
-            x: edge.x,
-            weight: changed,
-        };
-    }
-}
-
 /// Appends an edge to a list of edges, unless its weight is 0. Refused with `OutOfMemory`, only where the weight is not
 /// 0 and there is no room left; the list is then unchanged. Its capacity never shrinks.
 pub fn push_unless_zero(edges: &mut Vec<Edge>, edge: Edge) -> Result<(), OutOfMemory>
@@ -138,18 +79,4 @@ pub fn push_unless_zero(edges: &mut Vec<Edge>, edge: Edge) -> Result<(), OutOfMe
         edges.push(edge)?;
     }
     Ok(())
-}
-
-/// Gives back the room that cancelled edges have left, where fewer edges stay than half of the capacity, rounded down.
-/// A list with no edge then keeps none; how much a list with edges gives back, no clause says. The edges are unchanged.
-/// Giving back less would cost more time than it saves memory.
-pub fn give_back_room(edges: &mut Vec<Edge>)
-    ensures items { edges.new.items ≡ edges.old.items }
-    ensures capacity { vec_capacity edges.new ≤ vec_capacity edges.old }
-    ensures stays { vec_capacity edges.old / 2 ≤ vec_len edges.old → vec_capacity edges.new ≡ vec_capacity edges.old }
-    ensures frees { 2 ≤ vec_capacity edges.old → vec_len edges.old ≡ 0 → vec_capacity edges.new ≡ 0 }
-{
-    if edges.len() < edges.capacity() / 2 {
-        edges.shrink_to_fit();
-    }
 }

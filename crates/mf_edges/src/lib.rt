@@ -2,19 +2,14 @@
 #![tactic(auto)]
 
 mod edge;
-mod edge_change;
 mod edge_sum;
 mod field;
 pub mod laws;
-mod row_change;
 mod stretch;
 mod weight_map;
 
-pub use edge::{
-    Edge, add_edge, give_back_room, push_unless_zero, reach_of, total_of_edges, weight_at_column,
-};
+pub use edge::{Edge, push_unless_zero, reach_of, total_of_edges, weight_at_column};
 pub use edge_sum::{push_edges, push_sum_of_edges};
 pub use field::{FIELD_END, FIELD_START, MAX_WEIGHT, is_lawful_weight};
-pub use row_change::{RowChange, changed_edges};
 pub use stretch::Stretch;
-pub use weight_map::WeightMap;
+pub use weight_map::{WeightMap, push_mapped_edges};

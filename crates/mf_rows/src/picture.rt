@@ -5,8 +5,8 @@ use crate::bounds::{Box4, Pixels, bounds_of_runs};
 use crate::run::Run;
 use crate::runs::Runs;
 use mf_base::OutOfMemory;
-use mf_edges::{RowChange, WeightMap};
-use mf_strips::{AddFault, Corner, Part, Pile, changed, negated, part_of_corners};
+use mf_edges::WeightMap;
+use mf_strips::{AddFault, Corner, Part, Pile, mapped, negated, part_of_corners};
 use std::alloc::Global;
 use std::marker::Model;
 use std::sync::Arc;
@@ -220,7 +220,7 @@ impl Picture {
             return Ok(Picture::blank(alloc));
         }
         let part = self.pile.joined(alloc)?;
-        Picture::of_part(alloc, changed(alloc, &part, &RowChange::Weights(*map))?)
+        Picture::of_part(alloc, mapped(alloc, &part, map)?)
     }
 
     /// Adds corners to the picture. Requires at most 8192 corners, with coordinates in -4095..=4095 and weights in -3..=3, which together

@@ -16,7 +16,6 @@ mod moves;
 mod piles;
 mod rectangle_sums;
 mod rectangles;
-mod room;
 mod runs;
 mod slow;
 mod sums;

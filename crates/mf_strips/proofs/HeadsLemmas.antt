@@ -3,7 +3,7 @@ use Rattle.std.proofs.Common.{◌≡◌, ℕ, zero, suc, ℤ, get_or, ◌+◌, �
 use Rattle.std.proofs.lemmas.Int.{ints}
 use Rattle.std.proofs.lemmas.List.{take-append-le, drop-append-le, map_push, take_all}
 use Rattle.std.proofs.lemmas.List.Elements.{All-head, All-tail, All-weaker, All-push}
-use Rattle.std.proofs.Math.Seq.{drop-append_seam}
+use Rattle.std.proofs.Math.Seq.{drop-append_seam, take-append_seam}
 use Rattle.mf_edges.specs.declared.edge.Edge.{Edge}
 use Rattle.mf_strips.specs.declared.strips.Head.{Head}
 use Rattle.mf_strips.specs.Heads.{strip_at, strips_at, IsHead, AreHeads}
@@ -45,6 +45,18 @@ module _ (es fs ds : List Edge) (all : ds ≡ es ++ fs) (hs : List Head) (heads 
 
   pub strips_push : strips_at ds (hs ++ h ∷ []) ≡ strips_at es hs ++ record { top = top; edges = fs } ∷ []
   strips_push = map_push (strip_at ds) hs h ∙ rw (ap (λ ds. strips_at ds hs) all, strips_kept es fs hs heads, strip_pushed) refl
+
+-- ---- edges are appended, and taken back
+
+module _ (es fs ds : List Edge) (all : ds ≡ es ++ fs) (hs : List Head) (heads : AreHeads es hs) (start : ℕ) (starts : start ≡ length es) where
+  pub strips_back : strips_at (take start ds) hs ≡ strips_at es hs
+  strips_back = ap (λ ts. strips_at ts hs) (ap (λ n. take n ds) starts ∙ ap (take (length es)) all ∙ take-append_seam es fs)
+
+  -- they are those of the last strip
+  pub row_back : drop start ds ≡ last_row (strips_at ds hs) → fs ≡ last_row (strips_at es hs)
+  row_back same =
+      sym (drop-append_seam es fs) ∙ sym (ap (drop (length es)) all) ∙ sym (ap (λ n. drop n ds) starts) ∙ same
+      ∙ ap last_row (ap (λ ts. strips_at ts hs) all ∙ strips_kept es fs hs heads)
 
 -- the last head has the edges of the last strip
 pub last_row_is : (es : List Edge) (hs : List Head) (n : ℕ) (h : Head) → length hs ≡ suc n → h ≡ get_or hs n h → (strip_at es h).edges ≡ last_row (strips_at es hs)

@@ -15,7 +15,8 @@ pub mod SumsLemmas
 pub mod Written
 pub mod StripMaps
 pub mod Negations
-pub mod RowChangesLemmas
+pub mod MappedStrips
+pub mod MirroredColumns
 pub mod MirroredRows
 pub mod StretchedPlaces
 pub mod StretchedRows

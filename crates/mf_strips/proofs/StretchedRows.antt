@@ -13,7 +13,7 @@ use Rattle.mf_strips.specs.declared.strips.Head.{Head}
 use Rattle.mf_strips.specs.Heads.{strip_at, strips_at, IsHead, AreHeads}
 use Rattle.mf_strips.specs.Moves.{stretched_head}
 use Rattle.mf_strips.specs.Strips.{EdgeStrip, IsStrip, AreAbove, AreStrips, AreStripsFrom, row_in}
-use Rattle.mf_strips.proofs.RowChangesLemmas.{last_row-is}
+use Rattle.mf_strips.proofs.MappedStrips.{last_row-is}
 use Rattle.mf_strips.proofs.StripMaps.{starts_from, strips_from-all}
 use Rattle.mf_strips.proofs.StripsLemmas.{row_in-below, row_in-from}
 
@@ -75,11 +75,6 @@ module _ (s : Stretch) (stretch : IsStretch s) where
   source_of-before p q lt =
       by_lt_z (source_of s q) p (λ before. before) (λ ge. let reached = source_of-reached s p q stretch ge in absurd (omega (arith, ints)))
 
-  source_of-within : (q : ℤ) → q <ℤ target_of s (source_of s q +ℤ pos 1)
-  source_of-within q =
-      by_lt_z q (target_of s (source_of s q +ℤ pos 1)) (λ lt. lt)
-      (λ ge. let from = source_of-from s (source_of s q +ℤ pos 1) q stretch ge in absurd (omega (arith, ints)))
-
   -- a strip is kept where it begins in the field
   module _ (t : EdgeStrip) (ts : List EdgeStrip) where
     abbrev new : EdgeStrip
@@ -117,32 +112,38 @@ module _ (s : Stretch) (stretch : IsStretch s) where
   IsBlankAbove t = greatest_coordinate <ℤ target_of s t.top → t.edges ≡ []
 
   stretched-row : (above : List Edge) (top reach : ℤ) (ss : List EdgeStrip) (y : ℤ) → AreStripsFrom top reach ss
-      → (least_coordinate -ℤ pos 1) ≤ℤ y → y <ℤ greatest_coordinate → All IsBlankAbove ss
+      → (least_coordinate -ℤ pos 1) ≤ℤ y → All IsBlankAbove ss
       → ((p : ℤ) → p ≤ℤ top → greatest_coordinate <ℤ target_of s p → above ≡ [])
       → row_in above (stretched_strips s ss) y ≡ row_in above ss (source_of s y)
   unfolding row_in
-  stretched-row above top reach [] y strips low high blank over = refl
-  stretched-row above top reach (t ∷ ts) y strips low high blank over =
+  stretched-row above top reach [] y strips low blank over = refl
+  stretched-row above top reach (t ∷ ts) y strips low blank over =
       let le : t.top ≤ℤ top = strips.1 in
       let q = source_of s y in
       let others = All-tail IsBlankAbove t ts blank in
-      let next = stretched-row above (t.top -ℤ pos 1) reach ts y strips.2 low high others (λ p lower. over p (omega (arith, ints))) in
+      let next = stretched-row above (t.top -ℤ pos 1) reach ts y strips.2 low others (λ p lower. over p (omega (arith, ints))) in
+      let passed : (IsCoordinate (target_of s t.top) → ⊥) → target_of s t.top ≤ℤ y → row_in above (stretched_strips s (t ∷ ts)) y ≡ row_in above (t ∷ ts) q =
+      λ outside ge.
+      let from = source_of-from s t.top y stretch ge in
+      ap (λ us. row_in above us y) (left_out t ts outside) ∙ next
+      ∙ row_in-from above ts q (starts_from (t.top -ℤ pos 1) reach ts q strips.2 (omega (arith, ints))) ∙ sym (row_in-from above (t ∷ ts) q from) in
       by_place t ts
       (λ inside. ap (λ us. row_in above us y) (kept t ts inside) ∙ by_lt_z y (target_of s t.top)
       (λ lt.
       row_in-below above (new t ts) (stretched_strips s ts) y lt
-      ∙ stretched-row t.edges (t.top -ℤ pos 1) reach ts y strips.2 low high others
+      ∙ stretched-row t.edges (t.top -ℤ pos 1) reach ts y strips.2 low others
       (λ p lower higher. let before = target_of-lt s p t.top stretch (omega (arith, ints)) in absurd (omega (arith, ints, inside.greatest)))
       ∙ sym (row_in-below above t ts q (source_of-before t.top y lt)))
       (λ ge. row_in-from above (new t ts ∷ stretched_strips s ts) y ge ∙ sym (row_in-from above (t ∷ ts) q (source_of-from s t.top y stretch ge))))
-      (λ lower.
-      let from = source_of-from s t.top y stretch (omega (arith, ints)) in
-      ap (λ us. row_in above us y) (left_out t ts (λ inside. omega (arith, ints, inside.least))) ∙ next
-      ∙ row_in-from above ts q (starts_from (t.top -ℤ pos 1) reach ts q strips.2 (omega (arith, ints))) ∙ sym (row_in-from above (t ∷ ts) q from))
+      (λ lower. passed (λ inside. omega (arith, ints, inside.least)) (omega (arith, ints)))
       (λ higher.
       let same : above ≡ t.edges = over t.top le higher ∙ sym (All-head IsBlankAbove t ts blank higher) in
-      ap (λ us. row_in above us y) (left_out t ts (λ inside. omega (arith, ints, inside.greatest))) ∙ next
-      ∙ ap (λ es. row_in es ts q) same ∙ sym (row_in-below above t ts q (source_of-before t.top y (omega (arith, ints)))))
+      let outside : IsCoordinate (target_of s t.top) → ⊥ = λ inside. omega (arith, ints, inside.greatest) in
+      by_lt_z y (target_of s t.top)
+      (λ lt.
+      ap (λ us. row_in above us y) (left_out t ts outside) ∙ next ∙ ap (λ es. row_in es ts q) same
+      ∙ sym (row_in-below above t ts q (source_of-before t.top y lt)))
+      (λ ge. passed outside ge))
 
 module _ (s : Stretch) (stretch : IsStretch s) (reach : ℤ) (ss : List EdgeStrip) (strips : AreStrips reach ss) (inside : RowsStayInside s ss) where
   blank_below : (y : ℤ) → y <ℤ least_coordinate → row_in [] ss (source_of s y) ≡ []
@@ -151,13 +152,6 @@ module _ (s : Stretch) (stretch : IsStretch s) (reach : ℤ) (ss : List EdgeStri
       let place = inside.stay (source_of s y) some in
       let reached = source_of-reached s (source_of s y) y stretch (omega (arith, ints)) in
       omega (arith, ints, place.start.least))
-
-  blank_over : (y : ℤ) → greatest_coordinate ≤ℤ y → row_in [] ss (source_of s y) ≡ []
-  blank_over y ge =
-      blank_unless _ (λ some.
-      let place = inside.stay (source_of s y) some in
-      let within = source_of-within s stretch y in
-      omega (arith, ints, place.end.greatest))
 
   blank_tops : All (IsBlankAbove s stretch) ss
   blank_tops =
@@ -171,8 +165,8 @@ module _ (s : Stretch) (stretch : IsStretch s) (reach : ℤ) (ss : List EdgeStri
   new_strips : AreStripsFrom greatest_coordinate reach (stretched_strips s ss)
   new_strips = stretched-from s stretch greatest_coordinate greatest_coordinate reach ss strips.strips (λ p le inside. inside.greatest)
 
-  in_field : (y : ℤ) → (least_coordinate -ℤ pos 1) ≤ℤ y → y <ℤ greatest_coordinate → row_in [] (stretched_strips s ss) y ≡ row_in [] ss (source_of s y)
-  in_field y low high = stretched-row s stretch [] greatest_coordinate reach ss y strips.strips low high blank_tops (λ p le higher. refl)
+  in_field : (y : ℤ) → (least_coordinate -ℤ pos 1) ≤ℤ y → row_in [] (stretched_strips s ss) y ≡ row_in [] ss (source_of s y)
+  in_field y low = stretched-row s stretch [] greatest_coordinate reach ss y strips.strips low blank_tops (λ p le higher. refl)
 
   pub rows_stretched : (y : ℤ) → row_in [] (stretched_strips s ss) y ≡ row_in [] ss (source_of s y)
   rows_stretched y =
@@ -182,9 +176,8 @@ module _ (s : Stretch) (stretch : IsStretch s) (reach : ℤ) (ss : List EdgeStri
       by_lt_z y bottom
       (λ lt.
       last_row-is (stretched_strips s ss) bottom y above (omega (arith, ints)) ∙ sym (last_row-is (stretched_strips s ss) bottom bottom above (omega (arith, ints)))
-      ∙ in_field bottom (omega (arith, ints)) (omega (arith, ints)) ∙ blank_below bottom (omega (arith, ints)) ∙ sym (blank_below y (omega (arith, ints))))
-      (λ low. by_lt_z y greatest_coordinate (in_field y low)
-      (λ over. row_in-from [] (stretched_strips s ss) y (starts_from greatest_coordinate reach (stretched_strips s ss) y new_strips over) ∙ sym (blank_over y over)))
+      ∙ in_field bottom (omega (arith, ints)) ∙ blank_below bottom (omega (arith, ints)) ∙ sym (blank_below y (omega (arith, ints))))
+      (in_field y)
 
   pub strips_stretched : AreStrips reach (stretched_strips s ss)
   strips_stretched = record {

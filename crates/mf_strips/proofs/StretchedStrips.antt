@@ -1,27 +1,21 @@
 -- Strips whose columns and rows are stretched, where all pixels of nonzero weight stay in the field.
-use Rattle.std.proofs.Common.{◌≡◌, ◌≢◌, ℤ, pos, ◌+ℤ◌, ◌-ℤ◌, List, [], ◌∷◌, map, get_or, refl, sym, ap, subst, ◌∙◌, arith}
+use Rattle.std.proofs.Common.{◌≡◌, ◌≢◌, ℤ, pos, ◌+ℤ◌, ◌-ℤ◌, List, [], ◌∷◌, map, get_or, refl, sym, ap, ◌∙◌, arith}
 use Rattle.std.specs.List.{All}
 use Rattle.std.proofs.lemmas.Int.{ints, by_lt_z}
-use Rattle.std.proofs.lemmas.List.Elements.{All-head, All-tail}
-use Rattle.mf_geom.specs.Coordinates.{least_coordinate, greatest_coordinate, IsCoordinate}
+use Rattle.mf_geom.specs.Coordinates.{least_coordinate, greatest_coordinate}
 use Rattle.mf_edges.specs.declared.edge.Edge.{Edge}
-use Rattle.mf_edges.specs.declared.row_change.RowChange.TheVariants.{Columns}
 use Rattle.mf_edges.specs.declared.stretch.Stretch.{Stretch}
-use Rattle.mf_edges.specs.Axes.{IsStretch, PlaceStaysInside, source_of, target_of}
+use Rattle.mf_edges.specs.Axes.{IsStretch, PlaceStaysInside, source_of}
 use Rattle.mf_edges.specs.Edges.{weight_in, AreEdges, AreEdgesFrom}
-use Rattle.mf_edges.specs.LawfulWeights.{IsInReach}
 use Rattle.mf_edges.specs.Reaches.{StaysInReach}
-use Rattle.mf_edges.specs.RowChanges.{image_in, AreChanged}
-use Rattle.mf_edges.proofs.EdgeChanges.{stretched_of}
-use Rattle.mf_edges.proofs.EdgeChanges as changes
+use Rattle.mf_edges.proofs.EdgeChanges.{EdgesStayInside, RowBecomes, move_row, row_stretched, target_edge}
 use Rattle.mf_edges.proofs.EdgesAt.{edges_from-at, step_at_edge}
 use Rattle.mf_edges.proofs.EdgesLemmas.{weight_in-left, weight_in-before}
-use Rattle.mf_strips.specs.Changes.{StripsAllowChange}
 use Rattle.mf_strips.specs.Moves.{StripsStayInside, moved_columns, moved_rows, stretched_edge}
 use Rattle.mf_strips.specs.Strips.{EdgeStrip, AreStrips, HaveStripWeights, row_in, weight_in_strips}
 use Rattle.mf_strips.proofs.StretchedPlaces.{wrapped_is}
 use Rattle.mf_strips.proofs.StretchedRows.{RowsStayInside, each_own, stretched_strips, rows_stretched, strips_stretched}
-use Rattle.mf_strips.proofs.StripMaps.{RowBecomes, with_rows, with_rows-strips, with_rows-weights, row_in-with_rows, strips_from-all}
+use Rattle.mf_strips.proofs.StripMaps.{StripsBecome, map_same, strips_become, with_rows, row_in-with_rows, strips_from-all}
 use Rattle.mf_strips.proofs.StripsLemmas.{row_lawful, no_edges}
 
 -- ---- edges
@@ -41,7 +35,7 @@ by_zero w zero nonzero =
 
 -- the pixel at an edge or the one to its left is not 0, and the edge goes to an end of that pixel's stretched part
 edges_stay : (s : Stretch) (es : List Edge) → AreEdgesFrom least_coordinate es
-    → ((x : ℤ) → weight_in es x ≢ pos 0 → PlaceStaysInside s x) → All (λ e. IsCoordinate (target_of s e.x)) es
+    → ((x : ℤ) → weight_in es x ≢ pos 0 → PlaceStaysInside s x) → EdgesStayInside s es
 edges_stay s es edges inside = λ k d lt.
     let e = get_or es k d in
     let edge = (edges_from-at least_coordinate es k d edges lt).0 in
@@ -53,38 +47,23 @@ edges_stay s es edges inside = λ k d lt.
     rw same at left.end)
     (λ nonzero. (inside e.x nonzero).start)
 
-edges_same : (s : Stretch) (low : ℤ) (es : List Edge) → IsStretch s → AreEdgesFrom low es → All (λ e. IsCoordinate (target_of s e.x)) es
-    → map (stretched_edge s) es ≡ map (changes.stretched_edge s) es
-edges_same s low [] stretch edges inside = refl
-edges_same s low (e ∷ es) stretch edges inside =
-    let first = wrapped_is s e.x edges.0.column stretch (All-head (λ e. IsCoordinate (target_of s e.x)) e es inside) in
-    let rest = edges_same s (e.x +ℤ pos 1) es stretch edges.2 (All-tail (λ e. IsCoordinate (target_of s e.x)) e es inside) in
-    λ i. record { x = first i; weight = e.weight } ∷ rest i
-
--- the weights of a row after its columns are stretched
-abbrev pub stretch_row : Stretch → (ℤ → ℤ) → ℤ → ℤ
-stretch_row s f x = f (source_of s x)
-
-row_stretched : (s : Stretch) (reach : ℤ) (es : List Edge) → IsStretch s → AreEdges es → StaysInReach reach es
-    → All (λ e. IsCoordinate (target_of s e.x)) es → RowBecomes (stretch_row s) reach es (map (stretched_edge s) es)
-unfolding image_in
-row_stretched s reach es stretch edges reached inside =
-    let changed : AreChanged (Columns s) es (map (stretched_edge s) es) =
-    rw (edges_same s least_coordinate es stretch edges.sorted inside) (stretched_of s es edges stretch inside) in
-    record {
-      edges = changed.edges;
-      reached = record { most = reached.most; within = λ x. subst (IsInReach reach) (sym (changed.weights.weights x)) (reached.within (source_of s x)) };
-      weights = record { weights = changed.weights.weights };
-    }
+row_wide : (s : Stretch) (reach : ℤ) (es : List Edge) → IsStretch s → AreEdges es → StaysInReach reach es → EdgesStayInside s es
+    → RowBecomes (move_row (source_of s)) reach es (map (stretched_edge s) es)
+row_wide s reach es stretch edges reached inside =
+    rw (map_same (stretched_edge s) (target_edge s) es (λ k d lt.
+    let edge = (edges_from-at least_coordinate es k d edges.sorted lt).0 in
+    let column = wrapped_is s (get_or es k d).x edge.column stretch (inside k d lt) in
+    λ i. record { x = column i; weight = (get_or es k d).weight }))
+    (row_stretched s stretch reach es edges reached inside)
 
 -- ---- strips
 
 -- the pixels on both sides of an edge stay in the field, and so does the edge
-pub columns_allowed : (columns : Stretch) (reach : ℤ) (ss : List EdgeStrip) → AreStrips reach ss
-    → ((x y : ℤ) → weight_in_strips ss x y ≢ pos 0 → PlaceStaysInside columns x) → StripsAllowChange (Columns columns) ss
+columns_allowed : (columns : Stretch) (reach : ℤ) (ss : List EdgeStrip) → AreStrips reach ss
+    → ((x y : ℤ) → weight_in_strips ss x y ≢ pos 0 → PlaceStaysInside columns x) → All (λ t. EdgesStayInside columns t.edges) ss
 unfolding weight_in_strips
 columns_allowed columns reach ss strips inside =
-    each_own (λ t. All (λ e. IsCoordinate (target_of columns e.x)) t.edges) [] greatest_coordinate reach ss strips.strips
+    each_own (λ t. EdgesStayInside columns t.edges) [] greatest_coordinate reach ss strips.strips
     (λ t strip le own. edges_stay columns t.edges strip.edges.sorted
     (λ x nonzero. inside x (t.top -ℤ pos 1) (λ zero. nonzero (ap (λ es. weight_in es x) (sym own) ∙ zero))))
 
@@ -93,17 +72,14 @@ module _ (columns rows : Stretch) (reach : ℤ) (ss : List EdgeStrip) (strips : 
   abbrev wide : List EdgeStrip
   wide = with_rows (map (stretched_edge columns)) ss
 
-  rows_wide : All (λ t. RowBecomes (stretch_row columns) reach t.edges (map (stretched_edge columns) t.edges)) ss
+  rows_wide : All (λ t. RowBecomes (move_row (source_of columns)) reach t.edges (map (stretched_edge columns) t.edges)) ss
   rows_wide = λ k d lt.
       let strip = strips_from-all greatest_coordinate reach ss strips.strips k d lt in
-      row_stretched columns reach (get_or ss k d).edges across strip.edges strip.reached (columns_allowed columns reach ss strips inside.across k d lt)
+      row_wide columns reach (get_or ss k d).edges across strip.edges strip.reached (columns_allowed columns reach ss strips inside.across k d lt)
 
-  strips_wide : AreStrips reach wide
-  strips_wide = with_rows-strips (map (stretched_edge columns)) (stretch_row columns) reach ss strips refl rows_wide
-
-  weights_wide : (x y : ℤ) → weight_in_strips wide x y ≡ weight_in_strips ss (source_of columns x) y
+  strips_wide : StripsBecome (move_row (source_of columns)) reach ss wide
   unfolding weight_in
-  weights_wide x y = with_rows-weights (map (stretched_edge columns)) (stretch_row columns) reach ss x y refl refl rows_wide
+  strips_wide = strips_become _ _ reach ss strips refl (λ x. refl) rows_wide
 
   rows_inside : RowsStayInside rows wide
   unfolding weight_in_strips
@@ -116,10 +92,10 @@ module _ (columns rows : Stretch) (reach : ℤ) (ss : List EdgeStrip) (strips : 
   }
 
   pub strips_in_place : AreStrips reach (stretched_strips rows wide)
-  strips_in_place = strips_stretched rows up reach wide strips_wide rows_inside
+  strips_in_place = strips_stretched rows up reach wide strips_wide.strips rows_inside
 
   pub weights_in_place : HaveStripWeights (moved_rows (source_of rows) (moved_columns (source_of columns) (weight_in_strips ss))) (stretched_strips rows wide)
   unfolding weight_in_strips
   weights_in_place = record {
-    weights = λ x y. ap (λ es. weight_in es x) (rows_stretched rows up reach wide strips_wide rows_inside y) ∙ weights_wide x (source_of rows y);
+    weights = λ x y. ap (λ es. weight_in es x) (rows_stretched rows up reach wide strips_wide.strips rows_inside y) ∙ strips_wide.weights x (source_of rows y);
   }

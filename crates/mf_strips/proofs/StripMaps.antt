@@ -8,7 +8,7 @@ use Rattle.mf_geom.specs.Coordinates.{least_coordinate, greatest_coordinate, IsC
 use Rattle.mf_edges.specs.declared.edge.Edge.{Edge}
 use Rattle.mf_edges.specs.Edges.{AreEdges, weight_in}
 use Rattle.mf_edges.specs.Reaches.{StaysInReach}
-use Rattle.mf_edges.specs.Sums.{HaveWeights}
+use Rattle.mf_edges.proofs.EdgeChanges.{RowBecomes}
 use Rattle.mf_strips.specs.declared.part.Part.{Part}
 use Rattle.mf_strips.specs.declared.strips.Head.{Head}
 use Rattle.mf_strips.specs.Heads.{strip_at, strips_at, AreHeads}
@@ -22,6 +22,11 @@ with_row g s = record { top = s.top; edges = g s.edges }
 
 abbrev pub with_rows : (List Edge → List Edge) → List EdgeStrip → List EdgeStrip
 with_rows g ss = map (with_row g) ss
+
+-- two changes of edges that are equal at each of these
+pub map_same : (f g : Edge → Edge) (es : List Edge) → All (λ e. f e ≡ g e) es → map f es ≡ map g es
+map_same f g [] same = refl
+map_same f g (e ∷ es) same = λ i. All-head (λ e. f e ≡ g e) e es same i ∷ map_same f g es (All-tail (λ e. f e ≡ g e) e es same) i
 
 -- where all edges that stand in a list are changed, so are all rows
 pub strips_at-map : (g : Edge → Edge) (es : List Edge) (hs : List Head) → strips_at (map g es) hs ≡ with_rows (map g) (strips_at es hs)
@@ -73,39 +78,43 @@ tops_in_range es top reach (h ∷ hs) strips high =
 pub tops_of_part : (p : Part) (hs : List Head) → hs ≡ p.heads.items → All (λ h. IsCoordinate h.top) hs
 tops_of_part p hs same = rw same (tops_in_range p.edges.items greatest_coordinate p.reach p.heads.items p.lawful.strips (omega (arith, ints)))
 
--- the edges of a row become those of another, whose weights are an image of its weights
-pub record RowBecomes (image : (ℤ → ℤ) → ℤ → ℤ) (reach : ℤ) (es new : List Edge) : Type 0 where
-  pub edges : AreEdges new
-  pub reached : StaysInReach reach new
-  pub weights : HaveWeights (image (weight_in es)) new
+-- so do all strips
+pub record StripsBecome (image : (ℤ → ℤ) → ℤ → ℤ) (reach : ℤ) (ss new : List EdgeStrip) : Type 0 where
+  pub strips : AreStrips reach new
+  pub weights : (x y : ℤ) → weight_in_strips new x y ≡ image (λ z. weight_in_strips ss z y) x
 
 module _ (g : List Edge → List Edge) (image : (ℤ → ℤ) → ℤ → ℤ) (reach : ℤ) where
-  with_rows-from : (top : ℤ) (ss : List EdgeStrip) → AreStripsFrom top reach ss → All (λ s. RowBecomes image reach s.edges (g s.edges)) ss
+  strips_from : (top : ℤ) (ss : List EdgeStrip) → AreStripsFrom top reach ss → All (λ s. RowBecomes image reach s.edges (g s.edges)) ss
       → AreStripsFrom top reach (with_rows g ss)
-  with_rows-from top [] strips all = tt
-  with_rows-from top (s ∷ ss) strips all =
+  strips_from top [] strips all = tt
+  strips_from top (s ∷ ss) strips all =
       let row = All-head (λ s. RowBecomes image reach s.edges (g s.edges)) s ss all in (
         record { bottom = strips.0.bottom; edges = row.edges; reached = row.reached },
         strips.1,
-        with_rows-from (s.top -ℤ pos 1) ss strips.2 (All-tail (λ s. RowBecomes image reach s.edges (g s.edges)) s ss all),
+        strips_from (s.top -ℤ pos 1) ss strips.2 (All-tail (λ s. RowBecomes image reach s.edges (g s.edges)) s ss all),
       )
 
-  pub with_rows-strips : (ss : List EdgeStrip) → AreStrips reach ss → g [] ≡ [] → All (λ s. RowBecomes image reach s.edges (g s.edges)) ss
-      → AreStrips reach (with_rows g ss)
-  with_rows-strips ss strips blank all = record {
-    strips = with_rows-from greatest_coordinate ss strips.strips all;
-    closed =
-        ap (λ es. row_in es (with_rows g ss) (least_coordinate -ℤ pos 1)) (sym blank)
-        ∙ row_in-with_rows g [] ss (least_coordinate -ℤ pos 1) ∙ ap g strips.closed ∙ blank;
-    least = strips.least;
-    most = strips.most;
-  }
+  module _ (ss : List EdgeStrip) (strips : AreStrips reach ss) where
+    pub strips_become : g [] ≡ [] → ((x : ℤ) → image (weight_in []) x ≡ pos 0) → All (λ s. RowBecomes image reach s.edges (g s.edges)) ss
+        → StripsBecome image reach ss (with_rows g ss)
+    unfolding weight_in_strips weight_in
+    strips_become blank none all =
+        let row : (y : ℤ) → row_in [] (with_rows g ss) y ≡ g (row_in [] ss y) =
+        λ y. ap (λ es. row_in es (with_rows g ss) y) (sym blank) ∙ row_in-with_rows g [] ss y in
+        record {
+          strips = record {
+            strips = strips_from greatest_coordinate ss strips.strips all;
+            closed = row (least_coordinate -ℤ pos 1) ∙ ap g strips.closed ∙ blank;
+            least = strips.least;
+            most = strips.most;
+          };
+          weights = λ x y.
+              ap (λ es. weight_in es x) (row y)
+              ∙ row_in-has (λ es. weight_in (g es) x ≡ image (weight_in es) x) [] ss y (ap (λ es. weight_in es x) blank ∙ sym (none x))
+              (λ k d lt. (all k d lt).weights.weights x);
+        }
 
-  pub with_rows-weights : (ss : List EdgeStrip) (x y : ℤ) → g [] ≡ [] → image (weight_in []) x ≡ pos 0
-      → All (λ s. RowBecomes image reach s.edges (g s.edges)) ss
-      → weight_in_strips (with_rows g ss) x y ≡ image (λ z. weight_in_strips ss z y) x
-  unfolding weight_in_strips weight_in
-  with_rows-weights ss x y blank none all =
-      ap (λ es. weight_in (row_in es (with_rows g ss) y) x) (sym blank) ∙ ap (λ es. weight_in es x) (row_in-with_rows g [] ss y)
-      ∙ row_in-has (λ es. weight_in (g es) x ≡ image (weight_in es) x) [] ss y (ap (λ es. weight_in es x) blank ∙ sym none)
-      (λ k d lt. (all k d lt).weights.weights x)
+    -- where each row of the reach becomes another
+    pub each_row : ((es : List Edge) → AreEdges es → StaysInReach reach es → RowBecomes image reach es (g es))
+        → All (λ s. RowBecomes image reach s.edges (g s.edges)) ss
+    each_row row = λ k d lt. let strip = strips_from-all greatest_coordinate reach ss strips.strips k d lt in row _ strip.edges strip.reached

@@ -116,16 +116,6 @@ pub record IsTotalSoFar (reach : ℤ) (all rest : List EdgeStrip) (total : ℤ) 
   pub value : total +ℤ strips_total rest ≡ strips_total all
   pub bound : unsigned_abs total ≤ passed * greatest_row_total
 
-pub total_start : (reach : ℤ) (ss : List EdgeStrip) → AreStripsFrom greatest_coordinate reach ss → IsTotalSoFar reach ss ss (pos 0)
-total_start reach ss strips = record {
-  top = greatest_coordinate;
-  strips = strips;
-  passed = 0;
-  room = omega (arith, ints, bottom_at_most greatest_coordinate reach ss (omega (arith, ints)) strips);
-  value = omega (arith, ints);
-  bound = omega arith;
-}
-
 -- what a strip adds, as the code computes it
 pub record IsNextTotal (reach : ℤ) (all : List EdgeStrip) (s : EdgeStrip) (ss : List EdgeStrip) (total : ℤ) : Type 0 where
   pub bottom_is : to_z w32 (of_z w32 (bottom_above ss)) ≡ bottom_above ss

@@ -1,6 +1,6 @@
 -- Strips whose columns and rows move, in terms of their weights: f x y is the weight of the pixel (x, y).
-use Rattle.std.specs.Prelude.{◌≢◌, ℤ, pos, List, Option, Some, None, if◌then◌else◌}
-use Rattle.std.specs.Int.{int_wrapping_add, int_wrapping_mul}
+use Rattle.std.specs.Prelude.{◌≢◌, ℕ, ◌-◌, ℤ, pos, List, Option, Some, None, if◌then◌else◌}
+use Rattle.std.specs.Int.{int_wrapping_add, int_wrapping_mul, int_wrapping_neg}
 use Rattle.std.specs.Int.Width.{w32}
 use Rattle.mf_geom.specs.Coordinates.{is_coordinate}
 use Rattle.mf_edges.specs.declared.edge.Edge.{Edge}
@@ -21,6 +21,14 @@ moved_rows source f x y = f x (source y)
 pub record StripsStayInside (columns rows : Stretch) (ss : List EdgeStrip) : Type 0 where
   pub across : (x y : ℤ) → weight_in_strips ss x y ≢ pos 0 → PlaceStaysInside columns x
   pub up : (x y : ℤ) → weight_in_strips ss x y ≢ pos 0 → PlaceStaysInside rows y
+
+-- an edge whose column is reflected, with the same column or weight where 32 bits do not hold the negated one
+abbrev pub reflected_edge : Edge → Edge
+reflected_edge e = record { x = int_wrapping_neg w32 e.x; weight = int_wrapping_neg w32 e.weight }
+
+-- the head of a strip after the list of all edges, of length n, is reversed
+abbrev pub reversed_head : ℕ → Head → Head
+reversed_head n h = record { top = h.top; count = h.count; start = n - h.start - h.count }
 
 -- an edge whose column is stretched, which stands at some column where 32 bits do not hold that
 abbrev pub stretched_edge : Stretch → Edge → Edge

@@ -1,11 +1,11 @@
 //! Lists of strips, and piles of them. A strip is one or more equal rows of edges.
 #![tactic(auto)]
 
-mod change;
 mod corner;
 mod cursor;
 mod equal_rows;
 mod fault;
+mod mapping;
 mod moves;
 mod negation;
 mod part;
@@ -19,11 +19,11 @@ mod total;
 mod turn;
 mod writer;
 
-pub use change::changed;
 pub use corner::{Corner, part_of_corners};
 pub use cursor::Span;
 pub use fault::AddFault;
-pub use moves::{mirrored_rows, stretched};
+pub use mapping::mapped;
+pub use moves::{mirrored_columns, mirrored_rows, stretched};
 pub use negation::negated;
 pub use part::Part;
 pub use pile::{MAX_PARTS, Pile};

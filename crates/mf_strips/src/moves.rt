@@ -3,7 +3,7 @@ ghost use Rattle.std.specs.Prelude.{◌≡◌, All, IfOk, map};
 ghost use Rattle.std.specs.List.{filter_map};
 ghost use Rattle.mf_geom.specs.Coordinates.{IsCoordinate};
 ghost use Rattle.mf_edges.specs.Axes.{IsStretch, opposite, source_of, target_of};
-ghost use Rattle.mf_strips.specs.Moves.{StripsStayInside, moved_columns, moved_rows, stretched_edge, stretched_head};
+ghost use Rattle.mf_strips.specs.Moves.{StripsStayInside, moved_columns, moved_rows, reflected_edge, reversed_head, stretched_edge, stretched_head};
 ghost use Rattle.mf_strips.specs.Parts.{strips_in, weight_in_part};
 ghost use Rattle.mf_strips.specs.Strips.{HaveStripWeights};
 
@@ -12,6 +12,47 @@ use crate::strips::Head;
 use mf_base::OutOfMemory;
 use mf_edges::{Edge, FIELD_END, FIELD_START, Stretch};
 use std::alloc::Global;
+
+/// The part reflected in the line between columns -1 and 0: column x becomes column -x - 1. Refused with `OutOfMemory` where an allocation
+/// fails.
+pub fn mirrored_columns(alloc: Global, part: &Part) -> Result<Part, OutOfMemory>
+    ensures weights { IfOk result (λ new. HaveStripWeights (moved_columns opposite (weight_in_part part.now)) (strips_in new)) }
+    ensures reach { IfOk result (λ new. new.reach ≡ part.now.reach) }
+{
+    let heads = reversed_heads(alloc, &part.heads, part.edges.len())?;
+    let mut edges = reflected_edges(alloc, &part.edges)?;
+    edges.reverse();
+    Ok(Part::of(heads, edges, part.reach()))
+}
+
+/// The heads of strips after the list of all edges, of length `end`, is reversed. Refused, too, where that length does not fit into a head.
+fn reversed_heads(alloc: Global, heads: &[Head], end: usize) -> Result<Vec<Head>, OutOfMemory>
+    ensures { IfOk result (λ reversed. reversed.items ≡ map (reversed_head end) heads.now) }
+{
+    let Ok(end) = u32::try_from(end) else {
+        return Err(OutOfMemory);
+    };
+    let reversed = heads.iter().map(|head| Head {
+        top: head.top,
+        count: head.count,
+        start: end
+            .saturating_sub(head.start)
+            .saturating_sub(u32::from(head.count)),
+    });
+    Ok(reversed.collect(alloc)?)
+}
+
+/// Edges whose columns are reflected: an edge at x moves to -x and changes its sign. Numbers wrap, since a list may have edges that no
+/// strip has, at any column.
+fn reflected_edges(alloc: Global, edges: &[Edge]) -> Result<Vec<Edge>, OutOfMemory>
+    ensures { IfOk result (λ reflected. reflected.items ≡ map reflected_edge edges.now) }
+{
+    let reflected = edges.iter().map(|edge| Edge {
+        x: edge.x.wrapping_neg(),
+        weight: edge.weight.wrapping_neg(),
+    });
+    Ok(reflected.collect(alloc)?)
+}
 
 /// The part reflected in the line between rows -1 and 0: row y becomes row -y - 1. Refused with `OutOfMemory` where an allocation fails.
 pub fn mirrored_rows(alloc: Global, part: &Part) -> Result<Part, OutOfMemory>

@@ -3,6 +3,8 @@ ghost use Rattle.std.specs.Prelude.{◌≡◌, [], ◌∷◌, ◌++◌, ◌≤�
 ghost use Rattle.mf_geom.specs.Coordinates.{least_coordinate, greatest_coordinate};
 ghost use Rattle.mf_edges.specs.Edges.{AreEdges};
 ghost use Rattle.mf_edges.specs.Merging.{AreChanges};
+ghost use Rattle.mf_edges.specs.WeightMaps.{IsWeightMap};
+ghost use Rattle.mf_strips.specs.Changes.{HasMappedStrip};
 ghost use Rattle.mf_strips.specs.Heads.{strips_at};
 ghost use Rattle.mf_strips.specs.Parts.{strips_in};
 ghost use Rattle.mf_strips.specs.Strips.{AreStrips, last_row};
@@ -11,7 +13,7 @@ ghost use Rattle.mf_strips.specs.Sums.{HasSumStrip};
 use crate::part::Part;
 use crate::strips::{Head, strip_of_head};
 use mf_base::OutOfMemory;
-use mf_edges::{Edge, push_sum_of_edges};
+use mf_edges::{Edge, WeightMap, push_mapped_edges, push_sum_of_edges};
 use std::alloc::Global;
 use std::marker::Model;
 
@@ -70,6 +72,30 @@ impl PartWriter {
     {
         let start = self.edges.len();
         push_sum_of_edges(&mut self.edges, left, right)?;
+        let head = head_between(top, start, self.edges.len())?;
+        Ok(self.heads.push(head)?)
+    }
+
+    /// Appends a strip with the mapped weights of a row, whose rows begin below the height `top`, unless the last strip has the same
+    /// weights: rows that a map makes equal to those above, as blank ones at the top, go with those. Requires the edges of a row.
+    pub fn push_mapped(
+        &mut self,
+        top: i32,
+        row: &[Edge],
+        map: &WeightMap,
+    ) -> Result<(), OutOfMemory>
+        requires bottom { least_coordinate ≤ℤ top }
+        requires top { top ≤ℤ greatest_coordinate }
+        requires row { AreEdges row.now }
+        requires map { IsWeightMap map.now }
+        ensures { OnOk result (HasMappedStrip map.now top row.now self.old self.new) }
+    {
+        let start = self.edges.len();
+        push_mapped_edges(&mut self.edges, row, map)?;
+        if &self.edges[start..] == self.last_row() {
+            self.edges.truncate(start);
+            return Ok(());
+        }
         let head = head_between(top, start, self.edges.len())?;
         Ok(self.heads.push(head)?)
     }

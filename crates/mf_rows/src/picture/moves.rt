@@ -9,8 +9,8 @@ ghost use Rattle.mf_rows.specs.Sums.{HasWeights};
 
 use super::Picture;
 use mf_base::OutOfMemory;
-use mf_edges::{RowChange, Stretch};
-use mf_strips::{changed, mirrored_rows, stretched, turned};
+use mf_edges::Stretch;
+use mf_strips::{mirrored_columns, mirrored_rows, stretched, turned};
 use std::alloc::Global;
 
 #[tactic(auto, using(crate::proofs::PicturePiles::lawful_pile))]
@@ -22,7 +22,7 @@ impl Picture {
         ensures lawful { IfOk result IsPicture }
     {
         let part = self.pile.joined(alloc)?;
-        Picture::of_part(alloc, changed(alloc, &part, &RowChange::Mirror)?)
+        Picture::of_part(alloc, mirrored_columns(alloc, &part)?)
     }
 
     /// The picture reflected in the line between rows -1 and 0: row y becomes row -y - 1 (mf.web: `y_reflect_edges`).

@@ -6,6 +6,6 @@ use Rattle.mf_rows.proofs.picture.Picture.mirror_columns.Goals as goal
 
 pub returns-clause-weights : goal.returns-clause-weights
 returns-clause-weights c =
-    let weights = rw c.deref.ensures at c.in_ok-changed.ensures in
+    let weights = rw c.deref.ensures at c.in_ok-mirrored_columns.ensures.weights in
     rw (← c.self.view_is)
-    (IfOk-weaker c.of_part.result _ _ (λ picture is. image_made (moved_columns opposite) c.self.inside.pile _ _ picture c.in_ok-part.ensures is (λ x y _. weights.weights.weights x y)) c.of_part.ensures.value)
+    (IfOk-weaker c.of_part.result _ _ (λ picture is. image_made (moved_columns opposite) c.self.inside.pile _ _ picture c.in_ok-part.ensures is (λ x y _. weights.weights x y)) c.of_part.ensures.value)

@@ -1,0 +1,7 @@
+use Rattle.mf_edges.specs.Sums.{HasMoreEdges}
+use Rattle.mf_edges.proofs.EdgeMaps.{IsMappedSoFar}
+use Rattle.mf_edges.proofs.weight_map.push_mapped_edges.Given as goal
+
+abbrev pub invariant-loop-edge : goal.invariant-loop-edge
+invariant-loop-edge l =
+    (kept : HasMoreEdges l.fn.mapped.items l.mapped.items) × IsMappedSoFar l.map l.row kept.more l.edge-index l.weight l.image
