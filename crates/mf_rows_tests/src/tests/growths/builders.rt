@@ -198,7 +198,7 @@ fn a_refused_run_is_left_out(rt: HostRuntime) {
     assert_left_out(&rt, &TOUCHING);
 }
 
-/// More rows than a list of rows has room for at first, of which two are in a band of their own.
+/// More rows than lists have room for at first, the last two of them at the bottom of the field.
 const MANY_ROWS: &[Run] = &[
     run_of!(5, 0, 1, 1),
     run_of!(4, 1, 1, 2),
