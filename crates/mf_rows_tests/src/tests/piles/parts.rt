@@ -20,9 +20,19 @@ const STRETCHES: [((i32, i32), (i32, i32)); 3] = [
     ((1, 7), (1, -9)),
 ];
 
+/// A picture all of whose combs lie in these few rows, so that its slow form takes less time.
+fn in_few_rows(drawing: Drawing) -> Drawing {
+    let mut drawing = drawing;
+    if let Some(area) = drawing.rectangles.first_mut() {
+        area.bottom = -4;
+        area.top = 4;
+    }
+    drawing
+}
+
 /// The picture of the first parts.
 fn first_parts<R: Abort + AllocGlobal>(rt: &R, count: usize) -> Drawing {
-    let mut drawing = Drawing::of(rt, &[]);
+    let mut drawing = in_few_rows(Drawing::of(rt, &[]));
     for comb in PARTS.iter().take(count) {
         drawing.draw(rt, comb);
     }
@@ -162,7 +172,7 @@ pub(crate) fn assert_changes<R: Abort + AllocGlobal>(rt: &R, one: &Drawing, othe
 
 #[test]
 fn parts_are_added_and_subtracted(rt: HostRuntime) {
-    let other = Drawing::of(&rt, &OTHERS);
+    let other = in_few_rows(Drawing::of(&rt, &OTHERS));
     for count in COUNTS {
         let drawing = first_parts(&rt, count);
         assert_changes(&rt, &drawing, &other);
