@@ -51,9 +51,9 @@ pub(crate) fn spell(
     out.put_byte(EOC);
 }
 
-/// As many bytes as a character takes, or more. To count them exactly, all stretches would have to be gone over twice. Each stretch has
-/// two edges, and two commands, which take a byte each. Besides these, a row takes at most three bytes to be gone to, and the bytes of
-/// parameters, of which there are few, since its commands together paint no more columns than the box has.
+/// As many bytes as a character takes, or more. `edge_count` goes over the runs, and gives two for each. A stretch has at least one run,
+/// and two commands, which take a byte each. Besides these, a row takes at most three bytes to be gone to, and the bytes of parameters,
+/// of which there are few, since its commands together paint no more columns than the box has.
 fn most_bytes(picture: &Picture, bounds: &CharacterBox) -> usize {
     let commands = picture.edge_count();
     let columns = bounds.max_m.abs_diff(bounds.min_m) as usize;

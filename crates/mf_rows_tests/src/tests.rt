@@ -1,9 +1,7 @@
 //! Tests with values worked out by hand, and tests that compare pictures with a slow form of them.
 
 mod assertions;
-mod band_sums;
 mod black;
-mod borders;
 mod chance;
 mod corners;
 mod derived;
@@ -11,9 +9,11 @@ mod equal;
 mod field;
 mod generated;
 mod growths;
+mod heights;
 mod long_rows;
 mod moves;
 mod piles;
+mod places;
 mod rectangle_sums;
 mod rectangles;
 mod runs;

@@ -19,8 +19,7 @@ use std::alloc::Global;
 use std::process::Abort;
 use std::sync::Wait;
 
-/// The rectangle, moved by one column and 13 rows. Rows 14 and 15 are in different bands, so a change of both makes two lists of
-/// rows.
+/// The rectangle, moved by one column and 13 rows.
 const MOVED: &[Pixels] = &[(14, 1, 3, 1), (13, 1, 3, 1)];
 
 /// A picture whose rectangle is published and seen, and whose move by one column and 13 rows is accepted but pending.

@@ -29,7 +29,7 @@ use mf_testing::{grow_again, refuse_growths};
 use plan::Plan;
 use std::process::Abort;
 
-/// Rows in three bands. One band has two of them, and one of these rows has two weights side by side.
+/// Rows of which two lie next to each other. One of these has two weights side by side.
 const APART: &[Run] = &[
     run_of!(90, -3, 2, 5),
     run_of!(1, 0, 2, 1),

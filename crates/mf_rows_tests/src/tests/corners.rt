@@ -77,7 +77,7 @@ fn cancel_to_the_blank_picture(rt: HostRuntime) {
         make_rectangle(0, 0, 8, 2, -1),
         make_rectangle(0, 2, 8, 4, -1),
     ];
-    let in_bands = [
+    let one_above_another = [
         make_rectangle(0, 3950, 5, 4095, 1),
         make_rectangle(0, 3950, 5, 3967, -1),
         make_rectangle(0, 3967, 5, 4031, -1),
@@ -86,7 +86,7 @@ fn cancel_to_the_blank_picture(rt: HostRuntime) {
     assert_cancel(&rt, 0, &whole);
     assert_cancel(&rt, 1, &overlapping);
     assert_cancel(&rt, 2, &in_pieces);
-    assert_cancel(&rt, 3, &in_bands);
+    assert_cancel(&rt, 3, &one_above_another);
 }
 
 /// Asserts that a picture to which a rectangle is added differs from the picture, and that it is equal again when the

@@ -87,8 +87,8 @@ fn pixels_at_the_corners_are_moved(rt: HostRuntime) {
     }
 }
 
-/// Bottoms and tops of the rows that are taken out of the field: the last row of a group, the last band, a group, all but the
-/// first and the last group, and all but the first and the last row.
+/// Bottoms and tops of the rows that are taken out of the field: a row, some at the bottom, some in the middle, most of them, and all
+/// but the first and the last.
 const MISSING: [(i32, i32); 5] = [
     (3839, 3840),
     (-4095, -4081),

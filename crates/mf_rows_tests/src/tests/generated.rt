@@ -11,7 +11,7 @@ use mf_rows::{Picture, RowBuilder, Run};
 use std::alloc::Global;
 use std::process::Abort;
 
-/// Rows at the edges of the field, on both sides of borders between bands, and in the middle.
+/// Rows at the edges of the field, in its middle, and between these; some of them are next to each other.
 pub(crate) const ROWS: [i32; 13] = [
     4094, 4093, 4031, 4030, 3967, 3966, 1, 0, -1, -4033, -4034, -4094, -4095,
 ];

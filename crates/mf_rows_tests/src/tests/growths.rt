@@ -20,8 +20,7 @@ mod sums;
 
 use mf_rows::Run;
 
-/// Rows in three bands, two of them in one band: one of these has two weights side by side, and the other has the least
-/// weight.
+/// Rows of which two lie next to each other: one of these has two weights side by side, and the other has the least weight.
 const APART: &[Run] = &[
     run_of!(90, -3, 2, 5),
     run_of!(1, 0, 2, 1),

@@ -26,7 +26,7 @@ const SIDE: i32 = 8;
 
 /// How pixels are moved.
 #[derive(Clone, Copy, Debug)]
-pub(super) enum Move {
+enum Move {
     ColumnsMirrored,
     RowsMirrored,
     TurnedOnce,
@@ -52,7 +52,7 @@ fn opposite(place: i32) -> i32 {
 
 /// Asserts that `moved` has the weights of a picture's pixels from (start, y) on at the places to which these are
 /// moved.
-pub(super) fn assert_row_moved(
+fn assert_row_moved(
     rt: &impl Abort,
     (start, y): (i32, i32),
     picture: &Picture,
@@ -169,7 +169,7 @@ fn an_l_is_turned(rt: HostRuntime) {
     );
 }
 
-/// Random runs on all sides of the point (0, 0), and at a border between bands: up to two in each row.
+/// Random runs on all sides of the point (0, 0): up to two in each row.
 fn runs_near_the_middle(alloc: Global, seed: u32) -> Result<Vec<Run>, OutOfMemory> {
     let mut chance = Chance::new(seed);
     let mut runs = Vec::new(alloc);

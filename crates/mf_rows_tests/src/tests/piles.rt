@@ -7,8 +7,9 @@ ghost use Rattle.std.specs.Prelude.{IfOk};
 use super::rectangle_sums::slow_form_of;
 use super::rectangles::{Rectangle, corners_of, make_rectangle};
 use super::slow::SlowPicture;
-use super::{copy_of, picture_of};
+use super::{assert_equality, copy_of, picture_of};
 use crate::tests::assertions::assert_same;
+use combs::LARGE;
 use mf_base::OutOfMemory;
 use mf_rows::{Corner, Picture};
 use std::process::Abort;
@@ -39,6 +40,7 @@ macro_rules! comb_of {
 }
 
 mod apart;
+pub(crate) mod combs;
 mod parts;
 
 /// The area in which all combs lie.
@@ -49,9 +51,6 @@ const AREA: [Rectangle; 1] = [Rectangle {
     top: 24,
     weight: 0,
 }];
-
-/// A part of size 242.
-const LARGE: Comb = comb_of!(0, 2, 120, -2, 1, 1);
 
 /// A picture, and the rectangles of which it is the sum, the area first.
 #[derive(Debug, Drop)]
@@ -137,6 +136,12 @@ impl Drawing {
     /// Asserts that the picture answers like its slow form.
     pub(crate) fn assert_answers<R: Abort + AllocGlobal>(&self, rt: &R, case: usize) {
         self.slow(rt).assert_answers_of(rt, case, &self.picture);
+    }
+
+    /// Asserts that the picture is that of the runs of its slow form, which takes less time.
+    pub(crate) fn assert_equals<R: Abort + AllocGlobal>(&self, rt: &R, case: usize) {
+        let same = self.picture_of_runs(rt);
+        assert_equality(rt, &self.picture, &same, true, ("slow form in case", case));
     }
 
     /// The same picture, made from its runs as one part.
@@ -258,64 +263,3 @@ const CANCELLED: [Comb; 4] = [
 fn contours_cancel_a_large_part(rt: HostRuntime) {
     assert_drawing(&rt, &CANCELLED);
 }
-
-/// A large part and contours apart from it. The first two contours change or cancel teeth of it in rows -2 and -1. The others are in rows
-/// of their own, above and below.
-pub(crate) const APART: [Comb; 5] = [
-    LARGE,
-    comb_of!(1, 3, 15, -2, 0, 2),
-    comb_of!(0, 4, 10, -2, -1, -1),
-    comb_of!(3, 1, 4, 18, 19, 3),
-    comb_of!(-9, 1, 3, -22, -21, -2),
-];
-
-/// The sum of `APART` in which weights 1 and 2 become 3, and all others 0. In rows -2 to 0 the even columns have weight 1 at first.
-/// Rows -2 and -1 have 2 more in columns 1, 4, 7 and so on to 43, and row -2 has 1 less in columns 0, 4, 8 and so on to 36. So all odd
-/// ones of these columns have weight 2. Of the even ones, columns 4, 10, 16 and so on to 40 of row -1 have weight 3, and so have 10, 22,
-/// 34 and 40 of row -2, whose columns 0, 8, 12, 20, 24, 32 and 36 have weight 0. The rows above and below have no weight 1 or 2.
-pub(crate) const APART_CHOSEN: [Comb; 7] = [
-    comb_of!(0, 2, 120, -2, 1, 3),
-    comb_of!(1, 6, 8, -2, 0, 3),
-    comb_of!(4, 6, 7, -1, 0, -3),
-    comb_of!(10, 12, 3, -2, -1, -3),
-    comb_of!(40, 1, 1, -2, -1, -3),
-    comb_of!(0, 12, 4, -2, -1, -3),
-    comb_of!(8, 12, 3, -2, -1, -3),
-];
-
-/// The sum of `APART` with its rows mirrored: row y becomes row -1 - y.
-pub(crate) const APART_MIRRORED: [Comb; 5] = [
-    comb_of!(0, 2, 120, -1, 2, 1),
-    comb_of!(1, 3, 15, 0, 2, 2),
-    comb_of!(0, 4, 10, 1, 2, -1),
-    comb_of!(3, 1, 4, -19, -18, 3),
-    comb_of!(-9, 1, 3, 21, 22, -2),
-];
-
-/// A large part and contours apart from it, which are joined with each other.
-pub(crate) const MANY_APART: [Comb; 3] = [
-    LARGE,
-    comb_of!(1, 3, 15, -2, 1, 2),
-    comb_of!(0, 4, 15, -2, 1, -1),
-];
-
-/// Another large part, and a contour apart from it.
-pub(crate) const OTHERS: [Comb; 2] = [
-    comb_of!(1, 2, 100, -3, -1, -1),
-    comb_of!(5, 3, 8, -3, -2, -2),
-];
-
-/// A contour that is added later.
-pub(crate) const LAST: Comb = comb_of!(2, 2, 6, -3, 1, 1);
-
-/// Contours of the sizes 382, 190, 94, 46, 22, 10 and 4. Each is less than half as large as the one before, so each is a part.
-pub(crate) const PARTS: [Comb; 7] = [
-    comb_of!(-20, 2, 190, 0, 1, 1),
-    comb_of!(-19, 3, 94, 0, 1, 2),
-    comb_of!(0, 4, 46, -1, 0, -1),
-    comb_of!(1, 5, 22, 0, 2, 3),
-    comb_of!(-20, 7, 10, -2, 3, 1),
-    comb_of!(30, 2, 4, 0, 1, -3),
-    // It cancels the first tooth of the first one.
-    comb_of!(-20, 1, 1, -1, 1, -1),
-];

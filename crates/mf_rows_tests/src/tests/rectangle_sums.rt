@@ -7,8 +7,7 @@ use mf_base::OutOfMemory;
 use std::alloc::Global;
 use std::process::Abort;
 
-/// The side of the areas of random rectangles, and the lowest rows of the areas. The side is more than the 16 rows of a
-/// band, so that each area crosses a border between bands; the lowest rows are inside the field, and at its edges.
+/// The side of the areas of random rectangles, and the lowest rows of the areas, which are inside the field, and at its edges.
 const SIDE: u32 = 20;
 
 const BOTTOMS: [i32; 5] = [0, 4020, 3950, -4095, 4075];
@@ -123,7 +122,7 @@ fn add_touching_and_overlapping_rectangles(rt: HostRuntime) {
 }
 
 #[test]
-fn add_rectangles_across_bands(rt: HostRuntime) {
+fn add_rectangles_to_a_tall_one(rt: HostRuntime) {
     let area = make_rectangle(0, 3960, 5, 4040, 0);
     let tall = make_rectangle(1, 3966, 4, 4032, 1);
     let others = [

@@ -20,10 +20,10 @@ const FIXED: [(i32, i32); 5] = [(0, 0), (-4095, 4094), (4094, -4095), (4095, 0),
 
 /// A pixel of nonzero weight.
 #[derive(Clone, Copy, Debug, PartialEq, Eq)]
-struct Pixel {
-    y: i32,
-    x: i32,
-    weight: i32,
+pub(crate) struct Pixel {
+    pub(crate) y: i32,
+    pub(crate) x: i32,
+    pub(crate) weight: i32,
 }
 
 impl Pixel {
@@ -66,6 +66,11 @@ impl SlowPicture {
         SlowPicture {
             pixels: Vec::new(alloc),
         }
+    }
+
+    /// Its pixels.
+    pub(crate) fn pixels(&self) -> &[Pixel] {
+        &self.pixels
     }
 
     /// Adds the pixel (x, y), which comes after the others, unless its weight is 0.

@@ -69,7 +69,7 @@ fn stairs_are_filled(rt: HostRuntime) {
     assert_makes(&rt, Plan::Contour(STAIRS, -1, Check::On), WITH_STAIRS);
 }
 
-/// A picture that is added to the rows. Its rows lie above them, below them, and in the same bands, where one row cancels.
+/// A picture that is added to the rows. Its rows lie above them, between them, where one row cancels, and below them.
 const OTHER: &[Run] = &[
     run_of!(200, 0, 1, 1),
     run_of!(1, 1, 2, -3),

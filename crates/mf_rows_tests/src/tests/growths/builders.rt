@@ -164,7 +164,7 @@ fn a_refused_run_is_left_out(rt: HostRuntime) {
     assert_left_out(&rt, &TOUCHING);
 }
 
-/// More runs than a list has room for at first.
+/// More runs than a list has room for at first, the last two of them at the bottom of the field.
 const MANY_ROWS: &[Run] = &[
     run_of!(5, 0, 1, 1),
     run_of!(4, 1, 1, 2),

@@ -2,9 +2,10 @@
 
 use crate::tests::assertions::{assert_holds, assert_same};
 use crate::tests::derived::Derived;
-use crate::tests::piles::{
-    APART, APART_CHOSEN, APART_MIRRORED, Comb, Drawing, LAST, MANY_APART, OTHERS, PARTS,
+use crate::tests::piles::combs::{
+    APART, APART_CHOSEN, APART_MIRRORED, LAST, MANY_APART, OTHERS, PARTS,
 };
+use crate::tests::piles::{Comb, Drawing};
 use crate::tests::{assert_equality, expect_picture};
 use mf_base::OutOfMemory;
 use mf_rows::AddFault;

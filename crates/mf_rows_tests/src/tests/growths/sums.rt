@@ -8,7 +8,7 @@ use mf_rows::{AddFault, Run};
 use mf_testing::{grow_again, refuse_growths};
 use std::process::Abort;
 
-/// A picture that is added to the rows: above them, below them, and in their bands, where it cancels one row.
+/// A picture that is added to the rows: above them, between them, where it cancels one row, and below them.
 const ADDED: &[Run] = &[
     run_of!(200, 0, 1, 1),
     run_of!(1, 1, 2, -3),

@@ -1,6 +1,7 @@
 //! Pictures with contours apart from a large part: what is made from them, sums of them, and which weights they refuse.
 
-use super::{APART, CANCELLED, Comb, Drawing, LARGE, LAST, OTHERS};
+use super::combs::{APART, LARGE, LAST, OTHERS};
+use super::{CANCELLED, Comb, Drawing};
 use crate::tests::assertions::assert_same;
 use crate::tests::derived::Derived;
 use crate::tests::moves::{assert_stays_inside, stretch};

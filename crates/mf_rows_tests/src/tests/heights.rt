@@ -1,5 +1,4 @@
-//! Rectangles that end at borders between bands, at borders between groups, and next to these. A band has 16 rows and a
-//! group 256, counted from the top of the field.
+//! Rectangles at many heights: cancelled, reflected, turned and stretched.
 
 use super::moves::{assert_stays_inside, mirror_columns, mirror_rows, stretch, turn};
 use super::rectangle_sums::assert_sum_of_rectangles;
@@ -13,25 +12,14 @@ use mf_rows::{Box4, Picture, Run};
 use std::alloc::Global;
 use std::process::Abort;
 
-/// Heights at which a band ends and another begins: two inside groups, three between groups, and the one between the last
-/// bands. The last of these heights is next to the bottom of the field.
-const BORDERS: [i32; 7] = [4079, 15, 3839, -1, -3841, -4081, -4094];
+/// Lowest rows of rectangles: at the top and at the bottom of the field, around 0, and elsewhere.
+const BOTTOMS: [i32; 10] = [4094, 4093, 3839, 15, 1, 0, -1, -2, -4094, -4095];
 
-/// How far above a border rectangles end.
-const ENDS: [i32; 3] = [-1, 0, 1];
+/// How many rows these have.
+const HEIGHTS: [i32; 3] = [1, 2, 17];
 
-/// Heights of rectangles: a row, a band, and a row more.
-const HEIGHTS: [i32; 3] = [1, 16, 17];
-
-/// Bottoms and tops of rectangles: groups, and one row less and more at either end.
-const TALL: [(i32, i32); 6] = [
-    (3839, 4095),
-    (3838, 4095),
-    (3840, 4095),
-    (3583, 3839),
-    (-2, 256),
-    (-4095, -3841),
-];
+/// Bottoms and tops of taller rectangles; the last one is as high as the field.
+const TALL: [(i32, i32); 4] = [(3839, 4095), (-2, 256), (-4095, -3841), (-4095, 4095)];
 
 /// A rectangle with its rows reflected.
 fn upside_down(rectangle: Rectangle) -> Rectangle {
@@ -115,8 +103,7 @@ fn assert_shows<R: Abort + AllocGlobal>(rt: &R, picture: &Picture, rectangle: Re
     assert_sides(rt, picture, rectangle);
 }
 
-/// Asserts that the negated picture of a rectangle is right, and that it cancels the picture: no row, band or group is
-/// left.
+/// Asserts that the negated picture of a rectangle is right, and that it cancels the picture.
 fn assert_cancels<R: Abort + AllocGlobal>(rt: &R, rectangle: Rectangle) {
     let picture = at_once(rt, &[rectangle]);
     let negative = negative_of(rt, &picture);
@@ -165,22 +152,15 @@ fn assert_from<R: Abort + AllocGlobal>(rt: &R, bottom: i32) {
     assert_on_a_pole(rt, row);
 }
 
-/// Asserts all this of rectangles whose bottoms are at and next to a border.
-fn assert_near<R: Abort + AllocGlobal>(rt: &R, border: i32) {
-    for end in ENDS {
-        assert_from(rt, border.wrapping_add(end));
+#[test]
+fn rectangles_begin_at_many_heights(rt: HostRuntime) {
+    for bottom in BOTTOMS {
+        assert_from(&rt, bottom);
     }
 }
 
 #[test]
-fn rectangles_end_at_borders(rt: HostRuntime) {
-    for border in BORDERS {
-        assert_near(&rt, border);
-    }
-}
-
-#[test]
-fn rectangles_are_as_high_as_groups(rt: HostRuntime) {
+fn rectangles_are_tall(rt: HostRuntime) {
     for (bottom, top) in TALL {
         let rectangle = make_rectangle(-1, bottom, 0, top, -3);
         assert_cancels(&rt, rectangle);
@@ -189,21 +169,8 @@ fn rectangles_are_as_high_as_groups(rt: HostRuntime) {
     }
 }
 
-/// Stretches of rows: shifts by a row, by a band, by a group and by one row less and more, and others.
-const STRETCHES: [(i32, i32); 12] = [
-    (1, 1),
-    (1, -1),
-    (1, 15),
-    (1, 16),
-    (1, 17),
-    (1, 255),
-    (1, -256),
-    (1, 257),
-    (2, 0),
-    (2, 1),
-    (3, 2),
-    (3, -256),
-];
+/// Stretches of rows, the first of which are shifts.
+const STRETCHES: [(i32, i32); 7] = [(1, 1), (1, -1), (1, 257), (2, 0), (2, 1), (3, 2), (3, -256)];
 
 /// Asserts that a stretched picture of a rectangle is that of the stretched rectangle.
 fn assert_rectangle_stretched<R: Abort + AllocGlobal>(
@@ -218,25 +185,17 @@ fn assert_rectangle_stretched<R: Abort + AllocGlobal>(
     assert_shows(rt, &new, stretch_rectangle(rectangle, columns, rows));
 }
 
-/// Asserts this of all these stretches, and of rectangles whose bottoms are at and next to a border.
-fn assert_stretched_near<R: Abort + AllocGlobal>(rt: &R, border: i32) {
-    for end in ENDS {
-        let bottom = border.wrapping_add(end);
-        let rectangle = make_rectangle(-1, bottom, 0, bottom.wrapping_add(16), 1);
-        for (factor, offset) in STRETCHES {
-            assert_rectangle_stretched(rt, rectangle, &stretch(2, 5), &stretch(factor, offset));
-        }
+/// Asserts this of all these stretches, and of a rectangle whose lowest row is this one.
+fn assert_stretched_from<R: Abort + AllocGlobal>(rt: &R, bottom: i32) {
+    let rectangle = make_rectangle(-1, bottom, 0, bottom.wrapping_add(16), 1);
+    for (factor, offset) in STRETCHES {
+        assert_rectangle_stretched(rt, rectangle, &stretch(2, 5), &stretch(factor, offset));
     }
 }
 
 #[test]
-fn rectangles_are_stretched_over_borders(rt: HostRuntime) {
-    for border in [255, 15, -1] {
-        assert_stretched_near(&rt, border);
-    }
-    // Half a group becomes a group, or reaches a row into the next one.
-    for offset in [-1, 0, 1, 2] {
-        let half = make_rectangle(-1, -1, 0, 127, 1);
-        assert_rectangle_stretched(&rt, half, &stretch(1, 0), &stretch(2, offset));
+fn rectangles_are_stretched(rt: HostRuntime) {
+    for bottom in [255, 0, -1, -16] {
+        assert_stretched_from(&rt, bottom);
     }
 }

@@ -1,4 +1,4 @@
-//! Sums of pictures that have bands, or groups, at the same places and at others.
+//! Sums of pictures that have rows at the same places and at others.
 
 use super::slow::{SlowPicture, both_forms};
 use super::{assert_runs_in, copy_of, expect_picture, make_run, picture_of, sum_of};
@@ -12,8 +12,7 @@ use std::process::Abort;
 /// What two pictures have at a place: neither has anything there, one of them has, both have, and both cancel.
 const WEIGHTS: [(i32, i32); 5] = [(0, 0), (1, 0), (0, 2), (1, 4), (3, -3)];
 
-/// Three places: the first and the last row of each. Bands next to each other, the last two of the first group and the first of
-/// the second group; and the first two groups and the last one.
+/// Three places: the first and the last row of each. They are next to each other, or the last one is at the bottom of the field.
 const PLACES: [[(i32, i32); 3]; 2] = [
     [(3870, 3855), (3854, 3839), (3838, 3823)],
     [(4094, 3839), (3838, 3583), (-3842, -4095)],
@@ -137,15 +136,14 @@ fn assert_all_at<R: Abort + AllocGlobal>(rt: &R, places: &[(i32, i32); 3]) {
 }
 
 #[test]
-fn bands_and_groups_are_added_where_they_are(rt: HostRuntime) {
+fn rows_are_added_where_they_are(rt: HostRuntime) {
     for places in &PLACES {
         assert_all_at(&rt, places);
     }
 }
 
-/// The last rows of pictures whose sum is refused there: the last row of a band, of a group and of the field, and the first row
-/// of a group.
-const LAST_ROWS: [i32; 5] = [4031, 3839, 3838, -1025, -4095];
+/// The last rows of pictures whose sum is refused there; the last one is that of the field.
+const LAST_ROWS: [i32; 3] = [4031, -1025, -4095];
 
 /// Adds a row of 40 pixels, in every second column.
 fn push_comb(runs: &mut Vec<Run>, y: i32) -> Result<(), OutOfMemory> {
@@ -157,7 +155,7 @@ fn push_comb(runs: &mut Vec<Run>, y: i32) -> Result<(), OutOfMemory> {
     Ok(())
 }
 
-/// Runs of a row in each of the first two bands, a long row in the third, and a pixel in a last row.
+/// Runs of two rows, the first that of the field, a row of many pixels below them, and a pixel in a last row.
 fn runs_down_to(alloc: Global, weight: i32, y: i32, last: i32) -> Result<Vec<Run>, OutOfMemory> {
     let mut runs = Vec::new(alloc);
     runs.push(make_run(4094, 0, 2, weight))?;
