@@ -9,6 +9,7 @@ mod assertions;
 mod ending;
 mod growths;
 mod looking;
+mod settling;
 mod sheets;
 mod threads;
 mod writing;

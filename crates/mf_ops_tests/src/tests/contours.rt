@@ -269,18 +269,6 @@ fn contours_leave_the_rest(rt: HostRuntime) {
 }
 
 #[test]
-fn fills_across_a_border_of_bands(rt: HostRuntime) {
-    let across: Corners = &[(-1, 4029), (1, 4029), (1, 4033), (-1, 4033)];
-    let runs = [
-        run(4032, -1, 2, 1),
-        run(4031, -1, 2, 1),
-        run(4030, -1, 2, 1),
-        run(4029, -1, 2, 1),
-    ];
-    assert_filled(&rt, &[(across, 1)], &runs);
-}
-
-#[test]
 fn a_cycle_winds_both_ways(rt: HostRuntime) {
     // An eight that goes around its lower square twice counterclockwise, and around its upper square once clockwise.
     let eight: Corners = &[
