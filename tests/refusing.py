@@ -19,12 +19,13 @@ LIBRARY = r"""
 #include <sys/syscall.h>
 #include <unistd.h>
 
-/* Allocations of these sizes say where allocations count (crates/mf_testing/src/growths.rt). */
-enum { FROM_HERE = 33554467, TO_HERE };
+/* Allocations of these sizes say where allocations count, or how many are allowed before all are refused: as many as the size exceeds
+   ALLOWED, at most 99 (crates/mf_testing/src/growths.rt). */
+enum { FROM_HERE = 33554467, TO_HERE, ALLOWED = 33554500 };
 
 void *__libc_malloc(size_t), *__libc_realloc(void *, size_t);
 static int (*start)(pthread_t *, const pthread_attr_t *, void *(*)(void *), void *);
-static long growths, first, last = -1, report;
+static long growths, first, last = -1, report, allowed = -1;
 static size_t piece;
 static int counts;
 
@@ -39,9 +40,15 @@ __attribute__((constructor)) static void begin(void) {
 /* Whether this allocation is refused. If so, a byte is written to the file REPORT. */
 static int refused(size_t size) {
     if (size == FROM_HERE || size == TO_HERE) {
-        counts = size == FROM_HERE;
+        counts = size == FROM_HERE, allowed = -1;
         return 1;
     }
+    if (size >= ALLOWED && size < ALLOWED + 100) {
+        allowed = size - ALLOWED;
+        return 1;
+    }
+    if (allowed > 0) return allowed--, 0;
+    if (allowed == 0) return errno = ENOMEM, 1;
     if (!counts) return 0;
     long number = __atomic_add_fetch(&growths, 1, __ATOMIC_SEQ_CST);
     if (number < first || number > last) return 0;

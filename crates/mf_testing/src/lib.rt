@@ -8,7 +8,7 @@ mod scripts;
 mod texts;
 mod writers;
 
-pub use growths::{grow_again, refuse_all_growths, refuse_growths};
+pub use growths::{allow_growths, grow_again, refuse_all_growths, refuse_growths};
 pub use readers::{LineFeeds, Pieces, Remembers};
 pub use scripts::{RECT, RECT_FILE, Script, worked_scripts};
 pub use texts::{command_line, count_of_texts, words_of};

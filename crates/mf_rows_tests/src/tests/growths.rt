@@ -15,6 +15,7 @@ macro_rules! run_of {
 
 mod builders;
 mod changes;
+mod many;
 mod piles;
 mod sums;
 

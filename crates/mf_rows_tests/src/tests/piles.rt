@@ -41,7 +41,7 @@ macro_rules! comb_of {
 
 mod apart;
 pub(crate) mod combs;
-mod parts;
+pub(crate) mod parts;
 
 /// The area in which all combs lie.
 const AREA: [Rectangle; 1] = [Rectangle {
@@ -57,6 +57,16 @@ const AREA: [Rectangle; 1] = [Rectangle {
 pub(crate) struct Drawing {
     pub(crate) picture: Picture,
     rectangles: Vec<Rectangle>,
+}
+
+/// The comb with this first column, step and number of teeth.
+pub(crate) fn make_comb(
+    (left, step, teeth): (i32, i32, u32),
+    bottom: i32,
+    top: i32,
+    weight: i32,
+) -> Comb {
+    comb_of!(left, step, teeth, bottom, top, weight)
 }
 
 impl Comb {

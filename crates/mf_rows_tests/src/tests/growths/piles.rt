@@ -12,9 +12,9 @@ use mf_rows::AddFault;
 use mf_testing::{grow_again, refuse_growths};
 use std::process::Abort;
 
-/// Asserts that a contour is added to a picture of combs, or refused and then added again.
-fn assert_contour_added<R: Abort + AllocGlobal>(rt: &R, combs: &[Comb], last: &Comb) {
-    let mut drawing = Drawing::of(rt, combs);
+/// Asserts that a contour is added to a picture, or refused and then added again.
+pub(super) fn assert_contour_added<R: Abort + AllocGlobal>(rt: &R, drawing: Drawing, last: &Comb) {
+    let mut drawing = drawing;
     let corners = last.corners(rt).expect(rt, "there is room for corners");
     refuse_growths(rt.alloc());
     let added = drawing.picture.add_corners(rt.alloc(), corners);
@@ -32,23 +32,23 @@ fn assert_contour_added<R: Abort + AllocGlobal>(rt: &R, combs: &[Comb], last: &C
 
 #[test]
 fn a_contour_is_added(rt: HostRuntime) {
-    assert_contour_added(&rt, &APART, &LAST);
+    assert_contour_added(&rt, Drawing::of(&rt, &APART), &LAST);
 }
 
 #[test]
 fn a_contour_is_added_to_those_apart(rt: HostRuntime) {
-    assert_contour_added(&rt, &MANY_APART, &LAST);
+    assert_contour_added(&rt, Drawing::of(&rt, &MANY_APART), &LAST);
 }
 
 /// The contour is larger than the last two parts, so it is joined with these, and their sum with those before.
 #[test]
 fn a_contour_is_added_to_four_parts(rt: HostRuntime) {
-    assert_contour_added(&rt, &PARTS[3..], &LAST);
+    assert_contour_added(&rt, Drawing::of(&rt, &PARTS[3..]), &LAST);
 }
 
 /// Asserts that nothing is refused where an allocation fails: parts stay apart.
-fn assert_settled<R: Abort + AllocGlobal>(rt: &R, combs: &[Comb]) {
-    let mut drawing = Drawing::of(rt, combs);
+pub(super) fn assert_settled<R: Abort + AllocGlobal>(rt: &R, drawing: Drawing) {
+    let mut drawing = drawing;
     refuse_growths(rt.alloc());
     drawing.picture.settle(rt.alloc());
     grow_again(rt.alloc());
@@ -59,12 +59,12 @@ fn assert_settled<R: Abort + AllocGlobal>(rt: &R, combs: &[Comb]) {
 
 #[test]
 fn a_picture_is_settled(rt: HostRuntime) {
-    assert_settled(&rt, &APART);
+    assert_settled(&rt, Drawing::of(&rt, &APART));
 }
 
 #[test]
 fn four_parts_are_settled(rt: HostRuntime) {
-    assert_settled(&rt, &PARTS[3..]);
+    assert_settled(&rt, Drawing::of(&rt, &PARTS[3..]));
 }
 
 /// Asserts that the second picture of combs is added to the first one, or refused and then added again. The second one stays as it is.
