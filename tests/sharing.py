@@ -120,13 +120,11 @@ def of_one_part(of_comb):
     both = {"a": of_comb}
     yield Case("a shift", comb("a"), "a := a shifted (3,-17)\n", both, LINE + LISTS + COMB + COMB // 4, COMB)
     yield Case("a reflection", comb("a"), "a := a yscaled -1\n", both, LINE + LISTS + 2 * (COMB + COMB // 4), COMB)
-    # Each row that changes is made by itself, and then becomes one of the part.
-    most = LINE + LISTS + 2 * COMB + COMB // 2
-    yield Case("a cull", comb("a"), "cull a keeping (1,3) withweight 2\n", {"a": 2 * of_comb}, most, COMB)
-    # The parts are joined first. Where they have rows in common, as here, that asks for about four times the comb, and about once where
-    # they have none. The cause is not known, so this bound is only what was measured, and not what the command needs.
+    yield Case("a cull", comb("a"), "cull a keeping (1,3) withweight 2\n", {"a": 2 * of_comb}, LINE + LISTS + COMB + COMB // 4, COMB)
+    # The parts are joined first. The box ends among the teeth, so their sum has two strips of teeth, and so has what the cull makes of it.
     before, shown = comb("a") + box("a", -9, -9, -8, 9), {"a": 2 * of_comb + 36}
-    yield Case("a cull of two parts", before, "cull a keeping (1,3) withweight 2\n", shown, LINE + LISTS + 7 * COMB, 2 * COMB)
+    most = LINE + LISTS + 2 * (2 * COMB + COMB // 4)
+    yield Case("a cull of two parts", before, "cull a keeping (1,3) withweight 2\n", shown, most, 4 * COMB)
 
 
 class Counter:
