@@ -22,15 +22,6 @@ const BOC1: u8 = 68;
 /// eoc, the command that ends a character (gftype.web).
 const EOC: u8 = 69;
 
-/// The most bytes that boc and eoc take together (gftype.web).
-const ENDS: usize = 26;
-
-/// The least number of pixels whose command has a parameter of one byte (gftype.web).
-const LEAST_WITH_BYTE: usize = 64;
-
-/// The least number of pixels whose command has a parameter of two bytes (gftype.web).
-const LEAST_WITH_HALF: usize = 256;
-
 /// Spells the character with this code and box whose black pixels are those of positive weight. `earlier` is the place of the
 /// last earlier character with this code, if there is one.
 pub(crate) fn spell(
@@ -44,24 +35,10 @@ pub(crate) fn spell(
     ensures held { (text : List ℕ) → Holds out.old text → Holds out.new (text ++ spell code (pointer earlier) (black picture.now)) }
     ensures room { out.new.room ≡ out.old.room }
 {
-    out.reserve(most_bytes(picture, bounds));
     let stretches = Stretches::over(picture);
     put_begin(out, code, earlier, bounds);
     spell_rows(out, stretches, bounds);
     out.put_byte(EOC);
-}
-
-/// As many bytes as a character takes, or more. `edge_count` goes over the runs, and gives two for each. A stretch has at least one run,
-/// and two commands, which take a byte each. Besides these, a row takes at most three bytes to be gone to, and the bytes of parameters,
-/// of which there are few, since its commands together paint no more columns than the box has.
-fn most_bytes(picture: &Picture, bounds: &CharacterBox) -> usize {
-    let commands = picture.edge_count();
-    let columns = bounds.max_m.abs_diff(bounds.min_m) as usize;
-    let rows = bounds.max_n.abs_diff(bounds.min_n) as usize + 1;
-    let of_row = 3 + columns / LEAST_WITH_BYTE + columns / LEAST_WITH_HALF;
-    // No stretch takes more than ten bytes, however long its row is.
-    let others = rows.saturating_mul(of_row).min(commands.saturating_mul(4));
-    commands.saturating_add(others).saturating_add(ENDS)
 }
 
 /// Begins a character: with boc1 where it is the first of its code and its box allows it, else with boc.

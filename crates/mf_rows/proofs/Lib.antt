@@ -3,7 +3,6 @@ pub mod BoundsInField
 pub mod BoxesJoined
 pub mod BoxesOfDots
 pub mod DotsLemmas
-pub mod EdgeCountsLemmas
 pub mod EqualRuns
 pub mod FieldTotals
 pub mod LeastBoxes

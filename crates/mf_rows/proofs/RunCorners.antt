@@ -11,6 +11,7 @@ use Rattle.mf_geom.specs.Field.{IsInField}
 use Rattle.mf_strips.specs.declared.corner.Corner.{Corner}
 use Rattle.mf_strips.specs.Corners.{added_by, added_by_all, AreSweptCorners, HaveFieldStripWeights, IsPlaced}
 use Rattle.mf_strips.specs.Strips.{EdgeStrip, weight_in_strips}
+use Rattle.mf_strips.proofs.TurnsLemmas.{added_by_all-append}
 use Rattle.mf_rows.specs.declared.run.Run.{Run}
 use Rattle.mf_rows.specs.Corners.{AddDots}
 use Rattle.mf_rows.specs.Dots.{Dot, IsPicture, place, start_of_field, weight_at}
@@ -76,11 +77,6 @@ added_off r x y off =
 placed : (r : Run) → IsRun r → All IsPlaced (corners_of r)
 unfolding corners_of
 placed r run = grind (arith, ints, All-cons, All-nil)
-
-added_by_all-append : (ks ls : List Corner) (x y : ℤ) → added_by_all (ks ++ ls) x y ≡ added_by_all ks x y +ℤ added_by_all ls x y
-unfolding added_by_all
-added_by_all-append [] ls x y = omega (arith, ints)
-added_by_all-append (k ∷ ks) ls x y = omega (arith, ints, added_by_all-append ks ls x y)
 
 -- where corners add dots after which a run fits, its corners add its dots, too
 pub run_added : (ds : List Dot) (r : Run) (ks : List Corner) → Fits ds r → AddDots ds ks → AddDots (ds ++ dots_of r) (ks ++ corners_of r)

@@ -3,7 +3,6 @@ pub mod Bounds
 pub mod Boxes
 pub mod Corners
 pub mod Dots
-pub mod EdgeCounts
 pub mod Moves
 pub mod Order
 pub mod Remaining

@@ -41,7 +41,6 @@ impl Picture {
     ghost use Rattle.mf_strips.specs.Corners.{AreCorners};
     ghost use Rattle.mf_rows.specs.Corners.{with_corners_at};
     ghost use Rattle.mf_rows.specs.Dots.{IsPicture, weight_at, total_of};
-    ghost use Rattle.mf_rows.specs.EdgeCounts.{edge_count};
     ghost use Rattle.mf_rows.specs.Runs.{runs_of};
     ghost use Rattle.mf_rows.specs.Sums.{HasWeights, IsUnlawfulSomewhere, difference_at, sum_at};
     ghost use Rattle.mf_edges.specs.WeightMaps.{IsWeightMap};
@@ -119,20 +118,6 @@ impl Picture {
         ensures lawful { IsPicture self.now }
     {
         self.bounds_of(Pixels::Black)
-    }
-
-    /// A number of edges that the picture's maximal runs have at most: two for each of them, at which it begins and ends. It goes over
-    /// the runs.
-    pub fn edge_count(&self) -> usize
-        ensures edges { edge_count (runs_of self.now) ≤ result }
-        ensures runs { length (runs_of self.now) ≤ result }
-        ensures lawful { IsPicture self.now }
-    {
-        let mut edges = 0;
-        for _run in self.runs() {
-            edges += 2;
-        }
-        edges
     }
 
     /// The maximal runs of one nonzero weight: rows from the top down, columns from left to right.
@@ -242,6 +227,9 @@ impl Picture {
         ensures answer { IsTrue result ↔ (self.now ≡ []) }
         ensures lawful { IsPicture self.now }
     {
+        if self.pile.is_empty() {
+            return true;
+        }
         self.runs().next().is_none()
     }
 

@@ -87,6 +87,14 @@ span_more all i x y s own next d lt so_far span lawful weight end first second =
   greatest = omega (arith, ints, so_far.greatest, lawful.greatest);
 }
 
+-- the span of a single cursor is that of all
+pub one_span : (cs : List Cursor) (d : Cursor) (x y : ℤ) (s : Span) → length cs ≡ 1 → IsSpan (weight_in_strips (strips_of (get_or cs 0 d).strips)) x y s
+    → IsSpan (weight_at_all cs) x y s
+unfolding weight_in_all
+one_span (c ∷ []) d x y s one own = record { after = own.after; within = own.within; same = λ z low high. omega (arith, ints, own.same z low high) }
+one_span [] d x y s one own = absurd (omega arith)
+one_span (c ∷ c' ∷ cs) d x y s one own = absurd (omega arith)
+
 -- ---- equal rows
 
 by_greater : (P : ℤ → Type 0) (a b : ℤ) → P a → P b → P (int_max a b)

@@ -31,4 +31,3 @@ pub use spans::Spans;
 pub use strips::{Strip, Strips};
 pub use sum::sum_of_parts;
 pub use turn::turned;
-pub use writer::PartWriter;

@@ -19,7 +19,7 @@ use std::marker::Model;
 
 /// Writes strips, from the top down. To contracts it is the list of the strips that it has.
 #[derive(Debug, Drop)]
-pub struct PartWriter {
+pub(crate) struct PartWriter {
     heads: Vec<Head>,
     edges: Vec<Edge>,
 }
@@ -39,7 +39,7 @@ impl Model for PartWriter {
 
 impl PartWriter {
     /// No strips yet, and room for so many strips and edges.
-    pub fn with_room(alloc: Global, strips: usize, edges: usize) -> Result<PartWriter, OutOfMemory>
+    pub(crate) fn with_room(alloc: Global, strips: usize, edges: usize) -> Result<PartWriter, OutOfMemory>
         ensures { IfOk result (λ writer. writer ≡ []) }
     {
         let mut heads = Vec::new(alloc);
@@ -50,7 +50,7 @@ impl PartWriter {
     }
 
     /// Appends a strip with these edges, whose rows begin below the height `top`.
-    pub fn push(&mut self, top: i32, edges: &[Edge]) -> Result<(), OutOfMemory>
+    pub(crate) fn push(&mut self, top: i32, edges: &[Edge]) -> Result<(), OutOfMemory>
         requires bottom { least_coordinate ≤ℤ top }
         requires top { top ≤ℤ greatest_coordinate }
         ensures { OnOk result (self.new ≡ self.old ++ record { top = top; edges = edges.now } ∷ []) }
@@ -63,7 +63,7 @@ impl PartWriter {
 
     /// Appends a strip with the sum of two rows, whose rows begin below the height `top`. Requires the edges of a row on the left, and
     /// changes of a row on the right.
-    pub fn push_sum(&mut self, top: i32, left: &[Edge], right: &[Edge]) -> Result<(), OutOfMemory>
+    pub(crate) fn push_sum(&mut self, top: i32, left: &[Edge], right: &[Edge]) -> Result<(), OutOfMemory>
         requires bottom { least_coordinate ≤ℤ top }
         requires top { top ≤ℤ greatest_coordinate }
         requires left { AreEdges left.now }
@@ -78,7 +78,7 @@ impl PartWriter {
 
     /// Appends a strip with the mapped weights of a row, whose rows begin below the height `top`, unless the last strip has the same
     /// weights: rows that a map makes equal to those above, as blank ones at the top, go with those. Requires the edges of a row.
-    pub fn push_mapped(
+    pub(crate) fn push_mapped(
         &mut self,
         top: i32,
         row: &[Edge],
@@ -101,7 +101,7 @@ impl PartWriter {
     }
 
     /// The edges of the last strip, none where there is no strip.
-    pub fn last_row(&self) -> &[Edge]
+    pub(crate) fn last_row(&self) -> &[Edge]
         ensures { result.now ≡ last_row self.now }
     {
         match self.heads.last() {
@@ -111,7 +111,7 @@ impl PartWriter {
     }
 
     /// The part of these strips. Room that is left is given back where it is more than an eighth.
-    pub fn finish(self, reach: i32) -> Part
+    pub(crate) fn finish(self, reach: i32) -> Part
         requires { AreStrips reach self }
         ensures strips { strips_in result ≡ self }
         ensures reach { result.reach ≡ reach }

@@ -31,17 +31,6 @@ impl Spelling {
         self.length
     }
 
-    /// Asks for room for this many bytes at once, or for all that may be written where that is fewer. Where that is refused, the
-    /// bytes are only counted.
-    pub(crate) fn reserve(&mut self, most: usize)
-        ensures held { (text : List ℕ) → Holds self.old text → Holds self.new text }
-        ensures room { self.new.room ≡ self.old.room }
-    {
-        if self.bytes.reserve_exact(most.min(self.room)).is_err() {
-            self.is_out_of_memory = true;
-        }
-    }
-
     /// Counts more bytes. Returns whether to keep them: there is room for them, and no allocation failed before.
     #[inline(always)]
     fn count(&mut self, more: usize) -> bool

@@ -108,7 +108,6 @@ fn assert_answers(
     assert_same(rt, shown.total(), answers.total, case);
     assert_same(rt, shown.bounds(), Some(answers.bounds), case);
     assert_same(rt, shown.black_bounds(), Some(answers.black_bounds), case);
-    assert_same(rt, shown.edge_count(), 2 * answers.runs.len(), case);
     let same = picture(rt, alloc, answers.runs);
     assert_holds(rt, shown.equal(&same) && same.equal(shown), case);
 }

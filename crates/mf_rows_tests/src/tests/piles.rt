@@ -209,16 +209,6 @@ fn contours_are_added_to_a_large_part(rt: HostRuntime) {
     assert_drawing(&rt, &ON_LARGE);
 }
 
-/// Each of the three rows has the 120 runs of the large part, and 8 of the 15 of the contour: the other 7 are in columns where the part has
-/// one, too.
-#[test]
-fn counts_the_edges_of_the_runs_of_two_parts(rt: HostRuntime) {
-    let drawing = Drawing::of(&rt, &[ON_LARGE[0], ON_LARGE[1]]);
-    let settled = drawing.picture_of_runs(&rt);
-    assert_same(&rt, drawing.picture.edge_count(), 768, "edges of two parts");
-    assert_same(&rt, settled.edge_count(), 768, "edges of one part");
-}
-
 /// Small contours after a larger one, which are joined with each other.
 const SMALL: [Comb; 6] = [
     comb_of!(0, 2, 80, -2, 1, 1),

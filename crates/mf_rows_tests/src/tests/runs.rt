@@ -131,24 +131,6 @@ fn keeps_touching_runs_of_two_weights_apart(rt: HostRuntime) {
     assert_runs(&rt, &picture_of(&rt, &runs), &runs);
 }
 
-/// Asserts that the picture of these runs counts this number of edges.
-fn assert_edges<R: Abort + AllocGlobal>(rt: &R, runs: &[Run], count: usize) {
-    assert_same(rt, picture_of(rt, runs).edge_count(), count, "edges");
-}
-
-#[test]
-fn counts_two_edges_for_each_run(rt: HostRuntime) {
-    let row = [make_run(1, 0, 3, 1), make_run(1, 3, 2, -1)];
-    let rows = [
-        make_run(1, 0, 3, 1),
-        make_run(1, 3, 2, -1),
-        make_run(0, 0, 3, 1),
-    ];
-    assert_edges(&rt, &[], 0);
-    assert_edges(&rt, &row, 4);
-    assert_edges(&rt, &rows, 6);
-}
-
 #[test]
 fn blank_has_nothing(rt: HostRuntime) {
     let blank = Picture::blank(rt.alloc());

@@ -31,7 +31,7 @@ impl<'a> Spans<'a> {
     }
 
     /// The columns from column x on that have the same weight in row y.
-    #[inline]
+    #[inline(always)]
     pub fn span(&mut self, x: i32, y: i32) -> Span
         requires left { least_coordinate ≤ℤ x }
         requires right { x <ℤ greatest_coordinate }
@@ -39,7 +39,7 @@ impl<'a> Spans<'a> {
         ensures span { IsSpan (weights_of self.old) x y result }
         ensures same { weights_of self.new ≡ weights_of self.old }
     {
-        span_of_all(&mut self.cursors[..self.parts.count], x, y)
+        span_of_cursors(&mut self.cursors[..self.parts.count], x, y)
     }
 
     /// The lowest one of the rows down from row y that are known to be equal to it.
@@ -53,8 +53,24 @@ impl<'a> Spans<'a> {
     }
 }
 
-/// The columns from column x on that have the same weight in row y in each list of strips.
+/// The columns from column x on that have the same weight in row y in each list of strips. Mostly there is one, and it takes few steps.
 #[inline(always)]
+fn span_of_cursors(cursors: &mut [Cursor<'_>], x: i32, y: i32) -> Span
+    requires count { length cursors.old ≤ most_parts }
+    requires left { least_coordinate ≤ℤ x }
+    requires right { x <ℤ greatest_coordinate }
+    requires row { IsColumnOrRow y }
+    ensures span { IsSpan (weight_at_all cursors.old) x y result }
+    ensures same { strips_of_all cursors.new ≡ strips_of_all cursors.old }
+{
+    if cursors.len() == 1 {
+        return cursors[0].span(x, y);
+    }
+    span_of_all(cursors, x, y)
+}
+
+/// The columns from column x on that have the same weight in row y in each list of strips.
+#[inline(never)]
 fn span_of_all(cursors: &mut [Cursor<'_>], x: i32, y: i32) -> Span
     requires count { length cursors.old ≤ most_parts }
     requires left { least_coordinate ≤ℤ x }

@@ -17,5 +17,4 @@ pub returns-clause-held : goal.returns-clause-held
 unfolding spell
 returns-clause-held c =
     let all = write_both _ _ _ _ _ (write_both _ _ _ _ _ c.put_begin.ensures.held c.spell_rows.ensures.held) c.put_byte.ensures.held in
-    let same = write_same _ _ _ _ (rw (c.requires, c.over-stretches.ensures.stretches) refl) all in
-    λ text held. same text (c.reserve.ensures.held text held)
+    write_same _ _ _ _ (rw (c.requires, c.over-stretches.ensures.stretches) refl) all

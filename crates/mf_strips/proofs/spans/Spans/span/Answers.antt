@@ -8,8 +8,8 @@ unfolding weights_of
 returns-clause-span c =
     let x_is = to_z-of_z c.ranges.x in
     let y_is = to_z-of_z c.ranges.y in
-    rw (x_is, y_is) at c.span_of_all.ensures.span
+    rw (x_is, y_is) at c.span_of_cursors.ensures.span
 
 pub returns-clause-same : goal.returns-clause-same
 unfolding weights_of
-returns-clause-same c = same_weights c.args.self.now.parts.count c.args.self.now.cursors c.span_of_all.new.cursors c.span_of_all.ensures.same
+returns-clause-same c = same_weights c.args.self.now.parts.count c.args.self.now.cursors c.span_of_cursors.new.cursors c.span_of_cursors.ensures.same
