@@ -39,7 +39,11 @@ impl Model for PartWriter {
 
 impl PartWriter {
     /// No strips yet, and room for so many strips and edges.
-    pub(crate) fn with_room(alloc: Global, strips: usize, edges: usize) -> Result<PartWriter, OutOfMemory>
+    pub(crate) fn with_room(
+        alloc: Global,
+        strips: usize,
+        edges: usize,
+    ) -> Result<PartWriter, OutOfMemory>
         ensures { IfOk result (λ writer. writer ≡ []) }
     {
         let mut heads = Vec::new(alloc);
@@ -63,7 +67,12 @@ impl PartWriter {
 
     /// Appends a strip with the sum of two rows, whose rows begin below the height `top`. Requires the edges of a row on the left, and
     /// changes of a row on the right.
-    pub(crate) fn push_sum(&mut self, top: i32, left: &[Edge], right: &[Edge]) -> Result<(), OutOfMemory>
+    pub(crate) fn push_sum(
+        &mut self,
+        top: i32,
+        left: &[Edge],
+        right: &[Edge],
+    ) -> Result<(), OutOfMemory>
         requires bottom { least_coordinate ≤ℤ top }
         requires top { top ≤ℤ greatest_coordinate }
         requires left { AreEdges left.now }
