@@ -16,7 +16,7 @@ use Rattle.mf_strips.proofs.StripMaps.{StripsBecome, each_row, map_same, strips_
 pub wrapped_negation : (z : ℤ) → IsChange z → int_wrapping_neg w32 z ≡ neg_ℤ z
 wrapped_negation z change = wrapping_neg_is w32 z (omega (arith, ints, change)) ∙ int_wrap_fits w32 (neg_ℤ z) (omega (arith, ints, change))
 
-row_negated : (reach : ℤ) (es : List Edge) → AreEdges es → StaysInReach reach es → RowBecomes negate_row reach es (map negated_edge es)
+pub row_negated : (reach : ℤ) (es : List Edge) → AreEdges es → StaysInReach reach es → RowBecomes negate_row reach es (map negated_edge es)
 row_negated reach es edges reached =
     rw (map_same negated_edge negative_edge es (λ k d lt.
     let weight = wrapped_negation (get_or es k d).weight (change_at_edge least_coordinate es k d edges.sorted edges.lawful lt) in

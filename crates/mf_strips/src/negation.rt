@@ -20,7 +20,7 @@ pub fn negated(alloc: Global, part: &Part) -> Result<Part, OutOfMemory>
 }
 
 /// The edges with negated weights. Numbers wrap, since a list may have edges that no strip has, of any weight.
-fn negated_edges(alloc: Global, edges: &[Edge]) -> Result<Vec<Edge>, OutOfMemory>
+pub(crate) fn negated_edges(alloc: Global, edges: &[Edge]) -> Result<Vec<Edge>, OutOfMemory>
     ensures { IfOk result (λ negated. negated.items ≡ map negated_edge edges.now) }
 {
     let negated = edges.iter().map(|edge| Edge {
