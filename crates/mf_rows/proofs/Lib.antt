@@ -12,7 +12,7 @@ pub mod PassedRuns
 pub mod PicturePiles
 pub mod PlacesLemmas
 pub mod RemainingLemmas
-pub mod RunBoxes
+pub mod BoxesPassed
 pub mod RunCorners
 pub mod RunDots
 pub mod RunsLemmas

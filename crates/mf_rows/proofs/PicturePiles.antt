@@ -61,7 +61,7 @@ part_outside p x y outside =
     (λ ge. weight_in-outside (row_in [] ss y) x (row_lawful greatest_coordinate p.reach [] ss y no_edges strips)
     (λ left right. outside (record { left = left; right = right; bottom = ge; top = le }))))
 
-parts_outside : (ps : List (Arc Part Global)) (x y : ℤ) → (IsInField x y → ⊥) → weight_in_parts ps x y ≡ pos 0
+pub parts_outside : (ps : List (Arc Part Global)) (x y : ℤ) → (IsInField x y → ⊥) → weight_in_parts ps x y ≡ pos 0
 unfolding weight_in_parts
 parts_outside [] x y outside = refl
 parts_outside (p ∷ ps) x y outside = omega (arith, ints, part_outside (arc_value p) x y outside, parts_outside ps x y outside)

@@ -7,7 +7,7 @@ use Rattle.std.proofs.lemmas.Int.{ints, by_lt_z}
 use Rattle.std.proofs.lemmas.List.{append_assoc}
 use Rattle.mf_geom.specs.Coordinates.{least_coordinate, greatest_coordinate, last_in_field, field_size}
 use Rattle.mf_rows.specs.declared.run.Run.{Run}
-use Rattle.mf_rows.specs.Ahead.{AreBlankBelow}
+use Rattle.mf_rows.specs.Reading.{AreBlankBelow}
 use Rattle.mf_rows.specs.Dots.{Dot, weight_at}
 use Rattle.mf_rows.specs.Remaining.{dots_from}
 use Rattle.mf_rows.specs.Runs.{equal_dots, runs_of, run_from, AreMaximal}

@@ -1,10 +1,9 @@
 -- The least box of a picture.
-use Rattle.std.specs.Prelude.{◌≡◌, ◌+ℤ◌, ◌-ℤ◌, ◌≤ℤ◌, ℤ, pos, Bool, true, false, not, int_lt, All, Any, List, Option, None, Some}
+use Rattle.std.specs.Prelude.{◌≡◌, ◌≤ℤ◌, ◌<ℤ◌, ℤ, pos, Bool, true, false, not, int_lt, All, Any, List, Option, None, Some}
 use Rattle.std.specs.Ordering.{int_eq}
 use Rattle.mf_rows.specs.declared.bounds.Box4.{Box4}
 use Rattle.mf_rows.specs.declared.bounds.Pixels.{Pixels}
 use Rattle.mf_rows.specs.declared.bounds.Pixels.TheVariants.{Nonzero, Black}
-use Rattle.mf_rows.specs.declared.run.Run.{Run}
 use Rattle.mf_rows.specs.Boxes.{box_round_both}
 use Rattle.mf_rows.specs.Dots.{Dot, weight_at}
 
@@ -35,6 +34,24 @@ pub record IsBoxRound (f : ℤ → ℤ → Bool) (b : Box4) : Type 0 where
   pub bottom : (x : ℤ) × (f x b.min_y ≡ true)
   pub top : (x : ℤ) × (f x b.max_y ≡ true)
 
+-- the least box round those pixels at which f is true of which P says so, with pixels at its sides of which it need not
+pub record IsBoxWithin (P : ℤ → ℤ → Type 0) (f : ℤ → ℤ → Bool) (b : Box4) : Type 0 where
+  pub within : (x y : ℤ) → P x y → f x y ≡ true → IsIn b x y
+  pub left : (y : ℤ) × (f b.min_x y ≡ true)
+  pub right : (y : ℤ) × (f b.max_x y ≡ true)
+  pub bottom : (x : ℤ) × (f x b.min_y ≡ true)
+  pub top : (x : ℤ) × (f x b.max_y ≡ true)
+
+-- such a box, or none where there are no such pixels
+abbrev pub AreBoundsWithin : (ℤ → ℤ → Type 0) → (ℤ → ℤ → Bool) → Option Box4 → Type 0
+AreBoundsWithin P f None = (x y : ℤ) → P x y → f x y ≡ true → ⊥
+AreBoundsWithin P f (Some b) = IsBoxWithin P f b
+
+-- a walk that is at column x of row y, which is equal to the rows down to row `bottom`, has passed the pixel (u, v)
+pub record IsPassed (x bottom y u v : ℤ) : Type 0 where
+  pub low : bottom ≤ℤ v
+  pub left : v ≤ℤ y → u <ℤ x
+
 -- the least box round the pixels at which f is true, or none where there are none
 abbrev pub AreBounds : (ℤ → ℤ → Bool) → Option Box4 → Type 0
 AreBounds f None = (x y : ℤ) → f x y ≡ false
@@ -49,13 +66,13 @@ abbrev pub is_among : Pixels → ℤ → Bool
 is_among Nonzero w = not (int_eq w (pos 0))
 is_among Black w = int_lt (pos 0) w
 
+-- the pixel (x, y) is one of these where the weights are those of f
+unfoldable pub among : Pixels → (ℤ → ℤ → ℤ) → ℤ → ℤ → Bool
+among p f x y = is_among p (f x y)
+
 -- the pixel (x, y) of dots is one of these
 unfoldable pub among_dots : Pixels → List Dot → ℤ → ℤ → Bool
 among_dots p ds x y = is_among p (weight_at ds x y)
-
--- the box of a run
-abbrev pub box_of_run : Run → Box4
-box_of_run r = record { min_x = r.x; max_x = r.x +ℤ pos r.len -ℤ pos 1; min_y = r.y; max_y = r.y }
 
 -- the least box round a box and another, if there is one
 abbrev pub with_box : Option Box4 → Box4 → Box4

@@ -1,4 +1,4 @@
-pub mod Ahead
+pub mod Reading
 pub mod Bounds
 pub mod Boxes
 pub mod Corners

@@ -1,9 +1,10 @@
 //! Pictures.
 ghost use Rattle.std.specs.Prelude.{◌≡◌, ◌≢◌, ◌≤◌, [], IsNone, IsOk, IfSome, IfOk, IfErr, OnOk, OnErr, IsTrue, length, slice_get, ◌↔◌};
 
-use crate::bounds::{Box4, Pixels, bounds_of_runs};
+use crate::bounds::{Box4, Pixels};
 use crate::run::Run;
 use crate::runs::Runs;
+use crate::walk::Walk;
 use mf_base::OutOfMemory;
 use mf_edges::WeightMap;
 use mf_strips::{AddFault, Corner, Part, Pile, mapped, negated, part_of_corners};
@@ -125,7 +126,7 @@ impl Picture {
         ensures runs { result ≡ runs_of self.now }
         ensures lawful { IsPicture self.now }
     {
-        Runs::over(self.pile.spans())
+        Runs::of(&self.pile)
     }
 
     /// The k-th of the maximal runs that `runs` gives, counted from 0; `None` after the last. It walks the runs before it.
@@ -250,7 +251,8 @@ impl Picture {
         ensures bounds { AreBounds (among_dots pixels self.now) result }
         ensures lawful { IsPicture self.now }
     {
-        bounds_of_runs(self.runs(), pixels)
+        let mut walk = Walk::of(&self.pile);
+        walk.bounds(pixels)
     }
 
     /// The picture of a part.

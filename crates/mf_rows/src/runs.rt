@@ -1,10 +1,10 @@
 //! The maximal runs of a picture, one after another.
 ghost use Rattle.mf_rows.specs.Weights.{picture_of};
-ghost use Rattle.mf_strips.specs.Spans.{weights_of};
+ghost use Rattle.mf_strips.specs.PileWeights.{weight_in_pile};
 
 use crate::run::Run;
 use crate::walk::Walk;
-use mf_strips::Spans;
+use mf_strips::Pile;
 use std::marker::Model;
 
 /// An iterator over the maximal runs of a picture: rows from the top down, columns from left to right. To callers it is
@@ -29,12 +29,12 @@ impl<'a> Runs<'a> {
     ghost use Rattle.std.specs.Prelude.{◌≡◌};
     ghost use Rattle.mf_rows.specs.Runs.{runs_of};
 
-    /// The runs of the picture with these weights.
-    pub(crate) fn over(spans: Spans<'a>) -> Runs<'a>
-        ensures { result ≡ runs_of (picture_of (weights_of spans.entry)) }
+    /// The runs of the picture of a pile.
+    pub(crate) fn of(pile: &'a Pile) -> Runs<'a>
+        ensures { result ≡ runs_of (picture_of (weight_in_pile pile.now)) }
     {
         Runs {
-            walk: Walk::over(spans),
+            walk: Walk::of(pile),
         }
     }
 }

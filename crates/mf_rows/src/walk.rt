@@ -1,53 +1,102 @@
 //! The walk over the pixels of a picture, which meets its runs one after another.
-ghost use Rattle.std.specs.Prelude.{◌≡◌, ◌≢◌, ℤ, [], ◌∷◌, IsTrue, IsFalse, pos, ◌≤ℤ◌, ◌<ℤ◌};
-ghost use Rattle.mf_geom.specs.Coordinates.{least_coordinate, greatest_coordinate, last_in_field};
-ghost use Rattle.mf_rows.specs.Ahead.{IsAhead, IsAhead-prop, AreBlankBelow};
-ghost use Rattle.mf_strips.specs.Spans.{weights_of};
+ghost use Rattle.std.specs.Prelude.{◌≡◌, ◌≢◌, [], ◌∷◌, ℤ, IsTrue, IsFalse, pos, ◌≤ℤ◌, ◌<ℤ◌};
+ghost use Rattle.mf_geom.specs.Coordinates.{least_coordinate, greatest_coordinate};
+ghost use Rattle.mf_geom.specs.Field.{IsColumnOrRow};
+ghost use Rattle.mf_rows.specs.Reading.{AreBlankBelow, IsReading, IsReading-prop};
+ghost use Rattle.mf_strips.specs.RowEdges.{weight_left, weights_of};
 
+use crate::bounds::{Box4, Pixels};
 use crate::run::Run;
 use mf_edges::{FIELD_END, FIELD_START};
-use mf_strips::{Span, Spans};
+use mf_strips::{Pile, RowEdges};
 
-/// A walk over the pixels of a picture, which gives its maximal runs: rows from the top down, columns from left to right. It reads each
-/// span once, and passes equal blank rows together.
+/// A walk over the pixels of a picture, which gives its maximal runs: rows from the top down, columns from left to right. It passes each
+/// edge once, and equal blank rows together.
 #[derive(Drop)]
 pub struct Walk<'a> {
-    spans: Spans<'a>,
-    /// The next pixel, at the end of row `y` where `x` is the column after the last.
+    /// The edges of row `y` to the right of column `x`.
+    edges: RowEdges<'a>,
+    /// The column of the edge that was passed last, the one to the left of the field where none was.
     x: i32,
     y: i32,
-    /// The span from the next pixel on, an empty one of weight 0 at the end of a row.
-    ahead: Span,
-    ghost ahead_is: { IsAhead (weights_of spans) x y ahead } by { IsAhead-prop (weights_of spans) x y ahead },
+    /// The weight from column `x` on, up to the next edge.
+    weight: i32,
+    /// The lowest of the rows down from row `y` that are known to be equal to it.
+    bottom: i32,
+    ghost reading: { IsReading (weights_of edges) (weight_left edges) x y weight bottom } by { IsReading-prop (weights_of edges) (weight_left edges) x y weight bottom },
 }
 
 impl<'a> Walk<'a> {
-    ghost use Rattle.mf_rows.specs.Remaining.{remaining_runs, HasPassed};
-    ghost use Rattle.mf_rows.specs.Runs.{runs_of};
-    ghost use Rattle.mf_rows.specs.Weights.{picture_of};
+    ghost use Rattle.mf_rows.specs.Bounds.{AreBounds, AreBoundsWithin, IsPassed, among};
+    ghost use Rattle.mf_rows.specs.Remaining.{remaining_runs, HasPassed, IsAtStart};
+    ghost use Rattle.mf_strips.specs.PileWeights.{weight_in_pile};
 
-    /// The walk over the picture with these weights.
-    pub fn over(mut spans: Spans<'a>) -> Walk<'a>
-        ensures { remaining_runs result ≡ runs_of (picture_of (weights_of spans.entry)) }
+    /// The walk over the picture of a pile.
+    pub(crate) fn of(pile: &'a Pile) -> Walk<'a>
+        ensures { IsAtStart (weight_in_pile pile.now) result }
     {
-        let (x, y) = (FIELD_START, FIELD_END - 1);
-        let ahead = spans.span(x, y);
-        Walk { spans, x, y, ahead }
+        let mut edges = RowEdges::of(pile);
+        let y = FIELD_END - 1;
+        let bottom = edges.enter(y);
+        Walk {
+            edges,
+            x: FIELD_START - 1,
+            y,
+            weight: 0,
+            bottom,
+        }
+    }
+
+    /// The least box of these pixels, `None` where there are none. Requires a walk that is at its start. Equal rows are passed once.
+    pub(crate) fn bounds(&mut self, pixels: Pixels) -> Option<Box4>
+        requires { IsAtStart (weights_of self.old.edges) self.old }
+        ensures { AreBounds (among pixels (weights_of self.old.edges)) result }
+    {
+        let mut bounds = self.widen(None, pixels);
+        while self.bottom > FIELD_START {
+            self.enter_row(self.bottom - 1);
+            bounds = self.widen(bounds, pixels);
+        }
+        bounds
+    }
+
+    /// The least box round a box and these pixels of the rest of the row, and of the rows that are equal to it.
+    fn widen(&mut self, bounds: Option<Box4>, pixels: Pixels) -> Option<Box4>
+        requires { AreBoundsWithin (IsPassed self.old.x self.old.bottom self.old.y) (among pixels (weights_of self.old.edges)) bounds }
+        ensures bounds { AreBoundsWithin (IsPassed greatest_coordinate self.new.bottom self.new.y) (among pixels (weights_of self.old.edges)) result }
+        ensures weights { weights_of self.new.edges ≡ weights_of self.old.edges }
+        ensures row { self.new.y ≡ self.old.y }
+    {
+        let mut bounds = bounds;
+        while self.x < FIELD_END {
+            let (x, weight) = (self.x, self.weight);
+            self.pass_equal();
+            if pixels.has(weight) {
+                let own = Box4 {
+                    min_x: x,
+                    max_x: self.x - 1,
+                    min_y: self.bottom,
+                    max_y: self.y,
+                };
+                bounds = Some(own.with(bounds));
+            }
+        }
+        bounds
     }
 
     /// Moves on to the next run, past pixels of weight 0. Answers whether there is one.
     fn find_run(&mut self) -> bool
         ensures runs { remaining_runs self.new ≡ remaining_runs self.old }
-        ensures found { IsTrue result → self.new.ahead.weight ≢ pos 0 }
+        ensures found { IsTrue result → self.new.weight ≢ pos 0 }
         ensures over { IsFalse result → remaining_runs self.new ≡ [] }
     {
-        while self.ahead.weight == 0 {
+        while self.weight == 0 {
             let start = self.x;
             self.pass_equal();
             if self.x < FIELD_END {
                 return true;
             }
-            let bottom = blank_down_to(&mut self.spans, start, self.y);
+            let bottom = self.blank_down_to(start);
             if bottom == FIELD_START {
                 return false;
             }
@@ -57,11 +106,12 @@ impl<'a> Walk<'a> {
     }
 
     /// Takes the run that begins at the next pixel.
+    #[inline(always)]
     fn take_run(&mut self) -> Run
-        requires { self.old.ahead.weight ≢ pos 0 }
+        requires { self.old.weight ≢ pos 0 }
         ensures { remaining_runs self.old ≡ result ∷ remaining_runs self.new }
     {
-        let (x, weight) = (self.x, self.ahead.weight);
+        let (x, weight) = (self.x, self.weight);
         self.pass_equal();
         Run {
             y: self.y,
@@ -71,59 +121,42 @@ impl<'a> Walk<'a> {
         }
     }
 
-    /// Passes the pixels of the row that have the weight ahead.
+    /// Passes the pixels up to the next edge, or to the end of the row.
+    #[inline(always)]
     fn pass_equal(&mut self)
         ensures passed { HasPassed self.old self.new }
-        ensures next { self.new.x <ℤ greatest_coordinate → self.new.ahead.weight ≢ self.old.ahead.weight }
+        ensures further { self.old.x <ℤ greatest_coordinate → self.old.x <ℤ self.new.x }
+        ensures next { self.new.x <ℤ greatest_coordinate → self.new.weight ≢ self.old.weight }
     {
-        let weight = self.ahead.weight;
-        while self.x < FIELD_END && self.ahead.weight == weight {
-            self.x = self.ahead.end;
-            self.ahead = span_from(&mut self.spans, self.x, self.y);
+        let edge = self.edges.pass();
+        self.x = edge.x;
+        self.weight += edge.weight;
+    }
+
+    /// The lowest row that is known to be blank below the row, which is blank from column `start` on; the row itself where none is.
+    fn blank_down_to(&self, start: i32) -> i32
+        requires { (z : ℤ) → start ≤ℤ z → z <ℤ greatest_coordinate → weights_of self.now.edges z self.now.y ≡ pos 0 }
+        ensures { AreBlankBelow (weights_of self.now.edges) result self.now.y }
+    {
+        if start < FIELD_START {
+            self.bottom
+        } else {
+            self.y
         }
     }
 
-    /// Goes to the first pixel of a row.
+    /// Goes to the left end of a row.
     fn enter_row(&mut self, y: i32)
-        requires bottom { least_coordinate ≤ℤ y }
-        requires top { y ≤ℤ last_in_field }
-        ensures weights { weights_of self.new.spans ≡ weights_of self.old.spans }
-        ensures column { self.new.x ≡ least_coordinate }
+        requires { IsColumnOrRow y }
+        ensures weights { weights_of self.new.edges ≡ weights_of self.old.edges }
+        ensures column { self.new.x <ℤ least_coordinate }
         ensures row { self.new.y ≡ y }
     {
-        self.x = FIELD_START;
+        self.bottom = self.edges.enter(y);
+        self.x = FIELD_START - 1;
         self.y = y;
-        self.ahead = self.spans.span(FIELD_START, y);
+        self.weight = 0;
     }
-}
-
-/// The span from column x of row y on, an empty one of weight 0 at the end of the row.
-fn span_from(spans: &mut Spans<'_>, x: i32, y: i32) -> Span
-    requires left { least_coordinate ≤ℤ x }
-    requires right { x ≤ℤ greatest_coordinate }
-    requires bottom { least_coordinate ≤ℤ y }
-    requires top { y ≤ℤ last_in_field }
-    ensures ahead { IsAhead (weights_of spans.old) x y result }
-    ensures same { weights_of spans.new ≡ weights_of spans.old }
-{
-    if x < FIELD_END {
-        return spans.span(x, y);
-    }
-    Span { weight: 0, end: x }
-}
-
-/// The lowest row known to be blank below row y, which is blank from column `start` on; row y itself where none is.
-fn blank_down_to(spans: &mut Spans<'_>, start: i32, y: i32) -> i32
-    requires bottom { least_coordinate ≤ℤ y }
-    requires top { y ≤ℤ last_in_field }
-    requires blank { (z : ℤ) → start ≤ℤ z → z <ℤ greatest_coordinate → weights_of spans.old z y ≡ pos 0 }
-    ensures rows { AreBlankBelow (weights_of spans.old) result y }
-    ensures same { weights_of spans.new ≡ weights_of spans.old }
-{
-    if start == FIELD_START {
-        return spans.bottom(y);
-    }
-    y
 }
 
 impl Iterator for Walk<'_> {
@@ -136,6 +169,7 @@ impl Iterator for Walk<'_> {
 
     ghost remaining = { item_count remaining_runs };
 
+    #[inline(always)]
     fn next(&mut self) -> Option<Run> {
         if !self.find_run() {
             return None;

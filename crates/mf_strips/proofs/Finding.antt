@@ -1,24 +1,22 @@
 -- The row at a height, found among heads whose tops fall.
-use Rattle.std.proofs.Common.{◌≡◌, ℕ, ◌<◌, ℤ, pos, ◌-ℤ◌, ◌≤ℤ◌, ◌<ℤ◌, Bool, true, int_lt, List, [], ◌∷◌, ◌++◌}
-use Rattle.std.proofs.Common.{unwrap_or, zero, suc, ◌+◌, ◌-◌, length, take, drop, get_or, sym, ap, subst, ◌∙◌, arith}
-use Rattle.std.specs.List.{All, AllWithin}
+use Rattle.std.proofs.Common.{◌≡◌, ℕ, zero, suc, ◌<◌, ℤ, pos, ◌-ℤ◌, ◌≤ℤ◌, ◌<ℤ◌, Bool, true, int_lt, List, [], ◌∷◌, ◌++◌}
+use Rattle.std.proofs.Common.{unwrap_or, length, take, drop, get_or, sym, ap, subst, ◌∙◌, arith}
+use Rattle.std.specs.List.{All}
 use Rattle.std.specs.List.Sorted.{IsPartitionedBy}
-use Rattle.std.proofs.lemmas.Int.{ints}
-use Rattle.std.proofs.lemmas.List.{append_assoc, get_or_append_left, map-append, nil_from_length, take_all, take_more}
-use Rattle.std.proofs.lemmas.List.Elements.{All-nil, All-cons}
+use Rattle.std.proofs.lemmas.Int.{ints, by_lt_z}
+use Rattle.std.proofs.lemmas.List.{take-map}
+use Rattle.std.proofs.lemmas.List.Elements.{All-nil, All-cons, All-head, All-tail, All-map, All-weaker}
 use Rattle.mf_geom.specs.Coordinates.{least_coordinate, greatest_coordinate}
 use Rattle.mf_geom.specs.Field.{IsColumnOrRow}
 use Rattle.mf_edges.specs.declared.edge.Edge.{Edge}
-use Rattle.mf_edges.specs.Edges.{AreEdges, weight_in}
 use Rattle.mf_edges.proofs.Falls.{Falls, IsPartitionedBy-falls}
-use Rattle.mf_strips.specs.declared.equal_rows.EqualRows.{EqualRows}
 use Rattle.mf_strips.specs.declared.strips.Head.{Head}
-use Rattle.mf_strips.specs.EqualRows.{AreEqualRows, IsAmong}
+use Rattle.mf_strips.specs.EqualRows.{AreEqualRows, IsBottomBelow}
 use Rattle.mf_strips.specs.Heads.{strip_at, strips_at}
 use Rattle.mf_strips.specs.Parts.{first_top}
-use Rattle.mf_strips.specs.Strips.{EdgeStrip, AreStripsFrom, AreStrips, row_in, weight_in_strips}
+use Rattle.mf_strips.specs.Strips.{EdgeStrip, AreStripsFrom, AreStrips, AreAbove, last_row, row_in}
 use Rattle.mf_strips.specs.Sums.{IsFrom}
-use Rattle.mf_strips.proofs.StripsLemmas.{row_in-from, row_in-below, row_lawful, no_edges}
+use Rattle.mf_strips.proofs.StripsLemmas.{row_in-from, row_in-below}
 
 -- ---- the tops fall
 
@@ -42,16 +40,29 @@ IsPartitionedBy-begins_above y reach es hs strips =
 
 -- ---- the last strip that begins above a row has it
 
-strip_top : (top reach : ℤ) (fs : List EdgeStrip) (s : EdgeStrip) (ss : List EdgeStrip) → AreStripsFrom top reach (fs ++ s ∷ ss) → s.top ≤ℤ top
-strip_top top reach [] s ss strips = strips.1
-strip_top top reach (f ∷ fs) s ss strips = let below = strip_top (f.top -ℤ pos 1) reach fs s ss strips.2 in omega (arith, ints, strips.1)
+-- strips that begin at a row or below it do not change the row
+row_in-front : (above : List Edge) (fs gs : List EdgeStrip) (v : ℤ) → IsFrom gs v → row_in above (fs ++ gs) v ≡ row_in above fs v
+row_in-front above [] gs v from = row_in-from above gs v from ∙ sym (row_in-from above [] v tt)
+row_in-front above (f ∷ fs) gs v from =
+    by_lt_z v f.top
+    (λ lt. row_in-below above f (fs ++ gs) v lt ∙ row_in-front f.edges fs gs v from ∙ sym (row_in-below above f fs v lt))
+    (λ le. row_in-from above (f ∷ fs ++ gs) v le ∙ sym (row_in-from above (f ∷ fs) v le))
 
-pub row_in-last : (top reach : ℤ) (above : List Edge) (fs : List EdgeStrip) (s : EdgeStrip) (ss : List EdgeStrip) (y : ℤ)
-    → AreStripsFrom top reach (fs ++ s ∷ ss) → y <ℤ s.top → IsFrom ss y → row_in above (fs ++ s ∷ ss) y ≡ s.edges
-row_in-last top reach above [] s ss y strips lt from = row_in-below above s ss y lt ∙ row_in-from s.edges ss y from
-row_in-last top reach above (f ∷ fs) s ss y strips lt from =
-    let below = strip_top (f.top -ℤ pos 1) reach fs s ss strips.2 in
-    row_in-below above f (fs ++ s ∷ ss) y (omega (arith, ints)) ∙ row_in-last (f.top -ℤ pos 1) reach f.edges fs s ss y strips.2 lt from
+-- a row below the tops of strips is that of the last one
+row_in-last : (above : List Edge) (f : EdgeStrip) (fs : List EdgeStrip) (v : ℤ) → AreAbove v (f ∷ fs) → row_in above (f ∷ fs) v ≡ last_row (f ∷ fs)
+row_in-last above f [] v lower = row_in-below above f [] v (All-head (λ s. v <ℤ s.top) f [] lower) ∙ row_in-from f.edges [] v tt
+row_in-last above f (g ∷ fs) v lower =
+    row_in-below above f (g ∷ fs) v (All-head (λ s. v <ℤ s.top) f (g ∷ fs) lower) ∙ row_in-last f.edges g fs v (All-tail (λ s. v <ℤ s.top) f (g ∷ fs) lower)
+
+row_in-all : (fs : List EdgeStrip) (v : ℤ) → AreAbove v fs → row_in [] fs v ≡ last_row fs
+row_in-all [] v lower = row_in-from [] [] v tt
+row_in-all (f ∷ fs) v lower = row_in-last [] f fs v lower
+
+-- the first n strips begin above row y where their heads do
+pub first_above : (y : ℤ) (es : List Edge) (hs : List Head) (n : ℕ) → All (λ h. begins_above y h ≡ true) (take n hs) → AreAbove y (take n (strips_at es hs))
+first_above y es hs n heads =
+    rw take-map (All-map (λ s. y <ℤ s.top) (strip_at es) (take n hs)
+    (All-weaker (λ h. begins_above y h ≡ true) (λ h. y <ℤ h.top) (λ h above. grind (arith, ints)) (take n hs) heads))
 
 -- ---- the rows up to the strips below
 
@@ -73,82 +84,30 @@ back_bottom top reach [] ss le strips = first_bottom top reach ss le strips
 back_bottom top reach (f ∷ fs) ss le strips = back_bottom (f.top -ℤ pos 1) reach fs ss (omega (arith, ints, strips.1)) strips.2
 
 -- where no head from place n on begins above row y
-pub from_others : (y : ℤ) (es : List Edge) (n : ℕ) (hs : List Head) → ((d : Head) → n < length hs → (get_or hs n d).top ≤ℤ y) → IsFrom (strips_at es (drop n hs)) y
+pub from_others : (y : ℤ) (es : List Edge) (n : ℕ) (hs : List Head) → ((d : Head) → n < length hs → (get_or hs n d).top ≤ℤ y) → IsFrom (drop n (strips_at es hs)) y
 from_others y es zero [] from = tt
 from_others y es zero (h ∷ hs) from = from h (omega arith)
 from_others y es (suc n) [] from = tt
 from_others y es (suc n) (h ∷ hs) from = from_others y es n hs (λ d lt. from d (omega arith))
 
--- the last of those whose strips begin above it does
-pub last_begins : (y : ℤ) (hs above below : List Head) (n : ℕ) (h : Head) → hs ≡ above ++ below → length above ≡ n → 0 < length above
-    → h ≡ get_or above (length above - 1) h → AllWithin (λ g. begins_above y g ≡ true) hs 0 n → y <ℤ h.top
-last_begins y hs above below n h all count some last passed =
-    let at = passed (length above - 1) h (omega arith) (omega arith) in
-    let is : get_or hs (length above - 1) h ≡ h =
-    ap (λ hs. get_or hs (length above - 1) h) all ∙ get_or_append_left above below h (length above - 1) (omega arith) ∙ sym last in
-    let here : begins_above y h ≡ true = rw is at at in
-    grind (arith, ints)
+-- strips that are split at row y: those that begin above it, and the others
+module _ (y reach bottom : ℤ) (ss fs gs : List EdgeStrip) (all : ss ≡ fs ++ gs) (strips : AreStrips reach ss) (above : AreAbove y fs) (from : IsFrom gs y)
+    (ends : bottom ≡ unwrap_or (first_top gs) least_coordinate) where
+  lowest : IsBottom gs bottom
+  lowest =
+      let lawful = subst (AreStripsFrom greatest_coordinate reach) all strips.strips in
+      subst (IsBottom gs) (sym ends) (back_bottom greatest_coordinate reach fs gs (omega (arith, ints)) lawful)
 
--- what is found at a height
-pub record IsFoundAt (ss : List EdgeStrip) (y : ℤ) (r : EqualRows) : Type 0 where
-  pub row : r.edges.now ≡ row_in [] ss y
-  pub rows : AreEqualRows ss r
-  pub inside : IsColumnOrRow y → IsAmong y r
+  found_at : (v : ℤ) → v ≤ℤ y → IsFrom gs v → row_in [] ss v ≡ last_row fs
+  found_at v le from_v =
+      ap (λ ss. row_in [] ss v) all ∙ row_in-front [] fs gs v from_v
+      ∙ row_in-all fs v (All-weaker (λ s. y <ℤ s.top) (λ s. v <ℤ s.top) (λ s lt. omega (arith, ints)) fs above)
 
--- heads that are split at row y: those whose strips begin above it, and the others
-module _ (y reach : ℤ) (es : List Edge) (hs above below : List Head) (all : hs ≡ above ++ below) (strips : AreStrips reach (strips_at es hs))
-    (from : IsFrom (strips_at es below) y) (r : EqualRows) (ends : r.bottom ≡ unwrap_or (first_top (strips_at es below)) least_coordinate) where
-  parts : strips_at es hs ≡ strips_at es above ++ strips_at es below
-  parts = ap (strips_at es) all ∙ map-append (strip_at es) above below
+  pub found_row : last_row fs ≡ row_in [] ss y
+  found_row = sym (found_at y (omega (arith, ints)) from)
 
-  lawful : AreStripsFrom greatest_coordinate reach (strips_at es above ++ strips_at es below)
-  lawful = subst (AreStripsFrom greatest_coordinate reach) parts strips.strips
+  pub found_rows : AreEqualRows bottom y ss
+  found_rows = record { same = λ v low le. found_at v le (lowest.from v low) ∙ found_row }
 
-  bottom : IsBottom (strips_at es below) r.bottom
-  bottom = subst (IsBottom (strips_at es below)) (sym ends) (back_bottom greatest_coordinate reach (strips_at es above) (strips_at es below) (omega (arith, ints)) lawful)
-
-  found : ((v : ℤ) → IsFrom (strips_at es below) v → v <ℤ r.top → row_in [] (strips_at es hs) v ≡ r.edges.now) → r.edges.now ≡ row_in [] (strips_at es hs) y
-      → (IsColumnOrRow y → y <ℤ r.top) → IsFoundAt (strips_at es hs) y r
-  unfolding weight_in_strips
-  found same row high = record {
-    row = row;
-    rows = record {
-      low = bottom.low;
-      edges = subst AreEdges (sym row) (row_lawful greatest_coordinate reach [] (strips_at es hs) y no_edges strips.strips);
-      weights = λ x v low lt. ap (λ es. weight_in es x) (same v (bottom.from v low) lt);
-    };
-    inside = λ in_field. record { low = bottom.among y in_field.least from; high = high in_field };
-  }
-
-  -- no strip begins above row y
-  pub found_none : length above ≡ 0 → r.edges.now ≡ [] → r.top ≡ greatest_coordinate → IsFoundAt (strips_at es hs) y r
-  found_none none row top =
-      let only : strips_at es hs ≡ strips_at es below = parts ∙ ap (λ gs. strips_at es gs ++ strips_at es below) (nil_from_length above none) in
-      let blank : (v : ℤ) → IsFrom (strips_at es below) v → row_in [] (strips_at es hs) v ≡ r.edges.now =
-      λ v from_v. ap (λ ss. row_in [] ss v) only ∙ row_in-from [] (strips_at es below) v from_v ∙ sym row in
-      found (λ v from_v _. blank v from_v) (sym (blank y from)) (λ in_field. omega (arith, ints, in_field, top))
-
-  -- the strip of a head is the last one that does
-  pub found_some : (h : Head) → ((d : Head) → get_or above (length above - 1) d ≡ h) → 0 < length above → r.edges.now ≡ (strip_at es h).edges → r.top ≡ h.top
-      → y <ℤ h.top → IsFoundAt (strips_at es hs) y r
-  found_some h last some row top high =
-      let n = length above - 1 in
-      let s : EdgeStrip = strip_at es h in
-      let split : above ≡ take n above ++ h ∷ [] =
-      sym (take_all (n + 1) above (omega arith)) ∙ take_more above n h (omega arith) ∙ ap (λ g. take n above ++ g ∷ []) (last h) in
-      let front = strips_at es (take n above) in
-      let whole : strips_at es hs ≡ front ++ s ∷ strips_at es below =
-      parts ∙ ap (λ gs. strips_at es gs ++ strips_at es below) split ∙ ap (λ ss. ss ++ strips_at es below) (map-append (strip_at es) (take n above) (h ∷ []))
-      ∙ append_assoc front (s ∷ []) (strips_at es below) in
-      let same : (v : ℤ) → IsFrom (strips_at es below) v → v <ℤ r.top → row_in [] (strips_at es hs) v ≡ r.edges.now =
-      λ v from_v lt. ap (λ ss. row_in [] ss v) whole
-      ∙ row_in-last greatest_coordinate reach [] front s (strips_at es below) v (subst (AreStripsFrom greatest_coordinate reach) whole strips.strips) (omega (arith, ints)) from_v ∙ sym row in
-      found same (sym (same y from (omega (arith, ints)))) (λ _. omega (arith, ints))
-
--- no rows
-pub no_rows : (ss : List EdgeStrip) (r : EqualRows) → least_coordinate ≤ℤ r.bottom → r.top ≤ℤ r.bottom → r.edges.now ≡ [] → AreEqualRows ss r
-no_rows ss r low none blank = record {
-  low = low;
-  edges = subst AreEdges (sym blank) no_edges;
-  weights = λ x y from below. absurd (omega (arith, ints));
-}
+  pub found_bottom : IsColumnOrRow y → IsBottomBelow bottom y
+  found_bottom in_field = record { low = lowest.low; order = lowest.among y in_field.least from }

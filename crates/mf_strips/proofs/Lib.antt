@@ -4,7 +4,6 @@ pub mod PartsLemmas
 pub mod PileReads
 pub mod PileTotals
 pub mod RestsLemmas
-pub mod SpansLemmas
 pub mod StripTotals
 pub mod StripsLemmas
 pub mod PilesLemmas

@@ -1,28 +1,19 @@
 -- The weights of a pile, part by part.
-use Rattle.std.proofs.Common.{◌≡◌, ℕ, zero, suc, ◌<◌, ◌≤◌, ◌+◌, ◌*◌, ℤ, pos, neg_ℤ, ◌+ℤ◌, ◌≤ℤ◌, List, [], ◌∷◌, ◌++◌, add-one, map, take, set, get_or, length, FitsSigned, to_z, of_z, w32}
-use Rattle.std.proofs.Common.{refl, sym, ap, ◌∙◌, arith}
+use Rattle.std.proofs.Common.{◌≡◌, ℕ, zero, suc, ◌<◌, ◌≤◌, ◌+◌, ◌*◌, ℤ, pos, neg_ℤ, ◌+ℤ◌, ◌≤ℤ◌, List, [], ◌∷◌, add-one, take, get_or, length, FitsSigned, to_z, of_z, w32, refl, ap, arith}
 use Rattle.std.specs.Arc.{arc_value}
 use Rattle.std.specs.declared.alloc.Global.{Global}
 use Rattle.std.specs.declared.sync.Arc.{Arc}
 use Rattle.std.proofs.lemmas.Int.{ints}
-use Rattle.std.proofs.lemmas.List.{map_push, take_all}
-use Rattle.std.proofs.Math.Seq.{take-suc, take-suc-set}
-use Rattle.mf_strips.specs.declared.cursor.Cursor.{Cursor}
+use Rattle.std.proofs.lemmas.List.{take_more}
+use Rattle.std.proofs.lemmas.List.Elements.{All-head, All-tail, All-push, All-weaker}
+use Rattle.mf_edges.specs.Edges.{weight_in}
 use Rattle.mf_strips.specs.declared.part.Part.{Part}
-use Rattle.mf_strips.specs.Cursors.{strips_of_all, weight_in_all, weight_at_all}
+use Rattle.mf_strips.specs.EqualRows.{AreEqualRows, AreEqualRowsOfAll, rows_of_all}
 use Rattle.mf_strips.specs.Piles.{most_parts}
-use Rattle.mf_strips.specs.Parts.{strips_in, strips_of, weight_in_part, weight_in_parts}
-use Rattle.mf_strips.specs.Strips.{EdgeStrip}
+use Rattle.mf_strips.specs.Parts.{strips_in, weight_in_part, weight_in_parts}
+use Rattle.mf_strips.specs.Rests.{weight_in_all}
+use Rattle.mf_strips.specs.Strips.{weight_in_strips}
 use Rattle.mf_strips.proofs.PartsLemmas.{part_weight_lawful}
-
--- the strips of each part
-abbrev pub strips_of_parts : List (Arc Part Global) → List (List EdgeStrip)
-strips_of_parts ps = map (λ p. strips_in (arc_value p)) ps
-
-pub weights_of_parts : (ps : List (Arc Part Global)) → weight_in_all (strips_of_parts ps) ≡ weight_in_parts ps
-unfolding weight_in_all weight_in_parts
-weights_of_parts [] = refl
-weights_of_parts (p ∷ ps) = λ i x y. weight_in_part (arc_value p) x y +ℤ weights_of_parts ps i x y
 
 -- ---- the weight of a pixel
 
@@ -62,18 +53,30 @@ weight_next ps i x y w own d lt few so_far is =
       so_far = record { value = rw add-one (omega (arith, ints, so_far.value)); least = omega (arith, ints); greatest = omega (arith, ints) };
     }
 
--- ---- a cursor in each part
+-- ---- rows
 
-pub over_more : (ps : List (Arc Part Global)) (cs : List Cursor) (i : ℕ) (c : Cursor) (d : Arc Part Global) → i < length ps → i < length cs
-    → strips_of_all (take i cs) ≡ strips_of_parts (take i ps) → strips_of c.strips ≡ strips_in (arc_value (get_or ps i d))
-    → strips_of_all (take (i + 1) (set cs i c)) ≡ strips_of_parts (take (i + 1) ps)
-over_more ps cs i c d lt room so_far is =
-    rw add-one
-    (ap strips_of_all (take-suc-set cs i c room) ∙ map_push (λ c. strips_of c.strips) (take i cs) c ∙ (λ t. so_far t ++ is t ∷ [])
-    ∙ sym (ap strips_of_parts (take-suc ps i d lt) ∙ map_push (λ p. strips_in (arc_value p)) (take i ps) (get_or ps i d)))
+-- the weights of rows of edges of all parts are those of the parts together
+pub weight_of_rows : (ps : List (Arc Part Global)) (x y : ℤ) → weight_in_all (rows_of_all ps y) x ≡ weight_in_parts ps x y
+unfolding weight_in_all weight_in_parts weight_in_strips
+weight_of_rows [] x y = refl
+weight_of_rows (p ∷ ps) x y = ap (λ w. weight_in_part (arc_value p) x y +ℤ w) (weight_of_rows ps x y)
 
-pub over_all : (ps : List (Arc Part Global)) (cs : List Cursor) (i : ℕ) → i ≤ length ps → length ps ≤ i
-    → strips_of_all (take i cs) ≡ strips_of_parts (take i ps) → weight_at_all (take (length ps) cs) ≡ weight_in_parts ps
-over_all ps cs i within end strips =
-    let all : i ≡ length ps = omega arith in
-    ap (λ n. weight_at_all (take n cs)) (sym all) ∙ ap weight_in_all strips ∙ ap (λ ps. weight_in_all (strips_of_parts ps)) (take_all i ps end) ∙ weights_of_parts ps
+module _ (bottom y : ℤ) where
+  abbrev EqualRows : Arc Part Global → Type 0
+  EqualRows p = AreEqualRows bottom y (strips_in (arc_value p))
+
+  pub equal_weights : (ps : List (Arc Part Global)) → AreEqualRowsOfAll ps bottom y → (x v : ℤ) → bottom ≤ℤ v → v ≤ℤ y → weight_in_parts ps x v ≡ weight_in_parts ps x y
+  unfolding weight_in_parts weight_in_strips
+  equal_weights [] rows x v low high = refl
+  equal_weights (p ∷ ps) rows x v low high =
+      (λ t. weight_in ((All-head EqualRows p ps rows).same v low high t) x +ℤ equal_weights ps (All-tail EqualRows p ps rows) x v low high t)
+
+  -- one part more, whose rows are equal down to row `own`
+  pub rows_more : (ps : List (Arc Part Global)) (i : ℕ) (p : Arc Part Global) (next own : ℤ) → i < length ps → AreEqualRowsOfAll (take i ps) bottom y
+      → AreEqualRows own y (strips_in (arc_value (get_or ps i p))) → bottom ≤ℤ next → own ≤ℤ next → AreEqualRowsOfAll (take (i + 1) ps) next y
+  rows_more ps i p next own lt so_far rows first second =
+      rw (take_more ps i p lt)
+      (All-push (λ q. AreEqualRows next y (strips_in (arc_value q))) (take i ps) (get_or ps i p)
+      (All-weaker EqualRows (λ q. AreEqualRows next y (strips_in (arc_value q)))
+      (λ q equal. record { same = λ v low high. equal.same v (omega (arith, ints)) high }) (take i ps) so_far)
+      (record { same = λ v low high. rows.same v (omega (arith, ints)) high }))

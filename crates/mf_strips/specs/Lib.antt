@@ -1,5 +1,4 @@
 pub mod Corners
-pub mod Cursors
 pub mod EqualRows
 pub mod Heads
 pub mod Names
@@ -8,7 +7,7 @@ pub mod Parts
 pub mod Piles
 pub mod PileWeights
 pub mod Rests
-pub mod Spans
+pub mod RowEdges
 pub mod Sums
 pub mod Turns
 pub use Rattle.mf_geom.specs.Coordinates

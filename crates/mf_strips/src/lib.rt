@@ -2,7 +2,6 @@
 #![tactic(auto)]
 
 mod corner;
-mod cursor;
 mod equal_rows;
 mod fault;
 mod mapping;
@@ -11,8 +10,9 @@ mod negation;
 mod part;
 mod pile;
 mod pile_reading;
+mod rest;
+mod row_edges;
 mod side;
-mod spans;
 mod strips;
 mod sum;
 mod total;
@@ -20,14 +20,13 @@ mod turn;
 mod writer;
 
 pub use corner::{Corner, part_of_corners};
-pub use cursor::Span;
 pub use fault::AddFault;
 pub use mapping::mapped;
 pub use moves::{mirrored_columns, mirrored_rows, stretched};
 pub use negation::negated;
 pub use part::Part;
 pub use pile::{MAX_PARTS, Pile};
-pub use spans::Spans;
+pub use row_edges::RowEdges;
 pub use strips::{Strip, Strips};
 pub use sum::sum_of_parts;
 pub use turn::turned;

@@ -15,7 +15,7 @@ pub const MAX_PARTS: usize = 32;
 #[derive(Debug, Drop)]
 pub struct Pile {
     /// The oldest and largest one first.
-    parts: Vec<Arc<Part>>,
+    pub(crate) parts: Vec<Arc<Part>>,
     /// No weight exceeds it in absolute value, nor does one of some of the parts alone.
     reach: i32,
     ghost lawful: { ArePiled parts.items reach } by { ArePiled-prop parts.items reach },

@@ -1,53 +1,28 @@
 //! Finding rows by binary search.
-ghost use Rattle.std.specs.Prelude.{◌≡◌, [], List};
+ghost use Rattle.std.specs.Prelude.{◌≡◌, []};
 ghost use Rattle.mf_geom.specs.Field.{IsColumnOrRow};
-ghost use Rattle.mf_strips.specs.EqualRows.{AreLawfulStrips, AreEqualRows, IsAmong};
+ghost use Rattle.mf_strips.specs.EqualRows.{AreLawfulStrips, AreEqualRows, IsBottomBelow};
 ghost use Rattle.mf_strips.specs.Parts.{strips_in, strips_of, weight_in_part};
-ghost use Rattle.mf_strips.specs.Strips.{row_in, EdgeStrip};
+ghost use Rattle.mf_strips.specs.Strips.{row_in};
 
 use super::EqualRows;
 use crate::part::Part;
-use crate::strips::{Strips, strip_of_head};
-use mf_edges::{Edge, FIELD_END, FIELD_START, weight_at_column};
+use crate::strips::Strips;
+use mf_edges::{Edge, FIELD_START, weight_at_column};
 
 impl<'a> EqualRows<'a> {
-    /// No rows.
-    pub(crate) fn none() -> EqualRows<'a>
-        ensures rows { (ss : List EdgeStrip) → AreEqualRows ss result }
-        ensures edges { result.edges.now ≡ [] }
-    {
-        EqualRows {
-            bottom: FIELD_START,
-            top: FIELD_START,
-            edges: &[],
-        }
-    }
-
-    /// The equal rows of strips of which row y is one, if it is a row of the field, and with its edges in any case.
+    /// Row y of strips, and the rows below it that are equal to it up to the next strip.
     pub(crate) fn find(strips: Strips<'a>, y: i32) -> EqualRows<'a>
         requires { AreLawfulStrips (strips_of strips) }
         ensures row { result.edges.now ≡ row_in [] (strips_of strips.entry) y }
-        ensures rows { AreEqualRows (strips_of strips.entry) result }
-        ensures inside { IsColumnOrRow y → IsAmong y result }
+        ensures rows { AreEqualRows result.bottom y (strips_of strips.entry) }
+        ensures bottom { IsColumnOrRow y → IsBottomBelow result.bottom y }
     {
         let above = strips.heads.partition_point(|head| y < i32::from(head.top));
-        let (above, below) = strips.heads.split_at(above);
-        let below = Strips {
-            heads: below,
-            edges: strips.edges,
-        };
-        let bottom = below.top().unwrap_or(FIELD_START);
-        match above.last() {
-            Some(head) => EqualRows {
-                bottom,
-                top: i32::from(head.top),
-                edges: strip_of_head(strips.edges, head).edges,
-            },
-            None => EqualRows {
-                bottom,
-                top: FIELD_END,
-                edges: &[],
-            },
+        let (above, below) = strips.split_at(above);
+        EqualRows {
+            bottom: below.top().unwrap_or(FIELD_START),
+            edges: above.last_row(),
         }
     }
 }

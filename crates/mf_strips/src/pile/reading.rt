@@ -2,11 +2,9 @@
 ghost use Rattle.std.specs.Prelude.{◌≡◌, ◌↔◌, [], IsTrue};
 ghost use Rattle.mf_geom.specs.Field.{sum_over_field};
 ghost use Rattle.mf_strips.specs.PileWeights.{weight_in_pile};
-ghost use Rattle.mf_strips.specs.Spans.{weights_of};
 
 use super::Pile;
 use crate::pile_reading::{total_of_pile, weight_in_pile};
-use crate::spans::Spans;
 
 impl Pile {
     /// Whether it has no parts. Weights of parts may cancel, so a pile with parts may be blank, too.
@@ -28,12 +26,5 @@ impl Pile {
         ensures { result ≡ sum_over_field (weight_in_pile self.now) }
     {
         total_of_pile(&self.parts)
-    }
-
-    /// The weights, which are read row by row.
-    pub fn spans(&self) -> Spans<'_>
-        ensures { weights_of result ≡ weight_in_pile self.now }
-    {
-        Spans::over(&self.parts)
     }
 }

@@ -1,8 +1,8 @@
 //! The strips of a list one after another, and the row at a height.
-ghost use Rattle.std.specs.Prelude.{◌≡◌, [], ◌∷◌, IfNone, IfSome, Option, Some, None, drop, length, take};
+ghost use Rattle.std.specs.Prelude.{◌≡◌, ◌≤◌, [], ◌∷◌, IfNone, IfSome, drop, length, take};
 ghost use Rattle.mf_strips.specs.Heads.{IsHead, strip_at};
 ghost use Rattle.mf_strips.specs.Parts.{edge_strip, first_top, strips_of};
-ghost use Rattle.mf_strips.specs.Strips.{row_in};
+ghost use Rattle.mf_strips.specs.Strips.{last_row};
 
 use super::{Head, Strip, Strips};
 use mf_edges::Edge;
@@ -40,6 +40,35 @@ impl<'a> Strips<'a> {
             edges: self.edges,
         };
         Some((strip, others))
+    }
+
+    /// The first strips, as many as are asked for, and those below them.
+    pub(crate) fn split_at(self, count: usize) -> (Strips<'a>, Strips<'a>)
+        requires { count ≤ length self.heads.now }
+        ensures above { strips_of result.0 ≡ take count (strips_of self.entry) }
+        ensures below { strips_of result.1 ≡ drop count (strips_of self.entry) }
+    {
+        let (above, below) = self.heads.split_at(count);
+        let edges = self.edges;
+        let above = Strips {
+            heads: above,
+            edges,
+        };
+        let below = Strips {
+            heads: below,
+            edges,
+        };
+        (above, below)
+    }
+
+    /// The edges of the last strip, none where there is no strip.
+    pub(crate) fn last_row(self) -> &'a [Edge]
+        ensures { result.now ≡ last_row (strips_of self.entry) }
+    {
+        match self.heads.last() {
+            Some(head) => strip_of_head(self.edges, head).edges,
+            None => &[],
+        }
     }
 }
 

@@ -1,9 +1,11 @@
-use Rattle.mf_rows.proofs.PassedRuns.{ordered_runs_of}
-use Rattle.mf_rows.proofs.RunsLemmas.{dots_of-runs_of}
+use Rattle.std.proofs.Common.{sym, ap}
+use Rattle.mf_rows.specs.Bounds.{among, among_dots, is_among}
+use Rattle.mf_rows.proofs.LeastBoxes.{same_bounds}
+use Rattle.mf_rows.proofs.PicturePiles.{pile_weight}
 use Rattle.mf_rows.proofs.picture.Picture.bounds_of.Goals as goal
 
-pub bounds_of_runs-requires : goal.bounds_of_runs-requires
-bounds_of_runs-requires c = rw c.runs.ensures.runs (ordered_runs_of _ c.runs.ensures.lawful)
-
 pub returns-clause-bounds : goal.returns-clause-bounds
-returns-clause-bounds c = rw (c.runs.ensures.runs, dots_of-runs_of) at c.bounds_of_runs.ensures
+unfolding among among_dots
+returns-clause-bounds c =
+    rw (← c.self.view_is)
+    (same_bounds _ _ c.bounds.result (λ x y. ap (is_among c.args.pixels) (sym (pile_weight c.self.inside.pile x y))) (rw c.of-walk.ensures.weights at c.bounds.ensures))

@@ -1,0 +1,111 @@
+//! Entering rows, and passing their edges.
+ghost use Rattle.std.specs.Prelude.{◌≡◌, ℤ, length};
+ghost use Rattle.mf_geom.specs.Field.{IsColumnOrRow};
+ghost use Rattle.mf_edges.specs.LawfulWeights.{IsLawfulWeight};
+ghost use Rattle.mf_edges.specs.Merging.{IsDifference};
+ghost use Rattle.mf_strips.specs.PileWeights.{weight_in_pile};
+ghost use Rattle.mf_strips.specs.Rests.{HasPassedColumn, IsFirstColumn, IsNextEdge, weight_in_all};
+ghost use Rattle.mf_strips.specs.RowEdges.{AreSameRows, rests_of, weight_left, weights_of};
+
+use super::RowEdges;
+use crate::equal_rows::EqualRows;
+use crate::pile::{MAX_PARTS, Pile};
+use crate::rest::Rest;
+use mf_edges::{Edge, FIELD_END, FIELD_START};
+
+impl<'a> RowEdges<'a> {
+    /// No edges of a pile.
+    pub fn of(pile: &'a Pile) -> RowEdges<'a>
+        ensures { weights_of result ≡ weight_in_pile pile.now }
+    {
+        RowEdges {
+            pile,
+            rests: [Rest::of(&[]); MAX_PARTS],
+        }
+    }
+
+    /// Goes to the left end of row y. Answers the lowest one of the rows down from it that are known to be equal to it.
+    pub fn enter(&mut self, y: i32) -> i32
+        requires { IsColumnOrRow y }
+        ensures row { (x : ℤ) → weight_left self.new x ≡ weights_of self.old x y }
+        ensures lawful { (x : ℤ) → IsLawfulWeight (weights_of self.old x y) }
+        ensures rows { AreSameRows (weights_of self.old) result y }
+        ensures same { weights_of self.new ≡ weights_of self.old }
+    {
+        let mut rests = [Rest::of(&[]); MAX_PARTS];
+        let mut bottom = FIELD_START;
+        let parts = &self.pile.parts[..];
+        for i in 0..parts.len() {
+            let rows = EqualRows::find(parts[i].strips(), y);
+            rests[i] = Rest::of(rows.edges);
+            bottom = bottom.max(rows.bottom);
+        }
+        self.rests = rests;
+        bottom
+    }
+
+    /// Passes the next edge. Answers one of weight 0 at the end of the field where there is none. Requires that the weights that are left
+    /// are differences of sums of lawful weights.
+    #[inline(always)]
+    pub fn pass(&mut self) -> Edge
+        requires { (x : ℤ) → IsDifference (weight_left self.old x) }
+        ensures passed { IsNextEdge (weight_left self.old) (weight_left self.new) result }
+        ensures same { weights_of self.new ≡ weights_of self.old }
+    {
+        pass_edge(&mut self.rests[..self.pile.parts.len()])
+    }
+}
+
+/// Passes the next edge. Mostly there is one part, and it takes few steps.
+#[inline(always)]
+fn pass_edge(rests: &mut [Rest<'_>]) -> Edge
+    requires { (x : ℤ) → IsDifference (weight_in_all (rests_of rests.old) x) }
+    ensures passed { IsNextEdge (weight_in_all (rests_of rests.old)) (weight_in_all (rests_of rests.new)) result }
+    ensures each { length rests.new ≡ length rests.old }
+{
+    if rests.len() == 1 {
+        return rests[0].pass();
+    }
+    pass_together(rests)
+}
+
+/// Passes the first column in which the edges of all parts have a sum that is not 0.
+fn pass_together(rests: &mut [Rest<'_>]) -> Edge
+    requires { (x : ℤ) → IsDifference (weight_in_all (rests_of rests.old) x) }
+    ensures passed { IsNextEdge (weight_in_all (rests_of rests.old)) (weight_in_all (rests_of rests.new)) result }
+    ensures each { length rests.new ≡ length rests.old }
+{
+    let mut x = first_column(rests);
+    let mut weight = pass_column(rests, x);
+    while weight == 0 && x < FIELD_END {
+        x = first_column(rests);
+        weight = pass_column(rests, x);
+    }
+    Edge { x, weight }
+}
+
+/// The column of the first edge, the end of the field where there is none.
+fn first_column(rests: &[Rest<'_>]) -> i32
+    ensures { IsFirstColumn (rests_of rests.now) result }
+{
+    let mut first = FIELD_END;
+    for rest in rests {
+        first = first.min(rest.column());
+    }
+    first
+}
+
+/// Passes the edges at column x, to the left of which there are none. Answers the sum of their weights. Sums of some of them may wrap,
+/// but that of all does not.
+fn pass_column(rests: &mut [Rest<'_>], x: i32) -> i32
+    requires first { IsFirstColumn (rests_of rests.old) x }
+    requires difference { IsDifference (weight_in_all (rests_of rests.old) x) }
+    ensures passed { HasPassedColumn x result (rests_of rests.old) (rests_of rests.new) }
+    ensures each { length rests.new ≡ length rests.old }
+{
+    let mut weight = 0i32;
+    for i in 0..rests.len() {
+        weight = weight.wrapping_add(rests[i].pass_column(x));
+    }
+    weight
+}
