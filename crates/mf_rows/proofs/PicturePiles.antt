@@ -18,13 +18,11 @@ use Rattle.mf_edges.proofs.ReachesLemmas.{wider_reach}
 use Rattle.mf_strips.specs.declared.part.Part.{Part}
 use Rattle.mf_strips.specs.declared.pile.Pile.{Pile}
 use Rattle.mf_strips.specs.Changes.{negated_weight_in}
-use Rattle.mf_strips.specs.Corners.{HaveFieldStripWeights}
 use Rattle.mf_strips.specs.Moves.{StripsStayInside}
 use Rattle.mf_strips.specs.Parts.{strips_in, weight_in_part, weight_in_parts}
 use Rattle.mf_strips.specs.PileWeights.{weight_in_pile, weight_with_part, HasPileWeights}
 use Rattle.mf_strips.specs.Strips.{EdgeStrip, row_in, weight_in_strips, AreStripsFrom, HaveStripWeights, IsUnlawfulSomewhere}
 use Rattle.mf_strips.specs.Sums.{IsFrom}
-use Rattle.mf_strips.proofs.PilesLemmas.{parts_in_reach}
 use Rattle.mf_strips.proofs.StripsLemmas.{row_in-from, row_in-below, row_lawful, no_edges, no_weight}
 use Rattle.mf_rows.specs.Dots.{Dot, IsPicture, weight_at}
 use Rattle.mf_rows.specs.Moves.{PixelsStayInside}
@@ -73,7 +71,7 @@ by_field x y inside outside = grind (arith, ints, by_lt_z)
 -- ---- the picture of a pile
 
 pile_lawful : (p : Pile) (x y : ℤ) → IsLawfulWeight (weight_in_pile p x y)
-pile_lawful p x y = wider_reach (omega (arith, ints, p.lawful.reached, p.lawful.most)) (parts_in_reach p.parts.items x y)
+pile_lawful p x y = wider_reach p.lawful.most (p.lawful.within x y)
 
 pub lawful_pile : (p : Pile) → IsPicture (picture_of (weight_in_pile p))
 lawful_pile p = lawful_picture_of (weight_in_pile p) (λ x y _. pile_lawful p x y)
@@ -90,9 +88,6 @@ same_picture f g same = ap picture_of (λ i x y. same x y i)
 -- piles with the same weights are the same picture
 pub same_pile_picture : (p q : Pile) → HasPileWeights (weight_in_pile p) q → picture_of (weight_in_pile q) ≡ picture_of (weight_in_pile p)
 same_pile_picture p q same = same_picture (weight_in_pile q) (weight_in_pile p) same.weights
-
-pub pile_of_part : (f : ℤ → ℤ → ℤ) (p : Pile) → HasPileWeights f p → picture_of (weight_in_pile p) ≡ picture_of f
-pile_of_part f p has = same_picture (weight_in_pile p) f has.weights
 
 pub blank_pile : (p : Pile) → p.parts.items ≡ [] → picture_of (weight_in_pile p) ≡ []
 unfolding weight_in_parts weight_at
@@ -124,14 +119,6 @@ other_rows p x y none = pile_weight p x y ∙ no_edges_of_parts p.parts.items x 
 pub ruleset weights_of_edges = (lawful_pile, pile_weight, edges_of_part, other_rows)
 
 -- ---- what becomes of a picture
-
--- a picture whose part has these weights in the field
-pub made_of : (f : ℤ → ℤ → ℤ) (ss : List EdgeStrip) (ds : List Dot) → ds ≡ picture_of (weight_in_strips ss) → HaveFieldStripWeights f ss → HasWeights f ds
-made_of f ss ds is weights = rw is (record { weights = λ x y inside. weight_at-picture_of (weight_in_strips ss) x y inside ∙ weights.weights x y inside })
-
--- the weights of the picture at each pair of numbers, as a function
-pub weights_are : (p : Pile) → weight_at (picture_of (weight_in_pile p)) ≡ weight_in_pile p
-weights_are p = λ i x y. pile_weight p x y i
 
 part_is : (p : Pile) (ss : List EdgeStrip) → HaveStripWeights (weight_in_pile p) ss → weight_in_strips ss ≡ weight_at (picture_of (weight_in_pile p))
 part_is p ss whole = λ i x y. (whole.weights x y ∙ sym (pile_weight p x y)) i

@@ -15,7 +15,7 @@ use Rattle.mf_strips.specs.Parts.{weight_in_part, weight_in_parts}
 use Rattle.mf_strips.specs.Piles.{most_parts}
 use Rattle.mf_strips.proofs.PartsLemmas.{part_weight_lawful}
 use Rattle.mf_strips.proofs.PileReads.{weight_in_parts-suc}
-use Rattle.mf_strips.proofs.StripTotals.{sum_bound, greatest_row_total}
+use Rattle.mf_strips.proofs.StripTotals.{sum_bound, greatest_row_total, greatest_total}
 
 -- ---- sums over the field
 
@@ -25,10 +25,6 @@ sum_over_field-add f g =
     let at : (ℤ → ℤ → ℤ) → ℕ → ℕ → ℤ = λ h j i. h (least_coordinate +ℤ pos i) (least_coordinate +ℤ pos j) in
     (λ t. sum_below field_size (λ j. sum_below-add field_size (at f j) (at g j) t))
     ∙ sum_below-add field_size (λ j. sum_below field_size (at f j)) (λ j. sum_below field_size (at g j))
-
--- the greatest total weight of lawful weights
-abbrev greatest_total : ℕ
-greatest_total = greatest_row_total * field_size
 
 field_bound : (f : ℤ → ℤ → ℤ) → ((x y : ℤ) → IsLawfulWeight (f x y)) → unsigned_abs (sum_over_field f) ≤ greatest_total
 unfolding sum_over_field

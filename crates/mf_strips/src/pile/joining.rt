@@ -151,13 +151,13 @@ impl Pile {
         ensures fewer { OnOk result (length self.new.parts.items + 1 ≡ length self.old.parts.items) }
         ensures reach { self.new.reach ≡ self.old.reach }
     {
-        let count = self.parts.len();
-        let Ok(sum) = sum_of_parts(alloc, &self.parts[count - 2], &self.parts[count - 1]) else {
+        let before = self.parts.len() - 2;
+        let Ok(sum) = sum_of_parts(alloc, &self.parts[before], &self.parts[before + 1]) else {
             return Err(OutOfMemory);
         };
         let sum = Arc::new(alloc, sum)?;
         self.parts.pop();
-        self.parts[count - 2] = sum;
+        self.parts[before] = sum;
         Ok(())
     }
 }

@@ -2,21 +2,18 @@ use Rattle.std.proofs.Common.{ap, ◌∙◌, arith}
 use Rattle.std.specs.Arc.{arc_value}
 use Rattle.std.proofs.lemmas.Int.{ints}
 use Rattle.mf_strips.specs.declared.part.Part.{Part}
-use Rattle.mf_strips.proofs.PilesLemmas.{pushed_weights, pushed_piled, sum_is_small, pile_reach_least}
+use Rattle.mf_strips.proofs.PilesLemmas.{pushed_weights, pushed_piled, sum_is_small, piled_least}
 use Rattle.mf_strips.proofs.pile.Pile.add.Goals as goal
 
 pub invariant_of-self-2 : goal.invariant_of-self-2
 invariant_of-self-2 c =
     let piled = c.args.self.now.lawful in
     let part = (arc_value c.args.part).lawful in
-    let is = sum_is_small c.args.self.now.reach (arc_value c.args.part).reach c.reach.result (pile_reach_least _ _ piled) piled.most part.least part.most
+    let is = sum_is_small c.args.self.now.reach (arc_value c.args.part).reach c.reach.result (piled_least piled) piled.most part.least part.most
     (c.reach.ensures ∙ ap (λ (p : Part). p.reach) c.deref.ensures) in
     let small = rw is at c.if-reach-gt-MAX_WEIGHT.false in
     rw (c.in_ok-push.ensures.items, is)
-    (record {
-      lawful = pushed_piled _ c.args.part _ _ c.make_room.new.self.lawful c.in_ok-make_room.ensures.room
-          (omega (arith, ints, c.in_ok-make_room.ensures.reach)) (omega (arith, ints, small));
-    })
+    (record { lawful = pushed_piled _ c.args.part _ (rw c.in_ok-make_room.ensures.reach at c.make_room.new.self.lawful) c.in_ok-make_room.ensures.room (omega (arith, ints, small)) })
 
 pub returns-clause-weights : goal.returns-clause-weights
 returns-clause-weights c =

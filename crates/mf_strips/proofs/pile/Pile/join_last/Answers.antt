@@ -1,15 +1,19 @@
-use Rattle.std.proofs.Common.{arith}
-use Rattle.mf_strips.proofs.PilesLemmas.{are_joined, weights_joined, pile_joined}
+use Rattle.std.proofs.Common.{◌≡◌, ◌-◌, set, ℤ, arith}
+use Rattle.std.proofs.lemmas.List.{length-set}
+use Rattle.mf_strips.specs.Parts.{weight_in_parts}
+use Rattle.mf_strips.proofs.PilesLemmas.{weights_joined, same_piled}
 use Rattle.mf_strips.proofs.pile.Pile.join_last.Goals as goal
+use Rattle.mf_strips.proofs.pile.Pile.join_last.Goals.{After-pop}
+
+joined : (c : After-pop) → (x y : ℤ)
+    → weight_in_parts (set c.pop.new.self.items (c.len-before.result - 2) c.in_ok-sum.sum) x y ≡ weight_in_parts c.args.self.now.parts.items x y
+joined c x y =
+    rw c.pop.ensures.rest
+    (weights_joined _ _ _ _ _ c.in_ok-sum.sum c.in-Ok.sum (omega arith) (omega arith) c.index.ensures c.index-2.ensures c.in_ok-sum.ensures.ok
+    (rw (c.deref.ensures, c.deref-2.ensures) at c.in-Ok.ensures.weights) x y)
 
 pub invariant_of-self : goal.invariant_of-self
-invariant_of-self c =
-    let joined = are_joined _ c.len-count.result (omega arith) c.requires _ _ c.in_ok-sum.sum c.in-Ok.sum c.index.ensures c.index-2.ensures c.in_ok-sum.ensures.ok
-    (rw (c.deref.ensures, c.deref-2.ensures) at c.in-Ok.ensures.weights) (rw (c.deref.ensures, c.deref-2.ensures) at c.in-Ok.ensures.reach) in
-    record { lawful = rw c.pop.ensures.rest (pile_joined _ _ _ _ _ _ (omega arith) c.requires (omega arith) joined _ c.args.self.now.lawful) }
+invariant_of-self c = record { lawful = same_piled (omega (arith, length-set c.pop.new.self.items)) (joined (goal.at.invariant_of-self c).After-pop) c.args.self.now.lawful }
 
 pub returns-clause-weights : goal.returns-clause-weights
-returns-clause-weights c =
-    let joined = are_joined _ c.len-count.result (omega arith) c.requires _ _ c.in_ok-sum.sum c.in-Ok.sum c.index.ensures c.index-2.ensures c.in_ok-sum.ensures.ok
-    (rw (c.deref.ensures, c.deref-2.ensures) at c.in-Ok.ensures.weights) (rw (c.deref.ensures, c.deref-2.ensures) at c.in-Ok.ensures.reach) in
-    record { weights = λ x y. rw c.pop.ensures.rest (weights_joined _ _ _ _ _ _ (omega arith) c.requires (omega arith) joined x y) }
+returns-clause-weights c = record { weights = joined (goal.at.returns-clause-weights c).After-pop }
