@@ -3,9 +3,7 @@ use Rattle.std.proofs.Common.{◌≡◌, ◌≢◌, ℕ, suc, ℤ, pos, ◌+ℤ�
 use Rattle.std.proofs.lemmas.Int.{ints, by_lt_z}
 use Rattle.mf_geom.specs.Coordinates.{least_coordinate, greatest_coordinate, last_in_field}
 use Rattle.mf_geom.specs.Field.{IsInField}
-use Rattle.mf_rows.specs.declared.run.Run.{Run}
 use Rattle.mf_rows.specs.Dots.{place, start_of_field}
-use Rattle.mf_rows.specs.Order.{IsRun}
 
 -- two numbers are equal or not
 pub by_same : {P : Type 0} (c y : ℤ) → (c ≡ y → P) → (c ≢ y → P) → P
@@ -31,15 +29,6 @@ row_from_place x y u v here there same = omega (arith, ints)
 pub column_from_place : (x y u v : ℤ) → IsInField x y → IsInField u v → place x y ≡ place u v → x ≡ u
 unfolding place
 column_from_place x y u v here there same = omega (arith, ints, row_from_place x y u v here there same)
-
--- where a run ends before the place of another, that is in a row below, or further to the right in the same row
-pub row_from_end : (r s : Run) → IsRun r → IsRun s → place (r.x +ℤ pos r.len) r.y ≤ℤ place s.x s.y → s.y ≤ℤ r.y
-unfolding place
-row_from_end r s run next before = omega (arith, ints, run.left, run.some, next.right, next.some)
-
-pub column_from_end : (r s : Run) → IsRun r → IsRun s → place (r.x +ℤ pos r.len) r.y ≤ℤ place s.x s.y → s.y ≡ r.y → (r.x +ℤ pos r.len) ≤ℤ s.x
-unfolding place
-column_from_end r s run next before same = omega (arith, ints)
 
 -- the field's places begin at the first one
 pub start_of_field-le : (x y : ℤ) → IsInField x y → start_of_field ≤ℤ place x y

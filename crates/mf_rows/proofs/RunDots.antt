@@ -1,16 +1,15 @@
 -- The dots of a run, dots followed by a run, and the dots of runs in reading order.
 use Rattle.std.proofs.Common.{◌≡◌, ◌≢◌, ℕ, zero, suc, ◌&&◌, if◌then◌else◌, ℤ, pos, ◌+ℤ◌, ◌≤ℤ◌, ◌<ℤ◌, List, [], ◌∷◌, ◌++◌}
-use Rattle.std.proofs.Common.{refl, sym, ap, append-nil, ◌∙◌, subst, arith}
+use Rattle.std.proofs.Common.{refl, ap, append-nil, ◌∙◌, subst, arith}
 use Rattle.std.specs.List.{All, flat_map}
 use Rattle.std.specs.Ordering.{int_eq}
 use Rattle.std.proofs.lemmas.Int.{ints, by_lt_z}
 use Rattle.std.proofs.lemmas.List.Elements.{All-nil, All-cons, All-append, All-head, All-tail, All-weaker}
-use Rattle.mf_geom.specs.Coordinates.{last_in_field}
 use Rattle.mf_rows.specs.declared.run.Run.{Run}
 use Rattle.mf_edges.specs.LawfulWeights.{IsLawfulWeight}
 use Rattle.mf_rows.specs.Dots.{Dot, IsPicture, AreDotsFrom, place, start_of_field, weight_at}
 use Rattle.mf_rows.specs.Order.{AreBefore, IsRun, AreRunsFrom, AreRuns, Fits}
-use Rattle.mf_rows.specs.Runs.{equal_dots, dots_of, AreMaximal}
+use Rattle.mf_rows.specs.Runs.{equal_dots, dots_of}
 use Rattle.mf_rows.proofs.DotsLemmas.{weight_at-here, weight_at-elsewhere, weight_at-after, weight_at-before, not_at, dots_from-lower, dots_from-append}
 use Rattle.mf_rows.proofs.PlacesLemmas.{AreFieldColumns, by_same, first_column, next_columns, place-next}
 
@@ -153,8 +152,6 @@ dots_from-runs low (r ∷ rs) runs =
 pub picture-runs : (rs : List Run) → AreRuns rs → IsPicture (flat_map dots_of rs)
 picture-runs rs ordered = record { dots = dots_from-runs start_of_field rs ordered.runs }
 
-pub ruleset lawful_runs = (picture-runs)
-
 -- to the left of the first run of its row a pixel has weight 0
 pub weight_at-left_of : (x y u : ℤ) (rs : List Run) → AreRunsFrom (place x y) rs → u <ℤ x → weight_at (flat_map dots_of rs) u y ≡ pos 0
 unfolding place
@@ -171,9 +168,3 @@ pub weight_at-off_first : (r : Run) (rs : List Run) (x y : ℤ) → (IsOnRun r x
 unfolding dots_of
 weight_at-off_first r rs x y off =
     weight_at-skip r.y r.x r.weight r.len (flat_map dots_of rs) x y (λ row left right. off (record { row = row; left = left; right = right }))
-
--- a run is maximal where the pixel after it, if in the field, has another weight
-pub maximal-cons : (low : ℤ) (r : Run) (rs : List Run) → AreRunsFrom low rs → AreMaximal rs
-    → ((r.x +ℤ pos r.len) ≤ℤ last_in_field → weight_at (flat_map dots_of rs) (r.x +ℤ pos r.len) r.y ≢ r.weight) → AreMaximal (r ∷ rs)
-maximal-cons low r [] runs maximal apart = tt
-maximal-cons low r (s ∷ rs) runs maximal apart = grind (arith, ints, sym, weight_at-on_first)

@@ -1,12 +1,11 @@
 //! Pictures built from runs.
-ghost use Rattle.std.specs.Prelude.{◌≡◌, [], ◌++◌, ◌↔◌, flat_map, IsTrue, IfOk, OnOk, OnErr, List};
-ghost use Rattle.mf_rows.specs.Corners.{AddDots};
-ghost use Rattle.mf_rows.specs.Dots.{Dot, place};
-ghost use Rattle.mf_rows.specs.Order.{AreBefore, AreRuns, IsRun, Fits};
+ghost use Rattle.std.specs.Prelude.{◌≡◌, [], ◌++◌, ◌↔◌, IsTrue, IfOk, OnOk, OnErr};
+ghost use Rattle.mf_rows.specs.Corners.{corners_of};
+ghost use Rattle.mf_rows.specs.Order.{IsRun, Fits};
 ghost use Rattle.mf_rows.specs.Runs.{dots_of};
 
 use crate::picture::Picture;
-use crate::run::Run;
+use crate::run::{Run, START_OF_FIELD};
 use mf_base::OutOfMemory;
 use mf_strips::{Corner, part_of_corners};
 use std::alloc::Global;
@@ -17,7 +16,10 @@ use std::marker::Model;
 #[derive(Debug, Drop)]
 pub struct RowBuilder {
     alloc: Global,
-    runs: Vec<Run>,
+    /// Those of the pushed runs.
+    corners: Vec<Corner>,
+    /// The place after the last pushed run in reading order.
+    end: i32,
 }
 
 impl Model for RowBuilder {
@@ -26,13 +28,11 @@ impl Model for RowBuilder {
 
     ghost Value = { List Dot };
 
-    ghost use Rattle.std.specs.Prelude.{flat_map};
-    ghost use Rattle.mf_rows.specs.Order.{AreRuns};
-    ghost use Rattle.mf_rows.specs.Runs.{dots_of};
+    ghost use Rattle.mf_rows.specs.Corners.{AreBuilt, picture_of_corners};
 
-    ghost view = { λ b. flat_map dots_of b.runs.items };
+    ghost view = { λ b. picture_of_corners b.corners.items };
 
-    ghost invariant = { λ b. AreRuns b.runs.items };
+    ghost invariant = { λ b. AreBuilt b.corners.items b.end };
 }
 
 impl RowBuilder {
@@ -44,18 +44,18 @@ impl RowBuilder {
     {
         RowBuilder {
             alloc,
-            runs: Vec::new(alloc),
+            corners: Vec::new(alloc),
+            end: START_OF_FIELD,
         }
     }
 
     /// Whether the run may be pushed: it has at least one pixel, lies in the field, has a weight in -32767..=32767 that
     /// is not 0, and comes entirely after the last pushed run.
-    #[tactic(auto, using(crate::proofs::RunDots::lawful_runs))]
     pub fn fits(&self, run: &Run) -> bool
         ensures answer { IsTrue result ↔ Fits self.now run.now }
         ensures lawful { IsPicture self.now }
     {
-        run.is_lawful() && end_before(&self.runs, run)
+        run.is_lawful() && self.end <= run.place()
     }
 
     /// Adds a run. Requires that it fits (`fits`). Refused with `OutOfMemory` where an allocation fails; the builder is
@@ -65,7 +65,9 @@ impl RowBuilder {
         ensures ok { OnOk result (self.new ≡ self.old ++ dots_of run) }
         ensures unchanged { OnErr result (self.new ≡ self.old) }
     {
-        Ok(self.runs.push(run)?)
+        self.corners.extend_from_slice(&corners_of(&run))?;
+        self.end = run.place() + run.len as i32;
+        Ok(())
     }
 
     /// The picture of exactly the pushed runs. Refused with `OutOfMemory` where an allocation fails; the builder is
@@ -74,34 +76,18 @@ impl RowBuilder {
         ensures value { IfOk result (λ picture. picture ≡ self) }
         ensures lawful { IfOk result IsPicture }
     {
-        let mut corners = Vec::new(self.alloc);
-        for run in &self.runs {
-            push_corners(&mut corners, run)?;
-        }
-        Picture::of_part(self.alloc, part_of_corners(self.alloc, corners)?)
+        Picture::of_part(self.alloc, part_of_corners(self.alloc, self.corners)?)
     }
 }
 
-/// Whether all pixels of runs come before a run.
-fn end_before(runs: &[Run], run: &Run) -> bool
-    requires runs { AreRuns runs.now }
-    requires run { IsRun run.now }
-    ensures { IsTrue result ↔ AreBefore (place run.now.x run.now.y) (flat_map dots_of runs.now) }
-{
-    match runs.last() {
-        Some(last) => last.ends_before(run),
-        None => true,
-    }
-}
-
-/// Appends the corners of a run. They add its weight to its row and all rows below, and take it away from the rows below again.
-fn push_corners(corners: &mut Vec<Corner>, run: &Run) -> Result<(), OutOfMemory>
+/// The corners of a run. They add its weight to its row and all rows below, and take it away from the rows below again.
+fn corners_of(run: &Run) -> [Corner; 4]
     requires { IsRun run.now }
-    ensures { OnOk result ((ds : List Dot) → Fits ds run.now → AddDots ds corners.old.items → AddDots (ds ++ dots_of run.now) corners.new.items) }
+    ensures { result ≡ corners_of run.now }
 {
     let (start, end) = (run.x, run.x + run.len as i32);
     let (top, bottom) = (run.y + 1, run.y);
-    corners.extend_from_slice(&[
+    [
         Corner {
             x: start,
             y: top,
@@ -122,6 +108,5 @@ fn push_corners(corners: &mut Vec<Corner>, run: &Run) -> Result<(), OutOfMemory>
             y: bottom,
             weight: run.weight,
         },
-    ])?;
-    Ok(())
+    ]
 }

@@ -1,11 +1,17 @@
 //! Runs of pixels.
-ghost use Rattle.std.specs.Prelude.{◌≢◌, ◌↔◌, IsTrue, pos, ◌+ℤ◌, ◌≤ℤ◌};
+ghost use Rattle.std.specs.Prelude.{◌≡◌, ◌≢◌, ◌↔◌, IsTrue, pos, ◌+ℤ◌, ◌≤ℤ◌};
 ghost use Rattle.mf_geom.specs.Coordinates.{least_coordinate, greatest_coordinate, last_in_field};
 ghost use Rattle.mf_edges.specs.LawfulWeights.{IsLawfulWeight};
 ghost use Rattle.mf_rows.specs.Dots.{place};
 ghost use Rattle.mf_rows.specs.Order.{IsRun};
 
 use mf_edges::{FIELD_END, FIELD_START, is_lawful_weight};
+
+/// How many columns the field has.
+const FIELD_SIZE: i32 = FIELD_END - FIELD_START;
+
+/// The place of the first pixel of the field, at the left end of its top row.
+pub(crate) const START_OF_FIELD: i32 = FIELD_START - FIELD_SIZE * (FIELD_END - 1);
 
 /// A run: `len` pixels of row `y`, from column `x` to the right, all of one weight. A run that a picture gives is
 /// maximal: neither neighbour in its row has its weight. In a picture a run lies in the field, so `x` and `y` are in
@@ -26,14 +32,12 @@ impl Run {
         self.len > 0 && self.lies_in_columns() && self.lies_in_rows() && self.has_weight()
     }
 
-    /// Whether the run ends before another one begins: that is in a row below, or further to the right in the same row.
-    #[tactic(auto, using(std::proofs::lemmas::Int::ints), unfolding(crate::specs::Dots::place))]
-    pub(crate) fn ends_before(&self, next: &Run) -> bool
-        requires own { IsRun self.now }
-        requires next { IsRun next.now }
-        ensures { IsTrue result ↔ (place (self.now.x +ℤ pos self.now.len) self.now.y ≤ℤ place next.now.x next.now.y) }
+    /// The place of its first pixel in reading order.
+    pub(crate) fn place(&self) -> i32
+        requires { IsRun self.now }
+        ensures { result ≡ place self.now.x self.now.y }
     {
-        next.y < self.y || (next.y == self.y && self.x + self.len as i32 <= next.x)
+        self.x - FIELD_SIZE * self.y
     }
 
     /// Whether all its columns lie in the field.

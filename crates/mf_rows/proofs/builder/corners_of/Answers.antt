@@ -1,7 +1,7 @@
-use Rattle.std.proofs.Common.{◌≡◌, pos, ◌+ℤ◌, ◌-ℤ◌, neg_ℤ, to_z, of_z, w32, arith}
+use Rattle.std.proofs.Common.{◌≡◌, pos, ◌+ℤ◌, ◌-ℤ◌, neg_ℤ, to_z, of_z, w32, refl, arith}
 use Rattle.std.proofs.lemmas.Int.{ints}
-use Rattle.mf_rows.proofs.RunCorners.{corners_of, run_added}
-use Rattle.mf_rows.proofs.builder.push_corners.Goals as goal
+use Rattle.mf_rows.specs.Corners.{corners_of}
+use Rattle.mf_rows.proofs.builder.corners_of.Goals as goal
 
 pub returns : goal.returns
 unfolding corners_of
@@ -13,4 +13,4 @@ returns c =
     let top : to_z w32 (of_z w32 (r.y +ℤ pos 1)) ≡ r.y +ℤ pos 1 = omega (arith, ints) in
     let weight : to_z w32 (of_z w32 r.weight) ≡ r.weight = omega (arith, ints) in
     let negated : to_z w32 (of_z w32 (pos 0 -ℤ r.weight)) ≡ neg_ℤ r.weight = omega (arith, ints) in
-    λ ds fits so_far. rw (c.in_ok-extend_from_slice.ensures.items, start, bottom, weight, end, top, negated) (run_added ds r _ fits so_far)
+    rw (start, bottom, weight, end, top, negated) refl
