@@ -1,5 +1,5 @@
 -- The pictures of piles.
-use Rattle.std.proofs.Common.{◌≡◌, ◌≢◌, ℤ, pos, neg_ℤ, ◌+ℤ◌, ◌-ℤ◌, ◌≤ℤ◌, ◌<ℤ◌, List, [], ◌∷◌, refl, ap, sym, subst, ◌∙◌, arith}
+use Rattle.std.proofs.Common.{◌≡◌, ℤ, pos, ◌+ℤ◌, ◌-ℤ◌, ◌≤ℤ◌, ◌<ℤ◌, List, [], ◌∷◌, refl, ap, sym, ◌∙◌, arith}
 use Rattle.std.specs.Arc.{arc_value}
 use Rattle.std.specs.List.{All}
 use Rattle.std.specs.declared.alloc.Global.{Global}
@@ -17,16 +17,20 @@ use Rattle.mf_edges.proofs.EdgesLemmas.{weight_in-outside}
 use Rattle.mf_edges.proofs.ReachesLemmas.{wider_reach}
 use Rattle.mf_strips.specs.declared.part.Part.{Part}
 use Rattle.mf_strips.specs.declared.pile.Pile.{Pile}
+use Rattle.mf_strips.specs.Corners.{HaveFieldStripWeights}
+use Rattle.mf_strips.specs.declared.corner.Corner.{Corner}
 use Rattle.mf_strips.specs.Changes.{negated_weight_in}
 use Rattle.mf_strips.specs.Moves.{StripsStayInside}
 use Rattle.mf_strips.specs.Parts.{strips_in, weight_in_part, weight_in_parts}
 use Rattle.mf_strips.specs.PileWeights.{weight_in_pile, weight_with_part, HasPileWeights}
-use Rattle.mf_strips.specs.Strips.{EdgeStrip, row_in, weight_in_strips, AreStripsFrom, HaveStripWeights, IsUnlawfulSomewhere}
+use Rattle.mf_strips.specs.Strips.{EdgeStrip, row_in, weight_in_strips, AreStripsFrom, HaveStripWeights}
 use Rattle.mf_strips.specs.Sums.{IsFrom}
+pub use Rattle.mf_strips.proofs.PilesLemmas.{unlawful_as}
 use Rattle.mf_strips.proofs.StripsLemmas.{row_in-from, row_in-below, row_lawful, no_edges, no_weight}
 use Rattle.mf_rows.specs.Dots.{Dot, IsPicture, weight_at}
+use Rattle.mf_rows.specs.Corners.{added_by_all, with_corners_at}
 use Rattle.mf_rows.specs.Moves.{PixelsStayInside}
-use Rattle.mf_rows.specs.Sums.{HasWeights, difference_at}
+use Rattle.mf_rows.specs.Sums.{HasWeights, difference_at, sum_at}
 use Rattle.mf_rows.specs.Weights.{picture_of}
 use Rattle.mf_rows.proofs.DotsLemmas.{weight_at-outside}
 use Rattle.mf_rows.proofs.StretchBounds.{holds_at_weight}
@@ -120,64 +124,38 @@ pub ruleset weights_of_edges = (lawful_pile, pile_weight, edges_of_part, other_r
 
 -- ---- what becomes of a picture
 
-part_is : (p : Pile) (ss : List EdgeStrip) → HaveStripWeights (weight_in_pile p) ss → weight_in_strips ss ≡ weight_at (picture_of (weight_in_pile p))
-part_is p ss whole = λ i x y. (whole.weights x y ∙ sym (pile_weight p x y)) i
+pub part_is : (p : Pile) (part : Part) → HaveStripWeights (weight_in_pile p) (strips_in part) → weight_in_part part ≡ weight_at (picture_of (weight_in_pile p))
+part_is p part whole = λ i x y. (whole.weights x y ∙ sym (pile_weight p x y)) i
 
--- the image of the joined part is that of the picture
-pub image_made : (image : (ℤ → ℤ → ℤ) → ℤ → ℤ → ℤ) (p : Pile) (ss new : List EdgeStrip) (ds : List Dot) → HaveStripWeights (weight_in_pile p) ss
-    → ds ≡ picture_of (weight_in_strips new) → ((x y : ℤ) → IsInField x y → weight_in_strips new x y ≡ image (weight_in_strips ss) x y)
-    → HasWeights (image (weight_at (picture_of (weight_in_pile p)))) ds
-image_made image p ss new ds whole is made =
-    rw is (record {
-      weights = λ x y inside.
-          weight_at-picture_of (weight_in_strips new) x y inside ∙ made x y inside ∙ ap (λ (f : ℤ → ℤ → ℤ). image f x y) (part_is p ss whole);
-    })
+-- the picture of a pile has the weights of the pile in the field
+pub has_weights : {f g : ℤ → ℤ → ℤ} (p : Pile) → HasPileWeights g p → ((x y : ℤ) → IsInField x y → g x y ≡ f x y) → HasWeights f (picture_of (weight_in_pile p))
+has_weights p has same = record { weights = λ x y inside. pile_weight p x y ∙ has.weights x y ∙ same x y inside }
 
 -- ---- sums
 
--- the pile has the weights of two functions together, which are those of two pictures
-pub sum_made : (old new : Pile) (part : Part) (added : ℤ → ℤ → ℤ) → HasPileWeights (weight_with_part old part) new
-    → ((x y : ℤ) → IsInField x y → weight_in_part part x y ≡ added x y) → (f : ℤ → ℤ → ℤ) → ((x y : ℤ) → f x y ≡ weight_at (picture_of (weight_in_pile old)) x y +ℤ added x y)
-    → HasWeights f (picture_of (weight_in_pile new))
-unfolding weight_with_part
-sum_made old new part added has is f sum = record {
-  weights = λ x y inside. omega (arith, ints, pile_weight new x y, has.weights x y, pile_weight old x y, is x y inside, sum x y);
-}
+-- the weights of a pile and of a part that has those of a picture, or has them negated
+pub sum_is : (p : Pile) (part : Part) (ds : List Dot) → weight_in_part part ≡ weight_at ds → weight_with_part p part ≡ sum_at (picture_of (weight_in_pile p)) ds
+unfolding weight_with_part sum_at
+sum_is p part ds is = λ i x y. sym (pile_weight p x y) i +ℤ is i x y
 
-pub sum_unlawful : (old : Pile) (part : Part) (added : ℤ → ℤ → ℤ) → ((x y : ℤ) → IsInField x y → weight_in_part part x y ≡ added x y)
-    → (f : ℤ → ℤ → ℤ) → ((x y : ℤ) → f x y ≡ weight_at (picture_of (weight_in_pile old)) x y +ℤ added x y)
-    → IsUnlawfulSomewhere (weight_with_part old part) → IsUnlawfulSomewhere f
-unfolding weight_with_part
-sum_unlawful old part added is f sum somewhere =
-    let x = somewhere.x in
-    let y = somewhere.y in
-    let same : f x y ≡ weight_with_part old part x y = omega (arith, ints, pile_weight old x y, is x y somewhere.in_field, sum x y) in
-    record { x = x; y = y; in_field = somewhere.in_field; unlawful = λ lawful. somewhere.unlawful (subst IsLawfulWeight same lawful) }
+pub difference_is : (p : Pile) (whole part : Part) (ds : List Dot) → weight_in_part whole ≡ weight_at ds
+    → HaveStripWeights (negated_weight_in (strips_in whole)) (strips_in part) → weight_with_part p part ≡ difference_at (picture_of (weight_in_pile p)) ds
+unfolding weight_with_part difference_at negated_weight_in
+difference_is p whole part ds is negated =
+    let same : (x y : ℤ) → weight_in_pile p x y +ℤ weight_in_part part x y ≡ weight_at (picture_of (weight_in_pile p)) x y -ℤ weight_at ds x y =
+    λ x y. omega (arith, ints, pile_weight p x y, negated.weights x y, ap (λ (f : ℤ → ℤ → ℤ). f x y) is) in
+    λ i x y. same x y i
 
-pub unlawful_as : {f g : ℤ → ℤ → ℤ} (unlawful : IsUnlawfulSomewhere f) → (IsInField unlawful.x unlawful.y → g unlawful.x unlawful.y ≡ f unlawful.x unlawful.y)
-    → IsUnlawfulSomewhere g
-unlawful_as unlawful same = grind (arith, ints)
+pub corners_are : (p : Pile) (part : Part) (ks : List Corner) → HaveFieldStripWeights (added_by_all ks) (strips_in part)
+    → (x y : ℤ) → IsInField x y → weight_with_part p part x y ≡ with_corners_at (picture_of (weight_in_pile p)) ks x y
+unfolding weight_with_part with_corners_at
+corners_are p part ks made x y inside = omega (arith, ints, pile_weight p x y, made.weights x y inside)
 
 -- ---- stretches
 
-pub strips_inside : (columns rows : Stretch) (p : Pile) (ss : List EdgeStrip) → HaveStripWeights (weight_in_pile p) ss
-    → PixelsStayInside columns rows (picture_of (weight_in_pile p)) → StripsStayInside columns rows ss
-strips_inside columns rows p ss whole inside =
-    let ds = picture_of (weight_in_pile p) in
-    let there = λ (x y : ℤ) (some : weight_in_strips ss x y ≢ pos 0). λ (none : weight_at ds x y ≡ pos 0). some (whole.weights x y ∙ sym (pile_weight p x y) ∙ none) in
-    record {
-      across = λ x y some. holds_at_weight (λ x y. PlaceStaysInside columns x) ds x y inside.across (there x y some);
-      up = λ x y some. holds_at_weight (λ x y. PlaceStaysInside rows y) ds x y inside.up (there x y some);
-    }
-
--- ---- negated parts
-
--- what a pile's joined part adds when it is negated
-pub negated_is : (p : Pile) (ss : List EdgeStrip) (part : Part) → HaveStripWeights (weight_in_pile p) ss → HaveStripWeights (negated_weight_in ss) (strips_in part)
-    → (x y : ℤ) → IsInField x y → weight_in_part part x y ≡ neg_ℤ (weight_at (picture_of (weight_in_pile p)) x y)
-unfolding negated_weight_in
-negated_is p ss part whole negated x y inside = negated.weights x y ∙ ap neg_ℤ (whole.weights x y ∙ sym (pile_weight p x y))
-
-pub difference_is : (ds es : List Dot) (x y : ℤ) → difference_at ds es x y ≡ weight_at ds x y +ℤ neg_ℤ (weight_at es x y)
-unfolding difference_at
-difference_is ds es x y = omega (arith, ints)
+pub strips_inside : (columns rows : Stretch) (ds : List Dot) (part : Part) → weight_in_part part ≡ weight_at ds
+    → PixelsStayInside columns rows ds → StripsStayInside columns rows (strips_in part)
+strips_inside columns rows ds part is inside = record {
+  across = λ x y some. holds_at_weight (λ x y. PlaceStaysInside columns x) ds x y inside.across (rw is at some);
+  up = λ x y some. holds_at_weight (λ x y. PlaceStaysInside rows y) ds x y inside.up (rw is at some);
+}

@@ -1,5 +1,5 @@
 //! Pictures.
-ghost use Rattle.std.specs.Prelude.{◌≡◌, ◌≢◌, ◌≤◌, [], IsNone, IsOk, IfSome, IfOk, IfErr, OnOk, OnErr, IsTrue, length, slice_get, ◌↔◌};
+ghost use Rattle.std.specs.Prelude.{◌≡◌, ◌≢◌, ◌≤◌, [], IsNone, IsOk, IfSome, IfOk, IfErr, OnOk, OnErr, IsTrue, ℤ, length, slice_get, ◌↔◌};
 
 use crate::bounds::{Box4, Pixels};
 use crate::run::Run;
@@ -39,7 +39,7 @@ impl Model for Picture {
 #[tactic(auto, using(crate::proofs::PicturePiles::lawful_pile))]
 impl Picture {
     ghost use Rattle.mf_rows.specs.Bounds.{AreBounds, IsLeastBox, among_dots, is_positive_at};
-    ghost use Rattle.mf_strips.specs.Corners.{AreCorners};
+    ghost use Rattle.mf_strips.specs.Corners.{AreCorners, HaveFieldStripWeights};
     ghost use Rattle.mf_rows.specs.Corners.{with_corners_at};
     ghost use Rattle.mf_rows.specs.Dots.{IsPicture, weight_at, total_of};
     ghost use Rattle.mf_rows.specs.Runs.{runs_of};
@@ -49,7 +49,6 @@ impl Picture {
     ghost use Rattle.mf_rows.specs.Weights.{HaveSameWeights, picture_of};
     ghost use Rattle.mf_strips.specs.Parts.{strips_in, weight_in_part};
     ghost use Rattle.mf_strips.specs.PileWeights.{weight_in_pile};
-    ghost use Rattle.mf_strips.specs.Strips.{HaveStripWeights};
     ghost use Rattle.std.specs.Arc.{arc_value};
 
     /// The blank picture, METAFONT's `nullpicture`: every weight is 0.
@@ -158,7 +157,7 @@ impl Picture {
             *self = other.copy(alloc)?;
             return Ok(());
         }
-        let part = other.pile.joined(alloc)?;
+        let part = other.joined(alloc)?;
         self.pile.add(alloc, part)
     }
 
@@ -178,7 +177,7 @@ impl Picture {
         if other.is_blank() {
             return Ok(());
         }
-        let part = other.pile.joined(alloc)?;
+        let part = other.joined(alloc)?;
         let negated = negated(alloc, &part)?;
         self.pile.add(alloc, Arc::new(alloc, negated)?)
     }
@@ -205,7 +204,7 @@ impl Picture {
         if self.is_blank() {
             return Ok(Picture::blank(alloc));
         }
-        let part = self.pile.joined(alloc)?;
+        let part = self.joined(alloc)?;
         Picture::of_part(alloc, mapped(alloc, &part, map)?)
     }
 
@@ -255,9 +254,17 @@ impl Picture {
         walk.bounds(pixels)
     }
 
+    /// All its parts as one.
+    fn joined(&self, alloc: Global) -> Result<Arc<Part>, OutOfMemory>
+        ensures { IfOk result (λ part. weight_in_part (arc_value part) ≡ weight_at self.now) }
+    {
+        self.pile.joined(alloc)
+    }
+
     /// The picture of a part.
     pub(crate) fn of_part(alloc: Global, part: Part) -> Result<Picture, OutOfMemory>
         ensures value { IfOk result (λ picture. picture ≡ picture_of (weight_in_part part)) }
+        ensures weights { (f : ℤ → ℤ → ℤ) → HaveFieldStripWeights f (strips_in part) → IfOk result (HasWeights f) }
         ensures lawful { IfOk result IsPicture }
     {
         let pile = Pile::of(alloc, Arc::new(alloc, part)?)?;

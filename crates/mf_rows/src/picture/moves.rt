@@ -21,7 +21,7 @@ impl Picture {
         ensures weights { IfOk result (HasWeights (moved_columns opposite (weight_at self.now))) }
         ensures lawful { IfOk result IsPicture }
     {
-        let part = self.pile.joined(alloc)?;
+        let part = self.joined(alloc)?;
         Picture::of_part(alloc, mirrored_columns(alloc, &part)?)
     }
 
@@ -31,7 +31,7 @@ impl Picture {
         ensures weights { IfOk result (HasWeights (moved_rows opposite (weight_at self.now))) }
         ensures lawful { IfOk result IsPicture }
     {
-        let part = self.pile.joined(alloc)?;
+        let part = self.joined(alloc)?;
         Picture::of_part(alloc, mirrored_rows(alloc, &part)?)
     }
 
@@ -50,7 +50,7 @@ impl Picture {
         ensures weights { IfOk result (HasWeights (moved_rows (source_of rows.now) (moved_columns (source_of columns.now) (weight_at self.now)))) }
         ensures lawful { IfOk result IsPicture }
     {
-        let part = self.pile.joined(alloc)?;
+        let part = self.joined(alloc)?;
         Picture::of_part(alloc, stretched(alloc, &part, columns, rows)?)
     }
 
@@ -61,7 +61,7 @@ impl Picture {
         ensures weights { IfOk result (HasWeights (quarter_turn (weight_at self.now))) }
         ensures lawful { IfOk result IsPicture }
     {
-        let part = self.pile.joined(alloc)?;
+        let part = self.joined(alloc)?;
         Picture::of_part(alloc, turned(alloc, &part)?)
     }
 }
