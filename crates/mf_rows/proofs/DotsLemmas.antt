@@ -9,6 +9,8 @@ use Rattle.std.proofs.lemmas.List.Elements.{All-head, All-tail, All-cons, All-ni
 use Rattle.mf_geom.specs.Field.{IsInField}
 use Rattle.mf_rows.specs.Dots.{Dot, IsDot, IsPicture, AreDotsFrom, place, start_of_field, weight_at}
 use Rattle.mf_rows.specs.Order.{AreBefore}
+use Rattle.mf_rows.proofs.PlacesLemmas.{by_same}
+use Rattle.mf_rows.proofs.StretchBounds.{holds_at_weight}
 
 -- a dot is at the pixel (x, y)
 pub record IsAt (d : Dot) (x y : ℤ) : Type 0 where
@@ -32,11 +34,8 @@ not_at d x y apart here = apart (rw (here.column, here.row))
 
 -- where there is no dot the weight is 0
 pub weight_at-none : (ds : List Dot) (x y : ℤ) → All (λ d. place d.x d.y ≢ place x y) ds → weight_at ds x y ≡ pos 0
-unfolding weight_at
-weight_at-none [] x y none = refl
-weight_at-none (d ∷ ds) x y none =
-    weight_at-elsewhere d ds x y (not_at d x y (All-head (λ d. place d.x d.y ≢ place x y) d ds none))
-    ∙ weight_at-none ds x y (All-tail (λ d. place d.x d.y ≢ place x y) d ds none)
+weight_at-none ds x y none =
+    by_same (weight_at ds x y) (pos 0) (λ zero. zero) (λ some. absurd (holds_at_weight (λ u v. place u v ≢ place x y) ds x y none some refl))
 
 -- after the last dot the weight is 0
 pub weight_at-after : (ds : List Dot) (x y : ℤ) → AreBefore (place x y) ds → weight_at ds x y ≡ pos 0
@@ -71,11 +70,8 @@ pub dots_from-append : (low middle : ℤ) (ds es : List Dot) → low ≤ℤ midd
     → AreDotsFrom middle es → AreDotsFrom low (ds ++ es)
 dots_from-append low middle [] es le front before back = dots_from-lower low middle es le back
 dots_from-append low middle (d ∷ ds) es le front before back =
-    let lower : place d.x d.y <ℤ middle = All-head (λ d. place d.x d.y <ℤ middle) d ds before in (
-      front.0,
-      front.1,
-      dots_from-append (place d.x d.y +ℤ pos 1) middle ds es (omega (arith, ints)) front.2 (All-tail (λ d. place d.x d.y <ℤ middle) d ds before) back,
-    )
+    let lower : place d.x d.y <ℤ middle = All-head (λ d. place d.x d.y <ℤ middle) d ds before in
+    (front.0, front.1, dots_from-append (place d.x d.y +ℤ pos 1) middle ds es (omega (arith, ints)) front.2 (All-tail (λ d. place d.x d.y <ℤ middle) d ds before) back)
 
 -- the pixel of each dot has its weight
 pub weight_at-dot : (low : ℤ) (ds : List Dot) → AreDotsFrom low ds → (k : ℕ) (d : Dot) → k < length ds
@@ -83,17 +79,11 @@ pub weight_at-dot : (low : ℤ) (ds : List Dot) → AreDotsFrom low ds → (k : 
 weight_at-dot low [] dots k e lt = absurd (omega arith)
 weight_at-dot low (d ∷ ds) dots zero e lt = weight_at-here d ds d.x d.y (record { column = refl; row = refl })
 weight_at-dot low (d ∷ ds) dots (suc k) e lt =
-    let other = get_or ds k e in
-    let later : (place d.x d.y +ℤ pos 1) ≤ℤ place other.x other.y = dots_from-after (place d.x d.y +ℤ pos 1) ds dots.2 k e (omega arith) in
-    weight_at-elsewhere d ds other.x other.y (not_at d other.x other.y (λ same. omega (arith, ints)))
-    ∙ weight_at-dot (place d.x d.y +ℤ pos 1) ds dots.2 k e (omega arith)
-
-weight_at-all_in_field : (ds : List Dot) (x y : ℤ) → All IsDot ds → (IsInField x y → ⊥) → weight_at ds x y ≡ pos 0
-unfolding weight_at
-weight_at-all_in_field [] x y lawful outside = refl
-weight_at-all_in_field (d ∷ ds) x y lawful outside =
-    grind (arith, ints, weight_at-elsewhere, All-head, All-tail, weight_at-all_in_field ds x y (All-tail IsDot d ds lawful) outside)
+    let later = dots_from-after (place d.x d.y +ℤ pos 1) ds dots.2 k e (omega arith) in
+    grind (arith, ints, weight_at-elsewhere, not_at, weight_at-dot (place d.x d.y +ℤ pos 1) ds dots.2 k e (omega arith))
 
 -- a picture has weight 0 outside the field
 pub weight_at-outside : (ds : List Dot) (x y : ℤ) → IsPicture ds → (IsInField x y → ⊥) → weight_at ds x y ≡ pos 0
-weight_at-outside ds x y picture outside = weight_at-all_in_field ds x y (dots_from-lawful start_of_field ds picture.dots) outside
+weight_at-outside ds x y picture outside =
+    let inside = All-weaker IsDot (λ d. IsInField d.x d.y) (λ d dot. dot.in_field) ds (dots_from-lawful start_of_field ds picture.dots) in
+    by_same (weight_at ds x y) (pos 0) (λ zero. zero) (λ some. absurd (outside (holds_at_weight IsInField ds x y inside some)))

@@ -32,11 +32,8 @@ unfolding runs_of equal_dots run_from with_dot
 runs_of-equal_dots y x w zero ds some maximal = absurd (omega arith)
 runs_of-equal_dots y x w (suc zero) ds some maximal = with_dot-alone (record { y = y; x = x; weight = w }) (runs_of ds) maximal
 runs_of-equal_dots y x w (suc (suc n)) ds some maximal =
-    let first : Dot = record { y = y; x = x; weight = w } in
-    let others : Run = record { y = y; x = x +ℤ pos 1; len = suc n; weight = w } in
-    ap (with_dot first) (runs_of-equal_dots y (x +ℤ pos 1) w (suc n) ds (omega arith) (maximal-shifted y x w n (runs_of ds) maximal))
-    ∙ cond-true (continues first others) (run_from first (suc n) ∷ runs_of ds) (run_from first 0 ∷ others ∷ runs_of ds)
-    ((Decides-continues first others).1 (record { row = refl; column = refl; weight = refl }))
+    let others = runs_of-equal_dots y (x +ℤ pos 1) w (suc n) ds (omega arith) (maximal-shifted y x w n (runs_of ds) maximal) in
+    grind (arith, ints, cond-true, Decides-continues)
 
 pub maximal-tail : (r : Run) (rs : List Run) → AreMaximal (r ∷ rs) → AreMaximal rs
 maximal-tail r [] maximal = tt
@@ -47,11 +44,8 @@ pub runs_of-dots_of : (rs : List Run) → All (λ r. 1 ≤ r.len) rs → AreMaxi
 unfolding runs_of dots_of
 runs_of-dots_of [] some maximal = refl
 runs_of-dots_of (r ∷ rs) some maximal =
-    let P = λ (r : Run). 1 ≤ r.len in
-    let others = runs_of-dots_of rs (All-tail P r rs some) (maximal-tail r rs maximal) in
-    let followed = subst (λ all. AreMaximal (r ∷ all)) (sym others) maximal in
-    runs_of-equal_dots r.y r.x r.weight r.len (flat_map dots_of rs) (All-head P r rs some) followed
-    ∙ ap (λ all. r ∷ all) others
+    let others = runs_of-dots_of rs (All-tail (λ r. 1 ≤ r.len) r rs some) (maximal-tail r rs maximal) in
+    grind (arith, runs_of-equal_dots, All-head)
 
 -- ---- the weights of pixels and neighbours
 

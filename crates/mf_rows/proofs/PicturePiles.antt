@@ -43,9 +43,7 @@ rows_below_field : (top reach : ℤ) (above : List Edge) (ss : List EdgeStrip) (
 unfolding row_in
 rows_below_field top reach above [] y z strips low_y low_z = refl
 rows_below_field top reach above (s ∷ ss) y z strips low_y low_z =
-    let bottom : least_coordinate ≤ℤ s.top = strips.0.bottom in
-    row_in-below above s ss y (omega (arith, ints)) ∙ rows_below_field (s.top -ℤ pos 1) reach s.edges ss y z strips.2 low_y low_z
-    ∙ sym (row_in-below above s ss z (omega (arith, ints)))
+    grind (arith, ints, row_in-below, rows_below_field (s.top -ℤ pos 1) reach s.edges ss y z strips.2 low_y low_z)
 
 from_top : (top reach : ℤ) (ss : List EdgeStrip) (y : ℤ) → AreStripsFrom top reach ss → top ≤ℤ y → IsFrom ss y
 from_top top reach [] y strips le = tt

@@ -18,7 +18,7 @@ use Rattle.mf_rows.specs.Runs.{dots_of}
 use Rattle.mf_rows.specs.Weights.{picture_of}
 use Rattle.mf_rows.proofs.DotsLemmas.{dots_from-append}
 use Rattle.mf_rows.proofs.PlacesLemmas.{AreFieldColumns, start_of_field-le}
-use Rattle.mf_rows.proofs.RunDots.{IsOnRun, by_on_run, before_equal_dots-end, equal_dots-from, weight_at-before_run, weight_at-on_run, weight_at-off_run}
+use Rattle.mf_rows.proofs.RunDots.{IsOnRun, by_on_run, before_equal_dots-end, dots_from-run, weight_at-before_run, weight_at-on_run, weight_at-off_run}
 use Rattle.mf_rows.proofs.StretchBounds.{holds_at_weight}
 use Rattle.mf_rows.proofs.WeightsLemmas.{lawful_picture_of, picture_of-from_weights, weight_at-picture_of}
 
@@ -132,14 +132,11 @@ module _ (ks : List Corner) (end : ℤ) (r : Run) (built : AreBuilt ks end) (fit
   }
 
   picture : IsPicture (dots ++ dots_of r)
-  unfolding dots dots_of
-  picture =
-      let run = fits.run in
-      let columns : AreFieldColumns r.x r.y r.len = record { left = run.left; right = run.right; bottom = run.bottom; top = run.top } in
-      record {
-        dots = dots_from-append start_of_field (place r.x r.y) dots (dots_of r) (start_of_field-le r.x r.y (first_pixel r run))
-            (lawful_built ks end built).dots fits.before (equal_dots-from r.y r.x r.weight r.len columns run.lawful run.nonzero);
-      }
+  unfolding dots
+  picture = record {
+    dots = dots_from-append start_of_field (place r.x r.y) dots (dots_of r) (start_of_field-le r.x r.y (first_pixel r fits.run))
+        (lawful_built ks end built).dots fits.before (dots_from-run r fits.run);
+  }
 
   -- their picture gets the dots of the run
   pub run_built : picture_of_corners (ks ++ corners_of r) ≡ picture_of_corners ks ++ dots_of r

@@ -27,25 +27,14 @@ pub record IsOnRun (r : Run) (x y : ℤ) : Type 0 where
 
 -- a pixel is on a run or not
 pub by_on_run : {P : Type 0} (r : Run) (x y : ℤ) → (IsOnRun r x y → P) → ((IsOnRun r x y → ⊥) → P) → P
-by_on_run r x y on off =
-    by_same r.y y
-    (λ row. by_lt_z x r.x
-    (λ before. off (λ is. omega (arith, ints, is.left)))
-    (λ left. by_lt_z x (r.x +ℤ pos r.len)
-    (λ right. on (record { row = row; left = left; right = right }))
-    (λ after. off (λ is. omega (arith, ints, is.right)))))
-    (λ apart. off (λ is. apart is.row))
+by_on_run r x y on off = grind (arith, ints, by_same, by_lt_z)
 
 pub weight_at-equal_dots : (y x w : ℤ) (n : ℕ) (u : ℤ) → x ≤ℤ u → u <ℤ (x +ℤ pos n) → weight_at (equal_dots y x w n) u y ≡ w
 unfolding equal_dots
 weight_at-equal_dots y x w zero u left right = absurd (omega (arith, ints))
 weight_at-equal_dots y x w (suc n) u left right =
-    let first : Dot = record { y = y; x = x; weight = w } in
-    let others = equal_dots y (x +ℤ pos 1) w n in
-    by_lt_z x u
-    (λ later. weight_at-elsewhere first others u y (λ here. omega (arith, ints, here.column))
-    ∙ weight_at-equal_dots y (x +ℤ pos 1) w n u (omega (arith, ints)) (omega (arith, ints)))
-    (λ here. weight_at-here first others u y (record { column = omega (arith, ints); row = refl }))
+    by_lt_z x u (λ later. grind (arith, ints, weight_at-elsewhere, weight_at-equal_dots y (x +ℤ pos 1) w n u (omega (arith, ints)) (omega (arith, ints))))
+    (λ here. grind (arith, ints, weight_at-here))
 
 -- equal dots without that pixel do not affect it
 weight_at-skip : (y x w : ℤ) (n : ℕ) (ds : List Dot) (u v : ℤ) → (y ≡ v → x ≤ℤ u → u <ℤ (x +ℤ pos n) → ⊥)
@@ -53,17 +42,13 @@ weight_at-skip : (y x w : ℤ) (n : ℕ) (ds : List Dot) (u v : ℤ) → (y ≡ 
 unfolding equal_dots
 weight_at-skip y x w zero ds u v off = refl
 weight_at-skip y x w (suc n) ds u v off =
-    weight_at-elsewhere (record { y = y; x = x; weight = w }) (equal_dots y (x +ℤ pos 1) w n ++ ds) u v
-    (λ here. off here.row (omega (arith, ints, here.column)) (omega (arith, ints, here.column)))
-    ∙ weight_at-skip y (x +ℤ pos 1) w n ds u v (λ row left right. off row (omega (arith, ints)) (omega (arith, ints)))
+    grind (arith, ints, weight_at-elsewhere, weight_at-skip y (x +ℤ pos 1) w n ds u v (λ row left right. off row (omega (arith, ints)) (omega (arith, ints))))
 
 -- dots that all come before a pixel do not affect it
 pub weight_at-append_after : (ds es : List Dot) (x y : ℤ) → AreBefore (place x y) ds → weight_at (ds ++ es) x y ≡ weight_at es x y
 weight_at-append_after [] es x y before = refl
 weight_at-append_after (d ∷ ds) es x y before =
-    let lower : place d.x d.y <ℤ place x y = All-head (λ d. place d.x d.y <ℤ place x y) d ds before in
-    weight_at-elsewhere d (ds ++ es) x y (not_at d x y (λ same. omega (arith, ints)))
-    ∙ weight_at-append_after ds es x y (All-tail (λ d. place d.x d.y <ℤ place x y) d ds before)
+    grind (arith, ints, weight_at-elsewhere, not_at, All-head, weight_at-append_after ds es x y (All-tail (λ d. place d.x d.y <ℤ place x y) d ds before))
 
 -- nor do dots at the end that give the pixel weight 0
 pub weight_at-append_none : (ds es : List Dot) (x y : ℤ) → weight_at es x y ≡ pos 0 → weight_at (ds ++ es) x y ≡ weight_at ds x y
@@ -75,20 +60,21 @@ pub place-le : (x u y : ℤ) → x ≤ℤ u → place x y ≤ℤ place u y
 unfolding place
 place-le x u y le = omega (arith, ints)
 
--- no dot before a run is on it
+-- dots before a run come before each of its pixels
+before_pixel : (ds : List Dot) (r : Run) (x y : ℤ) → Fits ds r → IsOnRun r x y → AreBefore (place x y) ds
+before_pixel ds r x y fits on =
+    let further = place-le r.x x r.y on.left in
+    rw (← on.row) (All-weaker (λ d. place d.x d.y <ℤ place r.x r.y) (λ d. place d.x d.y <ℤ place x r.y) (λ d lower. omega (arith, ints)) ds fits.before)
+
 pub weight_at-before_run : (ds : List Dot) (r : Run) (x y : ℤ) → Fits ds r → IsOnRun r x y → weight_at ds x y ≡ pos 0
-weight_at-before_run ds r x y fits on =
-    let further : place r.x r.y ≤ℤ place x y = subst (λ v. place r.x r.y ≤ℤ place x v) on.row (place-le r.x x r.y on.left) in
-    weight_at-after ds x y (All-weaker (λ d. place d.x d.y <ℤ place r.x r.y) (λ d. place d.x d.y <ℤ place x y) (λ d lower. omega (arith, ints)) ds fits.before)
+weight_at-before_run ds r x y fits on = weight_at-after ds x y (before_pixel ds r x y fits on)
 
 -- a pushed run gives its weight to its pixels
 pub weight_at-on_run : (ds : List Dot) (r : Run) (x y : ℤ) → Fits ds r → IsOnRun r x y → weight_at (ds ++ dots_of r) x y ≡ r.weight
 unfolding dots_of
 weight_at-on_run ds r x y fits on =
-    let further = place-le r.x x r.y on.left in
-    let before = All-weaker (λ d. place d.x d.y <ℤ place r.x r.y) (λ d. place d.x d.y <ℤ place x r.y) (λ d lower. omega (arith, ints)) ds fits.before in
-    subst (λ v. weight_at (ds ++ equal_dots r.y r.x r.weight r.len) x v ≡ r.weight) on.row
-    (weight_at-append_after ds (equal_dots r.y r.x r.weight r.len) x r.y before ∙ weight_at-equal_dots r.y r.x r.weight r.len x on.left on.right)
+    weight_at-append_after ds (dots_of r) x y (before_pixel ds r x y fits on)
+    ∙ rw (← on.row) (weight_at-equal_dots r.y r.x r.weight r.len x on.left on.right)
 
 -- and every other pixel keeps its weight
 pub weight_at-off_run : (ds : List Dot) (r : Run) (x y : ℤ) → (IsOnRun r x y → ⊥) → weight_at (ds ++ dots_of r) x y ≡ weight_at ds x y
@@ -124,30 +110,27 @@ unfolding dots_of
 fits_next low [] r others runs = (runs.1, record { run = runs.0; before = All-nil (λ d. place d.x d.y <ℤ place r.x r.y) })
 fits_next low (q ∷ qs) r others runs =
     let later = fits_next (place (q.x +ℤ pos q.len) q.y) qs r others runs.2 in
-    let further = place-le q.x (q.x +ℤ pos q.len) q.y (omega (arith, ints)) in (
-      omega (arith, ints, runs.1, later.0),
-      record {
-        run = later.1.run;
-        before = All-append (λ d. place d.x d.y <ℤ place r.x r.y) (dots_of q) (flat_map dots_of qs)
-            (before_equal_dots-end q.y q.x q.weight q.len (place r.x r.y) later.0) later.1.before;
-      },
-    )
+    let further = place-le q.x (q.x +ℤ pos q.len) q.y (omega (arith, ints)) in
+    let own = before_equal_dots-end q.y q.x q.weight q.len (place r.x r.y) later.0 in
+    let before = All-append (λ d. place d.x d.y <ℤ place r.x r.y) (dots_of q) (flat_map dots_of qs) own later.1.before in
+    (omega (arith, ints, runs.1, later.0), record { run = later.1.run; before = before })
 
 -- and so are the dots of the runs
+pub dots_from-run : (r : Run) → IsRun r → AreDotsFrom (place r.x r.y) (dots_of r)
+unfolding dots_of
+dots_from-run r run =
+    let columns : AreFieldColumns r.x r.y r.len = record { left = run.left; right = run.right; bottom = run.bottom; top = run.top } in
+    equal_dots-from r.y r.x r.weight r.len columns run.lawful run.nonzero
+
 pub dots_from-runs : (low : ℤ) (rs : List Run) → AreRunsFrom low rs → AreDotsFrom low (flat_map dots_of rs)
 unfolding dots_of
 dots_from-runs low [] runs = tt
 dots_from-runs low (r ∷ rs) runs =
-    let run = runs.0 in
     let end = place (r.x +ℤ pos r.len) r.y in
-    let start : low ≤ℤ place r.x r.y = runs.1 in
-    let further : place r.x r.y ≤ℤ end = place-le r.x (r.x +ℤ pos r.len) r.y (omega (arith, ints)) in
-    let columns : AreFieldColumns r.x r.y r.len = record { left = run.left; right = run.right; bottom = run.bottom; top = run.top } in
-    let own = equal_dots-from r.y r.x r.weight r.len columns run.lawful run.nonzero in
-    dots_from-append low end (equal_dots r.y r.x r.weight r.len) (flat_map dots_of rs) (omega (arith, ints))
-    (dots_from-lower low (place r.x r.y) (equal_dots r.y r.x r.weight r.len) start own)
-    (before_equal_dots-end r.y r.x r.weight r.len end (omega (arith, ints)))
-    (dots_from-runs end rs runs.2)
+    let further = place-le r.x (r.x +ℤ pos r.len) r.y (omega (arith, ints)) in
+    dots_from-append low end (dots_of r) (flat_map dots_of rs) (omega (arith, ints, runs.1))
+    (dots_from-lower low (place r.x r.y) (dots_of r) runs.1 (dots_from-run r runs.0))
+    (before_equal_dots-end r.y r.x r.weight r.len end (omega (arith, ints))) (dots_from-runs end rs runs.2)
 
 pub picture-runs : (rs : List Run) → AreRuns rs → IsPicture (flat_map dots_of rs)
 picture-runs rs ordered = record { dots = dots_from-runs start_of_field rs ordered.runs }

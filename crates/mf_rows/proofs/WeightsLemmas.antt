@@ -29,12 +29,8 @@ same_tails : (d : Dot) (ds es : List Dot) → AreDotsFrom (place d.x d.y +ℤ po
     → AreDotsFrom (place d.x d.y +ℤ pos 1) es → HaveSameWeights (d ∷ ds) (d ∷ es) → HaveSameWeights ds es
 same_tails d ds es left right weights = record {
   same = λ x y inside.
-      let low = place d.x d.y +ℤ pos 1 in
-      by_lt_z (place x y) low
-      (λ before. weight_at-before low ds x y left before ∙ sym (weight_at-before low es x y right before))
-      (λ after.
-      let elsewhere = not_at d x y (λ same. omega (arith, ints)) in
-      sym (weight_at-elsewhere d ds x y elsewhere) ∙ weights.same x y inside ∙ weight_at-elsewhere d es x y elsewhere);
+      by_lt_z (place x y) (place d.x d.y +ℤ pos 1) (λ before. grind (arith, ints, weight_at-before))
+      (λ after. grind (arith, ints, weight_at-elsewhere, not_at, weights.same x y inside));
 }
 
 same_from : (low : ℤ) (ds es : List Dot) → AreDotsFrom low ds → AreDotsFrom low es → HaveSameWeights ds es → ds ≡ es
@@ -71,23 +67,9 @@ row_from : (f : ℤ → ℤ → ℤ) (y x : ℤ) (n : ℕ) (es : List Dot) → A
 unfolding row_of
 row_from f y x zero es columns lawful later = subst (λ u. AreDotsFrom (place u y) es) (omega (arith, ints)) later
 row_from f y x (suc n) es columns lawful later =
-    let first : Dot = record { y = y; x = x; weight = f x y } in
-    let inside = first_column x y n columns in
-    let others = row_of f y (x +ℤ pos 1) n in
-    let after =
-    subst (λ p. AreDotsFrom p (others ++ es)) (place-next x y)
-    (row_from f y (x +ℤ pos 1) n es (next_columns x y n columns) lawful (subst (λ u. AreDotsFrom (place u y) es) (omega (arith, ints)) later)) in
-    cond_both (int_eq (f x y) (pos 0)) others (first ∷ others) (λ row. AreDotsFrom (place x y) (row ++ es))
-    (λ blank. dots_from-lower (place x y) (place x y +ℤ pos 1) (others ++ es) (omega (arith, ints)) after)
-    (λ dotted. (
-      record {
-        in_field = inside;
-        lawful = lawful x y inside;
-        nonzero = not_from_Decides (int_eq (f x y) (pos 0)) (Decides-int_eq (f x y) (pos 0)) dotted;
-      },
-      omega (arith, ints),
-      after,
-    ))
+    let next : x +ℤ pos 1 +ℤ pos n ≡ x +ℤ pos (suc n) = omega (arith, ints) in
+    let after = row_from f y (x +ℤ pos 1) n es (next_columns x y n columns) lawful (rw next later) in
+    grind (arith, ints, cond_both, dots_from-lower, place-next, first_column, not_from_Decides, Decides-int_eq)
 
 rows_from : (f : ℤ → ℤ → ℤ) (y : ℤ) (n : ℕ) → (least_coordinate -ℤ pos 1 +ℤ pos n) ≤ℤ y → y ≤ℤ last_in_field
     → ((u v : ℤ) → IsInField u v → IsLawfulWeight (f u v)) → AreDotsFrom (place least_coordinate y) (rows_of f y n)
@@ -107,33 +89,16 @@ weight_at-off_row : (f : ℤ → ℤ → ℤ) (y x : ℤ) (n : ℕ) (es : List D
 unfolding row_of
 weight_at-off_row f y x zero es u v off = refl
 weight_at-off_row f y x (suc n) es u v off =
-    let first : Dot = record { y = y; x = x; weight = f x y } in
-    let others = row_of f y (x +ℤ pos 1) n in
-    let same = weight_at-off_row f y (x +ℤ pos 1) n es u v (λ row left. off row (omega (arith, ints))) in
-    cond_both (int_eq (f x y) (pos 0)) others (first ∷ others) (λ row. weight_at (row ++ es) u v ≡ weight_at es u v)
-    (λ blank. same)
-    (λ dotted. weight_at-elsewhere first (others ++ es) u v (λ here. off here.row (omega (arith, ints, here.column))) ∙ same)
+    grind (arith, ints, cond_both, weight_at-elsewhere, weight_at-off_row f y (x +ℤ pos 1) n es u v (λ row left. off row (omega (arith, ints))))
 
 pub weight_at-row : (f : ℤ → ℤ → ℤ) (y x : ℤ) (n : ℕ) (es : List Dot) (u : ℤ) → weight_at es u y ≡ pos 0 → x ≤ℤ u
     → u <ℤ (x +ℤ pos n) → weight_at (row_of f y x n ++ es) u y ≡ f u y
 unfolding row_of
 weight_at-row f y x zero es u none left right = absurd (omega (arith, ints))
 weight_at-row f y x (suc n) es u none left right =
-    let first : Dot = record { y = y; x = x; weight = f x y } in
-    let others = row_of f y (x +ℤ pos 1) n in
-    cond_both (int_eq (f x y) (pos 0)) others (first ∷ others) (λ row. weight_at (row ++ es) u y ≡ f u y)
-    (λ blank. by_lt_z x u
-    (λ later. weight_at-row f y (x +ℤ pos 1) n es u none (omega (arith, ints)) (omega (arith, ints)))
-    (λ no_later.
-    let here : x ≡ u = omega (arith, ints) in
-    weight_at-off_row f y (x +ℤ pos 1) n es u y (λ row left. omega (arith, ints)) ∙ none
-    ∙ sym ((Decides-int_eq (f x y) (pos 0)).0 blank) ∙ ap (λ column. f column y) here))
-    (λ dotted. by_lt_z x u
-    (λ later. weight_at-elsewhere first (others ++ es) u y (λ here. omega (arith, ints, here.column))
-    ∙ weight_at-row f y (x +ℤ pos 1) n es u none (omega (arith, ints)) (omega (arith, ints)))
-    (λ no_later.
-    let here : x ≡ u = omega (arith, ints) in
-    weight_at-here first (others ++ es) u y (record { column = here; row = refl }) ∙ ap (λ column. f column y) here))
+    by_lt_z x u
+    (λ later. grind (arith, ints, cond_both, weight_at-elsewhere, weight_at-row f y (x +ℤ pos 1) n es u none (omega (arith, ints)) (omega (arith, ints))))
+    (λ here. grind (arith, ints, cond_both, weight_at-here, weight_at-off_row, Decides-int_eq))
 
 -- rows give no weight above the first of them
 pub weight_at-above : (f : ℤ → ℤ → ℤ) (y : ℤ) (n : ℕ) (u v : ℤ) → y <ℤ v → weight_at (rows_of f y n) u v ≡ pos 0
@@ -146,14 +111,9 @@ weight_at-rows : (f : ℤ → ℤ → ℤ) (y : ℤ) (n : ℕ) (u v : ℤ) → l
 unfolding rows_of
 weight_at-rows f y zero u v left right top bottom = absurd (omega (arith, ints))
 weight_at-rows f y (suc n) u v left right top bottom =
-    let below = rows_of f (y -ℤ pos 1) n in
     by_lt_z v y
-    (λ lower. weight_at-off_row f y least_coordinate field_size below u v (λ row left. omega (arith, ints, row))
-    ∙ weight_at-rows f (y -ℤ pos 1) n u v left right (omega (arith, ints)) (omega (arith, ints)))
-    (λ no_lower.
-    let here : y ≡ v = omega (arith, ints) in
-    subst (λ row. weight_at (row_of f y least_coordinate field_size ++ below) u row ≡ f u row) here
-    (weight_at-row f y least_coordinate field_size below u (weight_at-above f (y -ℤ pos 1) n u y (omega (arith, ints))) left (omega (arith, ints))))
+    (λ lower. grind (arith, ints, weight_at-off_row, weight_at-rows f (y -ℤ pos 1) n u v left right (omega (arith, ints)) (omega (arith, ints))))
+    (λ here. grind (arith, ints, weight_at-row, weight_at-above))
 
 pub weight_at-picture_of : (f : ℤ → ℤ → ℤ) (x y : ℤ) → IsInField x y → weight_at (picture_of f) x y ≡ f x y
 unfolding picture_of
