@@ -29,9 +29,7 @@ total_of-row f y x (suc n) =
     let start : x +ℤ pos 0 ≡ x = omega (arith, ints) in
     let after : total_of others ≡ sum_below n (λ i. terms (i + 1)) = total_of-row f y (x +ℤ pos 1) n ∙ (λ t. sum_below n (λ i. f (column i t) y)) in
     let whole : f x y +ℤ total_of others ≡ sum_below (suc n) terms = omega (arith, ints, ap (λ x. f x y) start, sum_below-next n terms) in
-    cond_both (int_eq (f x y) (pos 0)) others (first ∷ others) (λ row. total_of row ≡ sum_below (suc n) terms)
-    (λ blank. let none = (Decides-int_eq (f x y) (pos 0)).0 blank in omega (arith, ints))
-    (λ dotted. whole)
+    grind (arith, ints, cond_both, Decides-int_eq)
 
 -- n rows, from the top down to the one above `bottom`, add up like the same rows from the lowest up
 total_of-rows : (f : ℤ → ℤ → ℤ) (bottom : ℤ) (n : ℕ)

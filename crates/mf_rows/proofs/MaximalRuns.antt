@@ -71,12 +71,8 @@ weight-after : (r : Run) (rs : List Run) → r.weight ≢ pos 0 → AreRunsFrom 
     → weight_at (flat_map dots_of rs) (r.x +ℤ pos r.len) r.y ≢ r.weight
 unfolding place weight_at
 weight-after r [] some runs maximal = λ same. some (sym same)
-weight-after r (s ∷ rs) some runs maximal = λ same.
-    let x = r.x +ℤ pos r.len in
-    let low = place (s.x +ℤ pos s.len) s.y in
-    let elsewhere : IsOnRun s x r.y → ⊥ = grind (arith, ints, sym, weight_at-on_first) in
-    let none = weight_at-before low (flat_map dots_of rs) x r.y (dots_from-runs low rs runs.2) (omega (arith, ints, runs.0.some, runs.1)) in
-    some (sym same ∙ weight_at-off_first s rs x r.y elsewhere ∙ none)
+weight-after r (s ∷ rs) some runs maximal =
+    grind (arith, ints, sym, weight_at-on_first, weight_at-off_first, weight_at-before, dots_from-runs (place (s.x +ℤ pos s.len) s.y) rs runs.2)
 
 -- a later run, which does not continue it, stays as long as it can be
 IsMaximalRun-cons : (low : ℤ) (r : Run) (rs : List Run) (s : Run) → AreRunsFrom low (r ∷ rs) → place (r.x +ℤ pos r.len) r.y ≤ℤ place s.x s.y

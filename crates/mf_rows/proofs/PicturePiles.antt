@@ -54,12 +54,10 @@ unfolding weight_in_strips
 part_outside p x y outside =
     let ss = strips_in p in
     let strips = p.lawful.strips in
-    by_lt_z last_in_field y
-    (λ gt. rw (row_in-from [] ss y (from_top greatest_coordinate p.reach ss y strips (omega (arith, ints)))) (no_weight x))
+    by_lt_z last_in_field y (λ gt. grind (arith, ints, row_in-from, from_top greatest_coordinate p.reach ss y strips (omega (arith, ints)), no_weight))
     (λ le. by_lt_z y least_coordinate
-    (λ lt. rw (rows_below_field greatest_coordinate p.reach [] ss y (least_coordinate -ℤ pos 1) strips lt (omega (arith, ints)), p.lawful.closed) (no_weight x))
-    (λ ge. weight_in-outside (row_in [] ss y) x (row_lawful greatest_coordinate p.reach [] ss y no_edges strips)
-    (λ left right. outside (record { left = left; right = right; bottom = ge; top = le }))))
+    (λ lt. grind (arith, ints, rows_below_field greatest_coordinate p.reach [] ss y (least_coordinate -ℤ pos 1) strips lt (omega (arith, ints)), no_weight))
+    (λ ge. weight_in-outside (row_in [] ss y) x (row_lawful greatest_coordinate p.reach [] ss y no_edges strips) (λ left right. outside (grind (arith, ints)))))
 
 pub parts_outside : (ps : List (Arc Part Global)) (x y : ℤ) → (IsInField x y → ⊥) → weight_in_parts ps x y ≡ pos 0
 unfolding weight_in_parts

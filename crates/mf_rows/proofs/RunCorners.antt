@@ -110,8 +110,7 @@ module _ (ks : List Corner) (end : ℤ) (r : Run) (built : AreBuilt ks end) (fit
   added_with x y = added_by_all-append ks (corners_of r) x y
 
   in_field : (x y : ℤ) → IsOnRun r x y → IsInField x y
-  in_field x y on = let run = fits.run in
-      record { left = omega (arith, ints, run.left, on.left); right = omega (arith, ints, run.right, on.right); bottom = omega (arith, ints, run.bottom, on.row); top = omega (arith, ints, run.top, on.row) }
+  in_field x y on = let run = fits.run in grind (arith, ints)
 
   with_run : (x y : ℤ) → IsOnRun r x y → added_by_all (ks ++ corners_of r) x y ≡ r.weight
   unfolding dots
@@ -124,9 +123,7 @@ module _ (ks : List Corner) (end : ℤ) (r : Run) (built : AreBuilt ks end) (fit
   swept : AreSweptCorners (ks ++ corners_of r)
   swept = record {
     places = All-append IsPlaced ks (corners_of r) built.swept.places (placed r fits.run);
-    lawful = λ x y.
-        by_on_run r x y (λ on. subst IsLawfulWeight (sym (with_run x y on)) fits.run.lawful)
-        (λ off. subst IsLawfulWeight (sym (without_run x y off)) (built.swept.lawful x y));
+    lawful = λ x y. by_on_run r x y (λ on. rw (with_run x y on) fits.run.lawful) (λ off. rw (without_run x y off) (built.swept.lawful x y));
     closed = λ y.
         omega (arith, ints, without_run greatest_coordinate y (λ on. omega (arith, ints, on.right, fits.run.right)), built.swept.closed y);
   }
