@@ -1,5 +1,5 @@
 -- Maximal runs: they are the runs of their dots, and the weights of their pixels and neighbours say that they are as long as can be.
-use Rattle.std.proofs.Common.{◌≡◌, ℕ, zero, suc, ◌≤◌, ℤ, pos, ◌+ℤ◌, List, [], ◌∷◌, ◌++◌, refl, sym, ap, ◌∙◌, subst, arith, ◌≢◌, ◌≤ℤ◌, get_or}
+use Rattle.std.proofs.Common.{◌≡◌, ℕ, zero, suc, ◌≤◌, ℤ, pos, ◌+ℤ◌, List, [], ◌∷◌, ◌++◌, refl, sym, subst, arith, ◌≢◌, ◌≤ℤ◌, get_or}
 use Rattle.std.specs.List.{All, flat_map}
 use Rattle.std.proofs.lemmas.Bool.{cond-true, cond-false, false_from_ne_true}
 use Rattle.std.proofs.lemmas.Int.{ints}
@@ -7,11 +7,11 @@ use Rattle.std.proofs.lemmas.List.Elements.{All-head, All-tail, All-cons, All-ni
 use Rattle.mf_rows.specs.declared.run.Run.{Run}
 use Rattle.mf_rows.specs.Dots.{Dot, IsPicture, place, start_of_field, weight_at}
 use Rattle.mf_rows.specs.Order.{AreRunsFrom}
-use Rattle.mf_rows.specs.Runs.{equal_dots, dots_of, continues, run_from, with_dot, runs_of, AreMaximal, IsFollowedBy, IsMaximalRun}
+use Rattle.mf_rows.specs.Runs.{equal_dots, dots_of, run_from, with_dot, runs_of, AreMaximal, IsFollowedBy, IsMaximalRun}
 use Rattle.mf_rows.proofs.RunsLemmas.{Decides-continues, dots_of-runs_of, maximal_runs_of}
 use Rattle.mf_rows.proofs.DotsLemmas.{weight_at-before}
 use Rattle.mf_rows.proofs.PassedRuns.{ordered_runs_of}
-use Rattle.mf_rows.proofs.RunDots.{IsOnRun, runs_from-lower, dots_from-runs, weight_at-left_of, weight_at-on_first, weight_at-off_first}
+use Rattle.mf_rows.proofs.RunDots.{runs_from-lower, dots_from-runs, weight_at-left_of, weight_at-on_first, weight_at-off_first}
 
 -- a dot that the first run does not follow is a run of its own
 with_dot-alone : (d : Dot) (rs : List Run) → AreMaximal (run_from d 0 ∷ rs) → with_dot d rs ≡ run_from d 0 ∷ rs

@@ -1,5 +1,5 @@
 -- The pictures of piles.
-use Rattle.std.proofs.Common.{◌≡◌, ℤ, pos, ◌+ℤ◌, ◌-ℤ◌, ◌≤ℤ◌, ◌<ℤ◌, List, [], ◌∷◌, refl, ap, sym, ◌∙◌, arith}
+use Rattle.std.proofs.Common.{◌≡◌, ℤ, pos, ◌+ℤ◌, ◌-ℤ◌, ◌≤ℤ◌, ◌<ℤ◌, List, [], ◌∷◌, to_z-of_z, refl, ap, sym, ◌∙◌, arith}
 use Rattle.std.specs.Arc.{arc_value}
 use Rattle.std.specs.List.{All}
 use Rattle.std.specs.declared.alloc.Global.{Global}
@@ -32,6 +32,8 @@ use Rattle.mf_rows.specs.Corners.{added_by_all, with_corners_at}
 use Rattle.mf_rows.specs.Moves.{PixelsStayInside}
 use Rattle.mf_rows.specs.Sums.{HasWeights, difference_at, sum_at}
 use Rattle.mf_rows.specs.Weights.{picture_of}
+use Rattle.mf_rows.proofs.FieldTotals.{total_of-picture_of}
+use Rattle.mf_rows.proofs.BlankPictures.{added_to_blank, blank_added, blank_mapped, blank_subtracted}
 use Rattle.mf_rows.proofs.DotsLemmas.{weight_at-outside}
 use Rattle.mf_rows.proofs.StretchBounds.{holds_at_weight}
 use Rattle.mf_rows.proofs.WeightsLemmas.{lawful_picture_of, same_pictures, weight_at-picture_of}
@@ -122,6 +124,10 @@ pub ruleset weights_of_edges = (lawful_pile, pile_weight, edges_of_part, other_r
 
 pub part_is : (p : Pile) (part : Part) → HaveStripWeights (weight_in_pile p) (strips_in part) → weight_in_part part ≡ weight_at (picture_of (weight_in_pile p))
 part_is p part whole = λ i x y. (whole.weights x y ∙ sym (pile_weight p x y)) i
+
+pub ruleset of_piles = (
+  ints, sym, to_z-of_z, lawful_pile, part_is, pile_weight, total_of-picture_of, blank_pile, blank_added, added_to_blank, blank_subtracted, blank_mapped,
+)
 
 -- the picture of a pile has the weights of the pile in the field
 pub has_weights : {f g : ℤ → ℤ → ℤ} (p : Pile) → HasPileWeights g p → ((x y : ℤ) → IsInField x y → g x y ≡ f x y) → HasWeights f (picture_of (weight_in_pile p))

@@ -1,11 +1,10 @@
 -- The corners of runs in reading order, and the picture that they make.
-use Rattle.std.proofs.Common.{◌≡◌, ℤ, pos, neg_ℤ, ◌+ℤ◌, ◌-ℤ◌, ◌≤ℤ◌, ◌<ℤ◌, List, [], ◌++◌, refl, sym, subst, ◌∙◌, arith}
+use Rattle.std.proofs.Common.{◌≡◌, ℤ, pos, neg_ℤ, ◌+ℤ◌, ◌-ℤ◌, ◌≤ℤ◌, ◌<ℤ◌, List, [], ◌++◌, refl, sym, ◌∙◌, arith}
 use Rattle.std.specs.List.{All}
 use Rattle.std.proofs.lemmas.Int.{ints, by_lt_z}
 use Rattle.std.proofs.lemmas.List.Elements.{All-nil, All-cons, All-append, All-weaker}
 use Rattle.mf_geom.specs.Coordinates.{greatest_coordinate}
 use Rattle.mf_geom.specs.Field.{IsInField}
-use Rattle.mf_edges.specs.LawfulWeights.{IsLawfulWeight}
 use Rattle.mf_strips.specs.Corners.{added_by, added_by_all, AreSweptCorners, HaveFieldStripWeights, IsPlaced}
 use Rattle.mf_strips.specs.Strips.{EdgeStrip, weight_in_strips}
 use Rattle.mf_strips.specs.declared.corner.Corner.{Corner}
@@ -17,7 +16,7 @@ use Rattle.mf_rows.specs.Order.{IsRun, Fits}
 use Rattle.mf_rows.specs.Runs.{dots_of}
 use Rattle.mf_rows.specs.Weights.{picture_of}
 use Rattle.mf_rows.proofs.DotsLemmas.{dots_from-append}
-use Rattle.mf_rows.proofs.PlacesLemmas.{AreFieldColumns, start_of_field-le}
+use Rattle.mf_rows.proofs.PlacesLemmas.{start_of_field-le}
 use Rattle.mf_rows.proofs.RunDots.{IsOnRun, by_on_run, before_equal_dots-end, dots_from-run, weight_at-before_run, weight_at-on_run, weight_at-off_run}
 use Rattle.mf_rows.proofs.StretchBounds.{holds_at_weight}
 use Rattle.mf_rows.proofs.WeightsLemmas.{lawful_picture_of, picture_of-from_weights, weight_at-picture_of}
@@ -74,8 +73,8 @@ first_pixel r run = grind (arith, ints)
 
 -- ---- the picture of corners
 
-pub lawful_built : (ks : List Corner) (end : ℤ) → AreBuilt ks end → IsPicture (picture_of_corners ks)
-lawful_built ks end built = lawful_picture_of (added_by_all ks) (λ x y inside. built.swept.lawful x y)
+pub lawful_built : (ks : List Corner) → AreSweptCorners ks → IsPicture (picture_of_corners ks)
+lawful_built ks swept = lawful_picture_of (added_by_all ks) (λ x y inside. swept.lawful x y)
 
 pub blank_built : picture_of_corners [] ≡ []
 unfolding added_by_all weight_at
@@ -132,7 +131,7 @@ module _ (ks : List Corner) (end : ℤ) (r : Run) (built : AreBuilt ks end) (fit
   unfolding dots
   picture = record {
     dots = dots_from-append start_of_field (place r.x r.y) dots (dots_of r) (start_of_field-le r.x r.y (first_pixel r fits.run))
-        (lawful_built ks end built).dots fits.before (dots_from-run r fits.run);
+        (lawful_built ks built.swept).dots fits.before (dots_from-run r fits.run);
   }
 
   -- their picture gets the dots of the run
@@ -164,5 +163,5 @@ module _ (ks : List Corner) (end : ℤ) (r : Run) (built : AreBuilt ks end) (fit
 pub part_built : (ks : List Corner) (end : ℤ) (ss : List EdgeStrip) → AreBuilt ks end → HaveFieldStripWeights (added_by_all ks) ss
     → picture_of (weight_in_strips ss) ≡ picture_of_corners ks
 part_built ks end ss built made =
-    sym (picture_of-from_weights (picture_of_corners ks) (weight_in_strips ss) (lawful_built ks end built)
+    sym (picture_of-from_weights (picture_of_corners ks) (weight_in_strips ss) (lawful_built ks built.swept)
     (λ x y inside. weight_at-picture_of (added_by_all ks) x y inside ∙ sym (made.weights x y inside)))

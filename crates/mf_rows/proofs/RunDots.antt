@@ -1,6 +1,6 @@
 -- The dots of a run, dots followed by a run, and the dots of runs in reading order.
 use Rattle.std.proofs.Common.{◌≡◌, ◌≢◌, ℕ, zero, suc, ◌&&◌, if◌then◌else◌, ℤ, pos, ◌+ℤ◌, ◌≤ℤ◌, ◌<ℤ◌, List, [], ◌∷◌, ◌++◌}
-use Rattle.std.proofs.Common.{refl, ap, append-nil, ◌∙◌, subst, arith}
+use Rattle.std.proofs.Common.{refl, ap, append-nil, ◌∙◌, arith}
 use Rattle.std.specs.List.{All, flat_map}
 use Rattle.std.specs.Ordering.{int_eq}
 use Rattle.std.proofs.lemmas.Int.{ints, by_lt_z}

@@ -1,7 +1,6 @@
 -- Pictures are determined by their weights.
-use Rattle.std.proofs.Common.{◌≡◌, ℕ, zero, suc, ℤ, pos, ◌+ℤ◌, ◌-ℤ◌, ◌≤ℤ◌, ◌<ℤ◌, List, [], ◌∷◌, ◌++◌, refl, sym, ap, ◌∙◌, subst, arith}
+use Rattle.std.proofs.Common.{◌≡◌, ℕ, zero, suc, ℤ, pos, ◌+ℤ◌, ◌-ℤ◌, ◌≤ℤ◌, ◌<ℤ◌, List, [], ◌∷◌, ◌++◌, refl, sym, ◌∙◌, subst, arith}
 use Rattle.std.specs.List.{All}
-use Rattle.std.specs.Ordering.{int_eq}
 use Rattle.std.proofs.lemmas.Bool.{cond_both}
 use Rattle.std.proofs.lemmas.Bool.Decides.{Decides-int_eq, not_from_Decides}
 use Rattle.std.proofs.lemmas.Int.{ints, by_lt_z}
@@ -46,9 +45,7 @@ same_from low (d ∷ ds) (e ∷ es) left right weights =
     let here : place d.x d.y ≡ place e.x e.y = omega (arith, ints) in
     let row = row_from_place d.x d.y e.x e.y left.0.in_field right.0.in_field here in
     let column = column_from_place d.x d.y e.x e.y left.0.in_field right.0.in_field here in
-    let weight =
-    sym (weight_at-here d ds e.x e.y (record { column = column; row = row })) ∙ weights.same e.x e.y right.0.in_field
-    ∙ weight_at-here e es e.x e.y (record { column = refl; row = refl }) in
+    let weight : d.weight ≡ e.weight = grind (arith, ints, weight_at-here, weights.same e.x e.y right.0.in_field) in
     let same = same_dot d e row column weight in
     let others = subst (λ f. AreDotsFrom (place f.x f.y +ℤ pos 1) es) (sym same) right.2 in
     let tails = same_tails d ds es left.2 others (subst (λ f. HaveSameWeights (d ∷ ds) (f ∷ es)) (sym same) weights) in

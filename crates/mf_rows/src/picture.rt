@@ -36,7 +36,7 @@ impl Model for Picture {
     ghost view = { λ p. picture_of (weight_in_pile p.pile) };
 }
 
-#[tactic(auto, using(crate::proofs::PicturePiles::lawful_pile))]
+#[tactic(auto, using(crate::proofs::PicturePiles::of_piles))]
 impl Picture {
     ghost use Rattle.mf_rows.specs.Bounds.{AreBounds, IsLeastBox, among_dots, is_positive_at};
     ghost use Rattle.mf_strips.specs.Corners.{AreCorners, HaveFieldStripWeights};
@@ -194,7 +194,6 @@ impl Picture {
     /// The picture after each weight is mapped by itself, as `cull` does (The METAFONTbook, chapter 13; mf.web:
     /// `cull_edges`); this one is unchanged. Requires a map under which 0 stays 0 and weights in -32767..=32767 become
     /// such weights. Refused with `OutOfMemory` where an allocation fails, never for a blank picture.
-    #[tactic(auto, using(crate::proofs::BlankPictures::blank_mapped))]
     pub fn map_weights(&self, alloc: Global, map: &WeightMap) -> Result<Picture, OutOfMemory>
         requires { IsWeightMap map.now }
         ensures weights { IfOk result (HasWeights (mapped_weights map.now (weight_at self.now))) }

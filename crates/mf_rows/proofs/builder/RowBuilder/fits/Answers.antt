@@ -1,6 +1,6 @@
 use Rattle.std.proofs.Common.{arith}
 use Rattle.std.proofs.lemmas.Int.{ints}
-use Rattle.mf_rows.proofs.RunCorners.{end_from_fits, fits_from_end, lawful_built}
+use Rattle.mf_rows.proofs.RunCorners.{end_from_fits, fits_from_end}
 use Rattle.mf_rows.proofs.builder.RowBuilder.fits.Goals as goal
 
 pub returns-then-is_lawful-clause-answer : goal.returns-then-is_lawful-clause-answer
@@ -10,9 +10,3 @@ returns-then-is_lawful-clause-answer c =
       λ test. fits_from_end _ _ c.args.run.now c.self.invariant run (omega (arith, ints)),
       λ fits. let le = end_from_fits _ _ c.args.run.now c.self.invariant fits in grind (arith, ints),
     )
-
-pub returns-then-is_lawful-clause-lawful : goal.returns-then-is_lawful-clause-lawful
-returns-then-is_lawful-clause-lawful c = rw (← c.self.view_is) (lawful_built _ _ c.self.invariant)
-
-pub returns-else-is_lawful-clause-lawful : goal.returns-else-is_lawful-clause-lawful
-returns-else-is_lawful-clause-lawful c = rw (← c.self.view_is) (lawful_built _ _ c.self.invariant)

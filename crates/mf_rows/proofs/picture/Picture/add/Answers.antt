@@ -1,15 +1,7 @@
-use Rattle.std.proofs.Common.{sym, arith}
 use Rattle.std.specs.Arc.{arc_value}
 use Rattle.std.proofs.lemmas.Result.{on_ok_weaker}
-use Rattle.mf_rows.proofs.BlankPictures.{blank_added, added_to_blank}
 use Rattle.mf_rows.proofs.PicturePiles.{has_weights, sum_is}
 use Rattle.mf_rows.proofs.picture.Picture.add.Goals as goal
-
-pub returns-then-is_blank-clause-weights : goal.returns-then-is_blank-clause-weights
-returns-then-is_blank-clause-weights c = grind (arith, blank_added)
-
-pub returns-then-is_blank-2-clause-weights : goal.returns-then-is_blank-2-clause-weights
-returns-then-is_blank-2-clause-weights c = rw (c.drop.view_is, c.in_ok-self-inside.ensures.value) (grind (arith, added_to_blank, sym))
 
 pub returns-clause-weights : goal.returns-clause-weights
 returns-clause-weights c =

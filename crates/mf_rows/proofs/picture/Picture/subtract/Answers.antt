@@ -1,12 +1,7 @@
-use Rattle.std.proofs.Common.{arith}
 use Rattle.std.specs.Arc.{arc_value}
 use Rattle.std.proofs.lemmas.Result.{on_ok_weaker}
-use Rattle.mf_rows.proofs.BlankPictures.{blank_subtracted}
 use Rattle.mf_rows.proofs.PicturePiles.{difference_is, has_weights}
 use Rattle.mf_rows.proofs.picture.Picture.subtract.Goals as goal
-
-pub returns-then-is_blank-clause-weights : goal.returns-then-is_blank-clause-weights
-returns-then-is_blank-clause-weights c = grind (arith, blank_subtracted)
 
 pub returns-clause-weights : goal.returns-clause-weights
 returns-clause-weights c =
