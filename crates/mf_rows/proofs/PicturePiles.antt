@@ -125,10 +125,6 @@ pub ruleset weights_of_edges = (lawful_pile, pile_weight, edges_of_part, other_r
 pub part_is : (p : Pile) (part : Part) → HaveStripWeights (weight_in_pile p) (strips_in part) → weight_in_part part ≡ weight_at (picture_of (weight_in_pile p))
 part_is p part whole = λ i x y. (whole.weights x y ∙ sym (pile_weight p x y)) i
 
-pub ruleset of_piles = (
-  ints, sym, to_z-of_z, lawful_pile, part_is, pile_weight, total_of-picture_of, blank_pile, blank_added, added_to_blank, blank_subtracted, blank_mapped,
-)
-
 -- the picture of a pile has the weights of the pile in the field
 pub has_weights : {f g : ℤ → ℤ → ℤ} (p : Pile) → HasPileWeights g p → ((x y : ℤ) → IsInField x y → g x y ≡ f x y) → HasWeights f (picture_of (weight_in_pile p))
 has_weights p has same = record { weights = λ x y inside. pile_weight p x y ∙ has.weights x y ∙ same x y inside }
@@ -161,3 +157,19 @@ strips_inside columns rows ds part is inside = record {
   across = λ x y some. holds_at_weight (λ x y. PlaceStaysInside columns x) ds x y inside.across (rw is at some);
   up = λ x y some. holds_at_weight (λ x y. PlaceStaysInside rows y) ds x y inside.up (rw is at some);
 }
+
+-- what the methods of pictures use
+pub ruleset of_piles = (
+  ints,
+  sym,
+  to_z-of_z,
+  lawful_pile,
+  part_is,
+  pile_weight,
+  total_of-picture_of,
+  blank_pile,
+  blank_added,
+  added_to_blank,
+  blank_subtracted,
+  blank_mapped,
+)

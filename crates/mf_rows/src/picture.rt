@@ -141,6 +141,7 @@ impl Picture {
     /// picture shares all parts of the other one. Refused with `WeightTooLarge` where a weight would exceed 32767 in absolute value,
     /// and with `OutOfMemory` where an allocation fails; a refusal leaves this picture as it was. Adding a blank picture is never
     /// refused.
+    #[tactic(auto, using(crate::proofs::PicturePiles::of_piles, crate::proofs::PicturePiles::sum_is, crate::proofs::PicturePiles::has_weights))]
     pub fn add(&mut self, alloc: Global, other: &Picture) -> Result<(), AddFault>
         ensures weights { OnOk result (HasWeights (sum_at self.old other.now) self.new) }
         ensures blank { other.now ≡ [] → IsOk result }

@@ -1,6 +1,7 @@
 -- The rows of strips.
 use Rattle.std.proofs.Common.{◌≡◌, ℤ, pos, ◌+ℤ◌, ◌-ℤ◌, ◌≤ℤ◌, ◌<ℤ◌, List, [], ◌∷◌, ◌++◌, refl, ◌∙◌, arith}
-use Rattle.std.proofs.lemmas.Bool.{cond-true, cond-false}
+use Rattle.std.specs.Int.RustNames.{int_lt}
+use Rattle.std.proofs.lemmas.Bool.{cond_both, cond-true, cond-false}
 use Rattle.std.proofs.lemmas.Int.{ints, by_lt_z}
 use Rattle.std.proofs.lemmas.List.Elements.{All-head, All-tail}
 use Rattle.mf_geom.specs.Coordinates.{greatest_coordinate}
@@ -30,8 +31,7 @@ pub row_in-pushed : (above : List Edge) (ss : List EdgeStrip) (s : EdgeStrip) (y
 unfolding row_in
 row_in-pushed above [] s y lower below = grind (arith, ints, cond-true)
 row_in-pushed above (t ∷ ts) s y lower below =
-    let higher : s.top <ℤ t.top = All-head (λ t. s.top <ℤ t.top) t ts lower in
-    row_in-below above t (ts ++ s ∷ []) y (omega (arith, ints)) ∙ row_in-pushed t.edges ts s y (All-tail (λ t. s.top <ℤ t.top) t ts lower) below
+    grind (arith, ints, cond-true, All-head, row_in-pushed t.edges ts s y (All-tail (λ t. s.top <ℤ t.top) t ts lower) below)
 
 -- and no others
 pub row_in-kept : (above : List Edge) (ss : List EdgeStrip) (s : EdgeStrip) (y : ℤ) → s.top ≤ℤ y → row_in above (ss ++ s ∷ []) y ≡ row_in above ss y
@@ -61,22 +61,19 @@ wider_strips top reach next (s ∷ ss) le most strips =
     (wider_strip reach next s le most strips.0, strips.1, wider_strips (s.top -ℤ pos 1) reach next ss le most strips.2)
 
 -- each row of strips is that of a strip, or the one above
-pub row_lawful : (top reach : ℤ) (above : List Edge) (ss : List EdgeStrip) (y : ℤ) → AreEdges above → AreStripsFrom top reach ss → AreEdges (row_in above ss y)
+row_in-all : (P : List Edge → Type 0) (top reach : ℤ) (above : List Edge) (ss : List EdgeStrip) (y : ℤ) → P above
+    → ((s : EdgeStrip) → IsStrip reach s → P s.edges) → AreStripsFrom top reach ss → P (row_in above ss y)
 unfolding row_in
-row_lawful top reach above [] y edges strips = edges
-row_lawful top reach above (s ∷ ss) y edges strips =
-    by_lt_z y s.top
-    (λ lt. rw (row_in-below above s ss y lt) (row_lawful (s.top -ℤ pos 1) reach s.edges ss y strips.0.edges strips.2))
-    (λ le. rw (row_in-from above (s ∷ ss) y le) edges)
+row_in-all P top reach above [] y first each strips = first
+row_in-all P top reach above (s ∷ ss) y first each strips =
+    cond_both (int_lt y s.top) (row_in s.edges ss y) above P (λ _. row_in-all P (s.top -ℤ pos 1) reach s.edges ss y (each s strips.0) each strips.2) (λ _. first)
+
+pub row_lawful : (top reach : ℤ) (above : List Edge) (ss : List EdgeStrip) (y : ℤ) → AreEdges above → AreStripsFrom top reach ss → AreEdges (row_in above ss y)
+row_lawful top reach above ss y edges = row_in-all AreEdges top reach above ss y edges (λ s strip. strip.edges)
 
 pub row_reached : (top reach : ℤ) (above : List Edge) (ss : List EdgeStrip) (y : ℤ) → StaysInReach reach above → AreStripsFrom top reach ss
     → StaysInReach reach (row_in above ss y)
-unfolding row_in
-row_reached top reach above [] y reached strips = reached
-row_reached top reach above (s ∷ ss) y reached strips =
-    by_lt_z y s.top
-    (λ lt. rw (row_in-below above s ss y lt) (row_reached (s.top -ℤ pos 1) reach s.edges ss y strips.0.reached strips.2))
-    (λ le. rw (row_in-from above (s ∷ ss) y le) reached)
+row_reached top reach above ss y reached = row_in-all (StaysInReach reach) top reach above ss y reached (λ s strip. strip.reached)
 
 -- ---- blank rows
 
@@ -97,6 +94,4 @@ none_reached reach least most = record { most = most; within = λ x. rw (no_weig
 -- where all weights of a row are 0, it has no edges
 pub blank_row : (low : ℤ) (es : List Edge) → AreEdgesFrom low es → ((x : ℤ) → weight_in es x ≡ pos 0) → es ≡ []
 blank_row low [] sorted blank = refl
-blank_row low (e ∷ es) sorted blank =
-    absurd (sorted.0.nonzero
-    (omega (arith, ints, blank e.x, weight_in-left e es e.x (omega (arith, ints)), weight_in-before (e.x +ℤ pos 1) es e.x sorted.2 (omega (arith, ints)))))
+blank_row low (e ∷ es) sorted blank = grind (arith, ints, blank e.x, weight_in-left, weight_in-before)

@@ -13,7 +13,7 @@ use mf_edges::Stretch;
 use mf_strips::{mirrored_columns, mirrored_rows, stretched, turned};
 use std::alloc::Global;
 
-#[tactic(auto, using(crate::proofs::PicturePiles::lawful_pile))]
+#[tactic(auto, using(crate::proofs::PicturePiles::of_piles, crate::proofs::PicturePiles::strips_inside))]
 impl Picture {
     /// The picture reflected in the line between columns -1 and 0: column x becomes column -x - 1 (mf.web:
     /// `x_reflect_edges`). This one is unchanged. Refused with `OutOfMemory` where an allocation fails.
