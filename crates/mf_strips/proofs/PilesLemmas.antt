@@ -86,11 +86,14 @@ pub sum_is_small : (a r x : ℤ) → pos 0 ≤ℤ a → a ≤ℤ greatest_weight
 sum_is_small a r x least_a most_a least_r most_r is = omega (arith, ints)
 
 -- a pile of one part
-pub single_piled : (p : Arc Part Global) → ArePiled (p ∷ []) (arc_value p).reach
+pub single_weight : (p : Arc Part Global) (x y : ℤ) → weight_in_parts (p ∷ []) x y ≡ weight_in_part (arc_value p) x y
 unfolding weight_in_parts
+single_weight p x y = omega (arith, ints)
+
+pub single_piled : (p : Arc Part Global) → ArePiled (p ∷ []) (arc_value p).reach
 single_piled p = record {
   few = omega arith;
-  within = λ x y. let own = part_in_reach (arc_value p) x y in record { least = omega (arith, ints, own.least); greatest = omega (arith, ints, own.greatest) };
+  within = λ x y. rw single_weight (part_in_reach (arc_value p) x y);
   most = (arc_value p).lawful.most;
 }
 
@@ -157,3 +160,6 @@ sum_is p all part whole = λ i x y. whole.weights x y i +ℤ weight_in_part part
 pub unlawful_as : {f g : ℤ → ℤ → ℤ} (unlawful : IsUnlawfulSomewhere f) → (IsInField unlawful.x unlawful.y → g unlawful.x unlawful.y ≡ f unlawful.x unlawful.y)
     → IsUnlawfulSomewhere g
 unlawful_as unlawful same = grind (arith, ints)
+
+-- what the methods of piles use
+pub ruleset of_piles = (ints, alone, none_piled, pile_itself, same_pile, single_piled, single_weight, weights_shared)

@@ -16,6 +16,7 @@ use mf_edges::MAX_WEIGHT;
 use std::alloc::Global;
 use std::sync::Arc;
 
+#[tactic(auto, using(crate::proofs::PilesLemmas::of_piles))]
 impl Pile {
     /// No parts. Allocates nothing.
     pub fn blank(alloc: Global) -> Pile
@@ -110,7 +111,6 @@ impl Pile {
     }
 
     /// Joins the last parts while the one before the last is at most twice as large, as far as there is memory for that.
-    #[tactic(auto, using(crate::proofs::PilesLemmas::same_pile, crate::proofs::PilesLemmas::pile_itself))]
     fn join_small(&mut self, alloc: Global)
         ensures { HasPileWeights (weight_in_pile self.old) self.new }
     {
@@ -133,7 +133,6 @@ impl Pile {
 
     /// Joins all parts. Refused with `OutOfMemory` where an allocation fails; some parts may then have been joined. The weights stay as
     /// they are.
-    #[tactic(auto, using(crate::proofs::PilesLemmas::same_pile, crate::proofs::PilesLemmas::pile_itself))]
     fn join_all(&mut self, alloc: Global) -> Result<(), OutOfMemory>
         ensures weights { HasPileWeights (weight_in_pile self.old) self.new }
         ensures one { OnOk result (length self.new.parts.items ≤ 1) }

@@ -1,11 +1,7 @@
 use Rattle.std.proofs.Common.{◌∙◌, arith}
 use Rattle.std.proofs.lemmas.List.{nil_from_length}
-use Rattle.mf_strips.proofs.PilesLemmas.{alone, none_alone, no_strips}
+use Rattle.mf_strips.proofs.PilesLemmas.{none_alone, no_strips}
 use Rattle.mf_strips.proofs.pile.Pile.joined.Goals as goal
-
-pub returns-in-Some : goal.returns-in-Some
-returns-in-Some c =
-    alone _ _ _ _ (c.in_ok-join_all.ensures.one) c.in-Some.ensures.items (λ x y. c.in_ok-join_all.ensures.weights.weights x y ∙ c.in_ok-pile.ensures.weights x y)
 
 pub finish-requires : goal.finish-requires
 finish-requires c = rw c.in_ok-with_room-in-None.ensures no_strips
