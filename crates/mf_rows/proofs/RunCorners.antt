@@ -165,3 +165,6 @@ pub part_built : (ks : List Corner) (end : ℤ) (ss : List EdgeStrip) → AreBui
 part_built ks end ss built made =
     sym (picture_of-from_weights (picture_of_corners ks) (weight_in_strips ss) (lawful_built ks built.swept)
     (λ x y inside. weight_at-picture_of (added_by_all ks) x y inside ∙ sym (made.weights x y inside)))
+
+-- what the methods of builders use
+pub ruleset of_builders = (ints, lawful_built, none_built, blank_built, fits_from_end, end_from_fits)

@@ -35,6 +35,7 @@ impl Model for RowBuilder {
     ghost invariant = { λ b. AreBuilt b.corners.items b.end };
 }
 
+#[tactic(auto, using(crate::proofs::RunCorners::of_builders), unfolding(crate::specs::Dots::place, crate::specs::Dots::start_of_field))]
 impl RowBuilder {
     ghost use Rattle.mf_rows.specs.Dots.{IsPicture};
 
@@ -51,7 +52,6 @@ impl RowBuilder {
 
     /// Whether the run may be pushed: it has at least one pixel, lies in the field, has a weight in -32767..=32767 that
     /// is not 0, and comes entirely after the last pushed run.
-    #[tactic(auto, using(crate::proofs::RunCorners::lawful_built))]
     pub fn fits(&self, run: &Run) -> bool
         ensures answer { IsTrue result ↔ Fits self.now run.now }
         ensures lawful { IsPicture self.now }

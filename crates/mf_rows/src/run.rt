@@ -33,6 +33,7 @@ impl Run {
     }
 
     /// The place of its first pixel in reading order.
+    #[tactic(auto, using(std::proofs::lemmas::Int::ints), unfolding(crate::specs::Dots::place))]
     pub(crate) fn place(&self) -> i32
         requires { IsRun self.now }
         ensures { result ≡ place self.now.x self.now.y }

@@ -6,10 +6,6 @@ use Rattle.mf_rows.specs.Runs.{dots_of}
 use Rattle.mf_rows.proofs.RunCorners.{built_with, run_built}
 use Rattle.mf_rows.proofs.builder.RowBuilder.push_run.Goals as goal
 
-pub overflow_add-self : goal.overflow_add-self
-unfolding place
-overflow_add-self c = let run = c.requires.run in omega (arith, ints)
-
 pub invariant_of-self-2 : goal.invariant_of-self-2
 unfolding place
 invariant_of-self-2 c =
