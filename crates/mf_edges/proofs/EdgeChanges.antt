@@ -1,8 +1,10 @@
 -- The edges of a row after each of them is negated, reflected or stretched.
-use Rattle.std.proofs.Common.{◌≡◌, ◌≤◌, ℤ, pos, neg_ℤ, ◌+ℤ◌, ◌≤ℤ◌, ◌<ℤ◌, unsigned_abs, List, [], ◌∷◌, ◌++◌, map, refl, sym, ap, subst, ◌∙◌, arith}
+use Rattle.std.proofs.Common.{◌≡◌, ℕ, ◌<◌, ◌≤◌, ℤ, pos, neg_ℤ, ◌+ℤ◌, ◌-ℤ◌, ◌≤ℤ◌, ◌<ℤ◌, unsigned_abs, List, [], ◌∷◌, length, get_or, map, reverse, refl, sym, ap, subst, ◌∙◌, arith}
 use Rattle.std.specs.List.{All}
 use Rattle.std.proofs.lemmas.Int.{ints, by_lt_z}
-use Rattle.std.proofs.lemmas.List.Elements.{All-nil, All-head, All-tail, All-push}
+use Rattle.std.proofs.lemmas.List.{reverse-append}
+use Rattle.std.proofs.lemmas.List.Sorted.{All-permutation, IsPermutation-reverse}
+use Rattle.std.proofs.lemmas.List.Elements.{All-head, All-map, All-tail}
 use Rattle.mf_geom.specs.Coordinates.{least_coordinate, greatest_coordinate, IsCoordinate}
 use Rattle.mf_edges.specs.declared.edge.Edge.{Edge}
 use Rattle.mf_edges.specs.declared.stretch.Stretch.{Stretch}
@@ -11,6 +13,7 @@ use Rattle.mf_edges.specs.Axes.{opposite, target_of, source_of, IsStretch}
 use Rattle.mf_edges.specs.LawfulWeights.{IsInReach, IsLawfulWeight}
 use Rattle.mf_edges.specs.Reaches.{StaysInReach}
 use Rattle.mf_edges.specs.Sums.{HaveWeights}
+use Rattle.mf_edges.proofs.EdgesAt.{edges_from-at}
 use Rattle.mf_edges.proofs.EdgesLemmas.{weight_in-left, weight_in-right, weight_in-before, weight_in-append, edges_from-append}
 use Rattle.mf_edges.proofs.Sources.{target_of-lt, source_of-reached, source_of-from}
 
@@ -36,6 +39,28 @@ row_moved source reach es new edges reached sorted weights closed = record {
   weights = record { weights = weights };
 }
 
+-- what the images of edges add at column x, with what the edges add at column a, is what the edges add at column b
+weight_in-images : (g : Edge → Edge) (x a b : ℤ) (es : List Edge) → All (λ e. weight_in (g e ∷ []) x +ℤ weight_in (e ∷ []) a ≡ weight_in (e ∷ []) b) es
+    → weight_in (map g es) x +ℤ weight_in es a ≡ weight_in es b
+unfolding weight_in
+weight_in-images g x a b [] all = refl
+weight_in-images g x a b (e ∷ es) all =
+    let first = All-head (λ e. weight_in (g e ∷ []) x +ℤ weight_in (e ∷ []) a ≡ weight_in (e ∷ []) b) e es all in
+    let others = weight_in-images g x a b es (All-tail (λ e. weight_in (g e ∷ []) x +ℤ weight_in (e ∷ []) a ≡ weight_in (e ∷ []) b) e es all) in
+    omega (arith, ints)
+
+-- images of edges in a rising order of columns
+edges_from-map : (g : Edge → Edge) (low new : ℤ) (es : List Edge) → ((e f : Edge) → e.x <ℤ f.x → (g e).x <ℤ (g f).x) → AreEdgesFrom low es
+    → All (λ e. IsEdge (g e)) es → ((e : Edge) → low ≤ℤ e.x → IsEdge (g e) → new ≤ℤ (g e).x) → AreEdgesFrom new (map g es)
+edges_from-map g low new [] rises sorted edges from = tt
+edges_from-map g low new (e ∷ es) rises sorted edges from =
+    let first = All-head (λ e. IsEdge (g e)) e es edges in (
+      first,
+      from e sorted.1 first,
+      edges_from-map g (e.x +ℤ pos 1) ((g e).x +ℤ pos 1) es rises sorted.2 (All-tail (λ e. IsEdge (g e)) e es edges)
+          (λ f after _. let lt = rises e f (omega (arith, ints)) in omega (arith, ints)),
+    )
+
 -- ---- weights that are negated
 
 abbrev pub negative_edge : Edge → Edge
@@ -47,20 +72,18 @@ weight_in-negative [] x = refl
 weight_in-negative (e ∷ es) x =
     let rest = weight_in-negative es x in
     by_lt_z x e.x
-    (λ before. omega (arith, ints, rest, weight_in-right e es x before, weight_in-right (negative_edge e) (map negative_edge es) x before))
-    (λ here. omega (arith, ints, rest, weight_in-left e es x here, weight_in-left (negative_edge e) (map negative_edge es) x here))
+    (λ lt. omega (arith, ints, rest, weight_in-right e es x lt, weight_in-right (negative_edge e) (map negative_edge es) x lt))
+    (λ le. omega (arith, ints, rest, weight_in-left e es x le, weight_in-left (negative_edge e) (map negative_edge es) x le))
 
-edges_from-negative : (low : ℤ) (es : List Edge) → AreEdgesFrom low es → AreEdgesFrom low (map negative_edge es)
-edges_from-negative low [] edges = tt
-edges_from-negative low (e ∷ es) edges = (
-  record { column = edges.0.column; nonzero = λ none. edges.0.nonzero (omega (arith, ints, none)) },
-  edges.1,
-  edges_from-negative (e.x +ℤ pos 1) es edges.2,
-)
+negative_edges : (low : ℤ) (es : List Edge) → AreEdgesFrom low es → AreEdgesFrom low (map negative_edge es)
+negative_edges low es edges =
+    edges_from-map negative_edge low low es (λ e f lt. lt) edges
+    (λ k d lt. let edge = (edges_from-at low es k d edges lt).0 in record { column = edge.column; nonzero = λ none. edge.nonzero (omega (arith, ints, none)) })
+    (λ e le _. le)
 
 pub row_negative : (reach : ℤ) (es : List Edge) → AreEdges es → StaysInReach reach es → RowBecomes negate_row reach es (map negative_edge es)
 row_negative reach es edges reached = record {
-  edges = grind (arith, ints, edges_from-negative, weight_in-negative);
+  edges = grind (arith, ints, negative_edges, weight_in-negative);
   reached = grind (arith, ints, weight_in-negative);
   weights = record { weights = weight_in-negative es };
 }
@@ -71,50 +94,42 @@ row_negative reach es edges reached = record {
 abbrev pub opposite_edge : Edge → Edge
 opposite_edge e = record { x = neg_ℤ e.x; weight = neg_ℤ e.weight }
 
-abbrev pub opposite_edges : List Edge → List Edge
-opposite_edges [] = []
-opposite_edges (e ∷ es) = opposite_edges es ++ opposite_edge e ∷ []
+weight_in-reverse : (es : List Edge) (x : ℤ) → weight_in (reverse es) x ≡ weight_in es x
+unfolding weight_in
+weight_in-reverse [] x = refl
+weight_in-reverse (e ∷ es) x =
+    ap (λ es. weight_in es x) (reverse-append (e ∷ []) es) ∙ weight_in-append (reverse es) (e ∷ []) x ∙ omega (arith, ints, weight_in-reverse es x)
 
-opposite_edges-before : (low column : ℤ) (es : List Edge) → AreEdgesFrom low es → neg_ℤ low <ℤ column → All (λ e. e.x <ℤ column) (opposite_edges es)
-opposite_edges-before low column [] edges before = All-nil (λ e. e.x <ℤ column)
-opposite_edges-before low column (e ∷ es) edges before =
-    let start : low ≤ℤ e.x = edges.1 in
-    All-push (λ e. e.x <ℤ column) (opposite_edges es) (opposite_edge e)
-    (opposite_edges-before (e.x +ℤ pos 1) column es edges.2 (omega (arith, ints))) (omega (arith, ints))
-
-opposite_edges-sorted : (low : ℤ) (es : List Edge) → AreEdgesFrom low es → AreEdgesFrom least_coordinate (opposite_edges es)
-opposite_edges-sorted low [] edges = tt
-opposite_edges-sorted low (e ∷ es) edges =
+opposites_sorted : (low : ℤ) (es : List Edge) → AreEdgesFrom low es → AreEdgesFrom least_coordinate (reverse (map opposite_edge es))
+opposites_sorted low [] edges = tt
+opposites_sorted low (e ∷ es) edges =
     let edge : IsEdge (opposite_edge e) = grind (arith, ints) in
-    edges_from-append least_coordinate (neg_ℤ e.x) (opposite_edges es) (opposite_edge e ∷ []) edge.column.least
-    (opposite_edges-sorted (e.x +ℤ pos 1) es edges.2)
-    (opposite_edges-before (e.x +ℤ pos 1) (neg_ℤ e.x) es edges.2 (omega (arith, ints)))
-    (edge, omega (arith, ints), tt)
+    rw (reverse-append (opposite_edge e ∷ []) (map opposite_edge es)) (
+    edges_from-append least_coordinate (neg_ℤ e.x) (reverse (map opposite_edge es)) (opposite_edge e ∷ []) edge.column.least
+    (opposites_sorted (e.x +ℤ pos 1) es edges.2)
+    (All-permutation (λ d. d.x <ℤ neg_ℤ e.x) _ _ (IsPermutation-reverse (map opposite_edge es))
+    (All-map (λ d. d.x <ℤ neg_ℤ e.x) opposite_edge es (λ k d lt. omega (arith, ints, (edges_from-at (e.x +ℤ pos 1) es k d edges.2 lt).1))))
+    (edge, omega (arith, ints), tt))
 
 -- what the image of an edge adds at a column, together with the edge's weight, is what the edge adds at the opposite
 -- column
-weight_in-opposite_edge : (e : Edge) (x : ℤ) → weight_in (opposite_edge e ∷ []) x +ℤ e.weight ≡ weight_in (e ∷ []) (opposite x)
+weight_in-opposite_edge : (e : Edge) (x : ℤ) → e.x ≤ℤ greatest_coordinate
+    → weight_in (opposite_edge e ∷ []) x +ℤ weight_in (e ∷ []) greatest_coordinate ≡ weight_in (e ∷ []) (opposite x)
 unfolding weight_in
-weight_in-opposite_edge e x = grind (arith, ints, by_lt_z, weight_in-right, weight_in-left)
-
-weight_in-opposite_edges : (low : ℤ) (es : List Edge) (x : ℤ) → AreEdgesFrom low es
-    → weight_in (opposite_edges es) x +ℤ weight_in es greatest_coordinate ≡ weight_in es (opposite x)
-unfolding weight_in
-weight_in-opposite_edges low [] x edges = refl
-weight_in-opposite_edges low (e ∷ es) x edges =
-    let others = weight_in-opposite_edges (e.x +ℤ pos 1) es x edges.2 in
-    let parts = weight_in-append (opposite_edges es) (opposite_edge e ∷ []) x in
-    let own = weight_in-opposite_edge e x in
-    let all = weight_in-left e es greatest_coordinate edges.0.column.greatest in
-    let whole = weight_in-append (e ∷ []) es (opposite x) in
-    omega (arith, ints)
+weight_in-opposite_edge e x le = grind (arith, ints, by_lt_z, weight_in-right, weight_in-left)
 
 -- the edges of a row have a sum of 0, so a column of the images has the weight of the opposite column of the row
-pub row_opposite : (reach : ℤ) (es : List Edge) → AreEdges es → StaysInReach reach es → RowBecomes (move_row opposite) reach es (opposite_edges es)
+pub row_opposite : (reach : ℤ) (es : List Edge) → AreEdges es → StaysInReach reach es
+    → RowBecomes (move_row opposite) reach es (reverse (map opposite_edge es))
+unfolding weight_in
 row_opposite reach es edges reached =
-    let weights : (x : ℤ) → weight_in (opposite_edges es) x ≡ weight_in es (opposite x) =
-    λ x. let sum = weight_in-opposite_edges least_coordinate es x edges.sorted in omega (arith, ints, edges.closed) in
-    row_moved opposite reach es (opposite_edges es) edges reached (opposite_edges-sorted least_coordinate es edges.sorted) weights
+    let weights : (x : ℤ) → weight_in (reverse (map opposite_edge es)) x ≡ weight_in es (opposite x) =
+    λ x.
+    let all = weight_in-images opposite_edge x greatest_coordinate (opposite x) es
+    (λ k d lt. weight_in-opposite_edge (get_or es k d) x (edges_from-at least_coordinate es k d edges.sorted lt).0.column.greatest) in
+    let same = weight_in-reverse (map opposite_edge es) x in
+    omega (arith, ints, edges.closed) in
+    row_moved opposite reach es (reverse (map opposite_edge es)) edges reached (opposites_sorted least_coordinate es edges.sorted) weights
     (weights greatest_coordinate ∙ weight_in-before least_coordinate es (opposite greatest_coordinate) edges.sorted (omega (arith, ints)))
 
 -- ---- columns that are stretched
@@ -133,37 +148,26 @@ module _ (s : Stretch) (stretch : IsStretch s) where
   weight_in-stretched (e ∷ es) x =
       grind (arith, ints, by_lt_z, source_of-reached, weight_in-right, sym, weight_in-left, source_of-from, weight_in-stretched es x)
 
-  -- the points at or to the right of a column are, when stretched, at or to the right of another
-  stretched-sorted : (low new : ℤ) (es : List Edge)
-      → ((x : ℤ) → low ≤ℤ x → IsCoordinate (target_of s x) → new ≤ℤ target_of s x) → AreEdgesFrom low es
-      → EdgesStayInside s es → AreEdgesFrom new (map (target_edge s) es)
-  stretched-sorted low new [] right edges inside = tt
-  stretched-sorted low new (e ∷ es) right edges inside =
-      let in_range = All-head (λ e. IsCoordinate (target_of s e.x)) e es inside in (
-        record { column = in_range; nonzero = edges.0.nonzero },
-        right e.x edges.1 in_range,
-        stretched-sorted (e.x +ℤ pos 1) (target_of s e.x +ℤ pos 1) es
-            (λ x after reached. let target = target_of-lt s e.x x stretch (omega (arith, ints)) in omega (arith, ints))
-            edges.2 (All-tail (λ e. IsCoordinate (target_of s e.x)) e es inside),
-      )
-
-  -- to the right of the field both rows have the sum of all their edges
-  stretched-closed : (low : ℤ) (es : List Edge) → AreEdgesFrom low es → EdgesStayInside s es
-      → weight_in (map (target_edge s) es) greatest_coordinate ≡ weight_in es greatest_coordinate
-  unfolding weight_in
-  stretched-closed low [] edges inside = refl
-  stretched-closed low (e ∷ es) edges inside =
-      let in_range = All-head (λ e. IsCoordinate (target_of s e.x)) e es inside in
-      weight_in-left (target_edge s e) (map (target_edge s) es) greatest_coordinate in_range.greatest
-      ∙ ap (λ w. e.weight +ℤ w) (stretched-closed (e.x +ℤ pos 1) es edges.2 (All-tail (λ e. IsCoordinate (target_of s e.x)) e es inside))
-      ∙ sym (weight_in-left e es greatest_coordinate edges.0.column.greatest)
-
   pub row_stretched : (reach : ℤ) (es : List Edge) → AreEdges es → StaysInReach reach es → EdgesStayInside s es
       → RowBecomes (move_row (source_of s)) reach es (map (target_edge s) es)
+  unfolding weight_in
   row_stretched reach es edges reached inside =
+      let edge : (k : ℕ) (d : Edge) → k < length es → IsEdge (get_or es k d) = λ k d lt. (edges_from-at least_coordinate es k d edges.sorted lt).0 in
       row_moved (source_of s) reach es (map (target_edge s) es) edges reached
-      (stretched-sorted least_coordinate least_coordinate es (λ x low in_range. in_range.least) edges.sorted inside) (weight_in-stretched es)
-      (stretched-closed least_coordinate es edges.sorted inside ∙ edges.closed)
+      (edges_from-map (target_edge s) least_coordinate least_coordinate es (λ e f lt. target_of-lt s e.x f.x stretch lt) edges.sorted
+      (λ k d lt. record { column = inside k d lt; nonzero = (edge k d lt).nonzero }) (λ e low in_range. in_range.column.least))
+      (weight_in-stretched es)
+      (omega (
+        arith,
+        ints,
+        edges.closed,
+        weight_in-before least_coordinate es (least_coordinate -ℤ pos 1) edges.sorted (omega (arith, ints)),
+        weight_in-images (target_edge s) greatest_coordinate (least_coordinate -ℤ pos 1) greatest_coordinate es (λ k d lt.
+            let right = weight_in-left (target_edge s (get_or es k d)) [] greatest_coordinate (inside k d lt).greatest in
+            let none = weight_in-right (get_or es k d) [] (least_coordinate -ℤ pos 1) (omega (arith, ints, (edge k d lt).column.least)) in
+            let all = weight_in-left (get_or es k d) [] greatest_coordinate (edge k d lt).column.greatest in
+            omega (arith, ints)),
+      ))
 
 -- ---- the numbers that the code computes
 

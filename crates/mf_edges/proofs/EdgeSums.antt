@@ -1,6 +1,6 @@
 -- The sum of two rows of edges, column by column.
-use Rattle.std.proofs.Common.{◌≡◌, ◌≢◌, ℕ, Bool, true, false, cond, ℤ, pos, ◌+ℤ◌, ◌-ℤ◌, ◌≤ℤ◌, ◌<ℤ◌, FitsSigned}
-use Rattle.std.proofs.Common.{to_z, of_z, w32, List, [], ◌∷◌, ◌++◌, get_or, take, drop, refl, ap, sym, subst, ◌∙◌, arith}
+use Rattle.std.proofs.Common.{◌≡◌, ◌≢◌, ℕ, Bool, true, false, cond, ℤ, pos, ◌+ℤ◌, ◌-ℤ◌, ◌≤ℤ◌, ◌<ℤ◌}
+use Rattle.std.proofs.Common.{List, [], ◌∷◌, ◌++◌, take, drop, refl, ap, sym, ◌∙◌, arith}
 use Rattle.std.specs.List.{All}
 use Rattle.std.specs.Int.RustNames.{int_le}
 use Rattle.std.proofs.lemmas.Bool.{cond-true, cond-false, cond_both}
@@ -12,11 +12,11 @@ use Rattle.mf_geom.specs.Coordinates.{least_coordinate, IsCoordinate}
 use Rattle.mf_edges.specs.declared.edge.Edge.{Edge}
 use Rattle.mf_edges.specs.LawfulWeights.{IsLawfulWeight}
 use Rattle.mf_edges.specs.Edges.{weight_in, AreEdgesFrom, AreEdges}
-use Rattle.mf_edges.specs.Merging.{IsDifference, AreChanges, AreEdgesLeft, BeginAt, BeginFrom, IsSplitAt, unless_zero}
+use Rattle.mf_edges.specs.Merging.{IsDifference, AreChanges, AreEdgesLeft, BeginFrom, IsSplitAt, unless_zero}
 use Rattle.mf_edges.specs.Sums.{with_edge_in, weight_in_both, IsEdgeSum, HasMoreEdges}
-use Rattle.mf_edges.proofs.EdgesAt.{step_at_edge}
+use Rattle.mf_edges.proofs.EdgesAt.{IsStep, all_steps}
 use Rattle.mf_edges.proofs.EdgesLemmas.{weight_in-append, weight_in-left, weight_in-right, weight_in-parts}
-use Rattle.mf_edges.proofs.EdgesLemmas.{edges_from-append, edges_from-drop, edges_from-lower, edges_from-take}
+use Rattle.mf_edges.proofs.EdgesLemmas.{edges_from-append, edges_from-drop, edges_from-take}
 
 -- ---- one edge more
 
@@ -34,28 +34,15 @@ with_edge_in-none es x c = grind (arith, ints, by_lt_z, with_edge_in-before, wit
 
 -- ---- the edges at a column
 
-pub split_here : (es : List Edge) (e : Edge) (others : List Edge) (x : ℤ) → AreEdgesLeft x es → es ≡ e ∷ others → e.x ≡ x → IsSplitAt es x e.weight others
-split_here es e others x left is here =
-    let first = subst (AreEdgesLeft x) is left in
-    rw is (record {
-      weights = grind (arith, ints, by_lt_z, weight_in-right, sym, with_edge_in-before, weight_in-left, with_edge_in-after);
-      difference = All-head (λ e. IsDifference e.weight) e others first.differences;
-      rest = record { sorted = rw (← here) first.sorted.2; differences = All-tail (λ e. IsDifference e.weight) e others first.differences };
-      no_longer = omega arith;
-      shorter = λ _. omega arith;
-    })
+pub split_here : (e : Edge) (others : List Edge) → AreEdgesLeft e.x (e ∷ others) → IsSplitAt (e ∷ others) e.x e.weight others
+split_here e others left = record {
+  weights = grind (arith, ints, by_lt_z, weight_in-right, sym, with_edge_in-before, weight_in-left, with_edge_in-after);
+  difference = All-head (λ e. IsDifference e.weight) e others left.differences;
+  rest = record { sorted = left.sorted.2; differences = All-tail (λ e. IsDifference e.weight) e others left.differences };
+}
 
-pub begins_elsewhere : (es : List Edge) (e : Edge) (others : List Edge) (x : ℤ) → es ≡ e ∷ others → e.x ≢ x → BeginAt x es → ⊥
-begins_elsewhere es e others x is apart here = apart (subst (BeginAt x) is here)
-
-begins_after : (es : List Edge) (x : ℤ) → AreEdgesFrom x es → (BeginAt x es → ⊥) → AreEdgesFrom (x +ℤ pos 1) es
-begins_after [] x sorted apart = tt
-begins_after (e ∷ es) x sorted apart =
-    let start : x ≤ℤ e.x = sorted.1 in
-    (sorted.0, by_lt_z x e.x (λ lt. omega (arith, ints)) (λ le. absurd (apart (omega (arith, ints)))), sorted.2)
-
-pub split_after : (es : List Edge) (x : ℤ) → AreEdgesLeft x es → (BeginAt x es → ⊥) → IsSplitAt es x (pos 0) es
-split_after es x left apart = grind (arith, ints, sym, with_edge_in-none, begins_after)
+pub split_after : (es : List Edge) (x : ℤ) → AreEdgesLeft x es → BeginFrom (x +ℤ pos 1) es → IsSplitAt es x (pos 0) es
+split_after es x left from = grind (arith, ints, sym, with_edge_in-none, edges_from-drop x (x +ℤ pos 1) 0 es left.sorted from)
 
 -- a column at which an edge may be, at or to the right of column low
 pub record IsColumnFrom (low x : ℤ) : Type 0 where
@@ -75,19 +62,11 @@ changes_of_edges es edges = grind (arith, ints)
 pub changes_left : (es : List Edge) → AreChanges es → AreEdgesLeft least_coordinate es
 changes_left es changes = record {
   sorted = changes.sorted;
-  differences = λ at d lt.
-      let e : Edge = get_or es at d in
-      let step = step_at_edge _ es at d changes.sorted lt in
+  differences = All-weaker (IsStep es) (λ e. IsDifference e.weight) (λ e step.
       let old = changes.changes (e.x -ℤ pos 1) in
       let new = changes.changes e.x in
-      record { least = omega (arith, ints); greatest = omega (arith, ints) };
+      record { least = omega (arith, ints, step); greatest = omega (arith, ints, step) }) es (all_steps es changes.sorted);
 }
-
-pub difference_is : (w : ℤ) → IsDifference w → to_z w32 (of_z w32 w) ≡ w
-difference_is w difference = omega (arith, ints, difference.least, difference.greatest)
-
-pub more_fits : (v w : ℤ) → IsDifference v → IsDifference w → FitsSigned w32 (v +ℤ w)
-more_fits v w left right = omega (arith, ints, left.least, left.greatest, right.least, right.greatest)
 
 -- ---- an edge is pushed
 
@@ -118,9 +97,8 @@ before_push sum low x w before le =
 -- ---- the sum so far
 
 -- new edges have, together with the edges that are left of two rows, the weights f; the edges that are left are at or to the right of
--- a column, and the new ones are to the left of it
-pub record IsSumSoFar (f : ℤ → ℤ) (new es fs : List Edge) : Type 0 where
-  pub low : ℤ
+-- column low, and the new ones are to the left of it
+pub record IsSumSoFar (f : ℤ → ℤ) (low : ℤ) (new es fs : List Edge) : Type 0 where
   pub reach : least_coordinate ≤ℤ low
   pub sorted : AreEdgesFrom least_coordinate new
   pub below : All (λ e. e.x <ℤ low) new
@@ -128,10 +106,9 @@ pub record IsSumSoFar (f : ℤ → ℤ) (new es fs : List Edge) : Type 0 where
   pub right : AreEdgesLeft low fs
   pub weights : (x : ℤ) → weight_in new x +ℤ weight_in_both es fs x ≡ f x
 
-pub sum_none : (es fs : List Edge) → AreEdges es → AreChanges fs → IsSumSoFar (weight_in_both es fs) [] es fs
+pub sum_none : (es fs : List Edge) → AreEdges es → AreChanges fs → IsSumSoFar (weight_in_both es fs) least_coordinate [] es fs
 unfolding weight_in
 sum_none es fs left right = record {
-  low = least_coordinate;
   reach = omega (arith, ints);
   sorted = tt;
   below = All-nil (λ e. e.x <ℤ least_coordinate);
@@ -150,68 +127,49 @@ nothing_more es = record { more = []; all = sym (append-nil es) }
 abbrev pub still_more : {before after : List Edge} → HasMoreEdges before after → (es : List Edge) → HasMoreEdges before (after ++ es)
 still_more {before = before} m es = record { more = m.more ++ es; all = ap (λ t. t ++ es) m.all ∙ append_assoc before m.more es }
 
-pub left_sorted : {f : ℤ → ℤ} {new es fs : List Edge} → IsSumSoFar f new es fs → AreEdgesFrom least_coordinate es
-left_sorted {es = es} so_far = edges_from-lower least_coordinate so_far.low es so_far.reach so_far.left.sorted
-
--- the next change comes after the first n edges of the left row
-pub record IsNextChange (e : Edge) (es : List Edge) (n : ℕ) : Type 0 where
-  pub below : All (λ d. d.x <ℤ e.x) (take n es)
-  pub from : BeginFrom e.x (drop n es)
-
--- these edges join, and then the change with the edge at its column
-module _ {f : ℤ → ℤ} {new es changes fs : List Edge} {e : Edge} {n : ℕ} (so_far : IsSumSoFar f new es changes) (changes_are : changes ≡ e ∷ fs)
-    (next : IsNextChange e es n) where
-  right_left : AreEdgesLeft so_far.low (e ∷ fs)
-  right_left = subst (AreEdgesLeft so_far.low) changes_are so_far.right
-
-  pub left_of_change : AreEdgesLeft e.x (drop n es)
-  left_of_change = record {
-    sorted = edges_from-drop so_far.low e.x n es so_far.left.sorted next.from;
-    differences = All-drop (λ e. IsDifference e.weight) n es so_far.left.differences;
-  }
-
-  pub change_difference : IsDifference e.weight
-  change_difference = All-head (λ e. IsDifference e.weight) e fs right_left.differences
-
-  abbrev kept : List Edge
-  kept = new ++ take n es
-
-  kept_sorted : AreEdgesFrom least_coordinate kept
-  kept_sorted =
-      edges_from-append least_coordinate so_far.low new (take n es) so_far.reach so_far.sorted so_far.below
-      (edges_from-take so_far.low n es so_far.left.sorted)
-
-  kept_below : All (λ d. d.x <ℤ e.x) kept
-  kept_below =
-      let start : so_far.low ≤ℤ e.x = right_left.sorted.1 in
-      All-append (λ d. d.x <ℤ e.x) new (take n es)
-      (All-weaker (λ d. d.x <ℤ so_far.low) (λ d. d.x <ℤ e.x) (λ d lt. omega (arith, ints)) new so_far.below) next.below
-
-  pub sum_more : (v : ℤ) (others : List Edge) → IsSplitAt (drop n es) e.x v others
-      → IsSumSoFar f (kept ++ unless_zero (record { x = e.x; weight = v +ℤ e.weight })) others fs
-  unfolding weight_in weight_in_both with_edge_in
-  sum_more v others split =
-      let edge = right_left.sorted.0 in
-      let column : IsColumnFrom e.x e.x = record { from = omega (arith, ints); column = edge.column } in
+-- the next change comes after the first n edges of the left row, which join
+module _ {f : ℤ → ℤ} {low : ℤ} {new es fs : List Edge} {e : Edge} (so_far : IsSumSoFar f low new es (e ∷ fs)) (n : ℕ)
+    (below : All (λ d. d.x <ℤ e.x) (take n es)) (from : BeginFrom e.x (drop n es)) where
+  pub sum_kept : IsSumSoFar f e.x (new ++ take n es) (drop n es) (e ∷ fs)
+  unfolding weight_in_both
+  sum_kept =
+      let start : low ≤ℤ e.x = so_far.right.sorted.1 in
       record {
-        low = e.x +ℤ pos 1;
-        reach = omega (arith, ints, edge.column.least);
-        sorted = sorted_push kept e.x e.x (v +ℤ e.weight) kept_sorted kept_below column;
-        below = before_push kept e.x e.x (v +ℤ e.weight) kept_below column.from;
-        left = split.rest;
-        right = record { sorted = right_left.sorted.2; differences = All-tail (λ e. IsDifference e.weight) e fs right_left.differences };
-        weights = λ x.
-            let old = rw changes_are at (so_far.weights x) in
-            let parts = weight_in-parts n es x in
-            let pushed = weight_in-push kept e.x (v +ℤ e.weight) x in
-            let joined = weight_in-append new (take n es) x in
-            let here = split.weights.weights x in
-            let both = cond-sum (int_le e.x x) v e.weight in
-            omega (arith, ints);
+        reach = omega (arith, ints, so_far.reach);
+        sorted = edges_from-append least_coordinate low new (take n es) so_far.reach so_far.sorted so_far.below (edges_from-take low n es so_far.left.sorted);
+        below = All-append (λ d. d.x <ℤ e.x) new (take n es)
+            (All-weaker (λ d. d.x <ℤ low) (λ d. d.x <ℤ e.x) (λ d lt. omega (arith, ints)) new so_far.below) below;
+        left = record {
+          sorted = edges_from-drop low e.x n es so_far.left.sorted from;
+          differences = All-drop (λ e. IsDifference e.weight) n es so_far.left.differences;
+        };
+        right = record { sorted = (so_far.right.sorted.0, omega (arith, ints), so_far.right.sorted.2); differences = so_far.right.differences };
+        weights = λ x. omega (arith, ints, so_far.weights x, weight_in-append new (take n es) x, weight_in-parts n es x);
       }
 
+-- then the change joins with the edge at its column
+pub sum_more : {f : ℤ → ℤ} {new es fs others : List Edge} {e : Edge} {v : ℤ} → IsSumSoFar f e.x new es (e ∷ fs) → IsSplitAt es e.x v others
+    → IsSumSoFar f (e.x +ℤ pos 1) (new ++ unless_zero (record { x = e.x; weight = v +ℤ e.weight })) others fs
+unfolding weight_in weight_in_both with_edge_in
+sum_more {new = new} {fs = fs} {e = e} {v = v} so_far split =
+    let edge = so_far.right.sorted.0 in
+    let column : IsColumnFrom e.x e.x = record { from = so_far.right.sorted.1; column = edge.column } in
+    record {
+      reach = omega (arith, ints, edge.column.least);
+      sorted = sorted_push new e.x e.x (v +ℤ e.weight) so_far.sorted so_far.below column;
+      below = before_push new e.x e.x (v +ℤ e.weight) so_far.below column.from;
+      left = split.rest;
+      right = record { sorted = so_far.right.sorted.2; differences = All-tail (λ e. IsDifference e.weight) e fs so_far.right.differences };
+      weights = λ x.
+          let old = so_far.weights x in
+          let pushed = weight_in-push new e.x (v +ℤ e.weight) x in
+          let here = split.weights.weights x in
+          let both = cond-sum (int_le e.x x) v e.weight in
+          omega (arith, ints);
+    }
+
 -- where no change is left, all other edges of the left row join
-pub sum_all : {whole_left whole_right new es : List Edge} → IsSumSoFar (weight_in_both whole_left whole_right) new es []
+pub sum_all : {whole_left whole_right new es : List Edge} {low : ℤ} → IsSumSoFar (weight_in_both whole_left whole_right) low new es []
     → IsEdgeSum whole_left whole_right (new ++ es)
 unfolding weight_in weight_in_both
 sum_all {new = new} {es = es} so_far = grind (arith, ints, edges_from-append, weight_in-append)

@@ -1,12 +1,14 @@
--- An edge of a row, by its place, and the edges before it.
-use Rattle.std.proofs.Common.{◌≡◌, ℕ, zero, suc, ◌<◌, ◌+◌, ℤ, pos, ◌+ℤ◌, ◌-ℤ◌, ◌≤ℤ◌, ◌<ℤ◌, List, [], ◌∷◌, length, get_or, take, sym, ap, ◌∙◌, arith}
+-- The edges of a row, one after another.
+use Rattle.std.proofs.Common.{◌≡◌, ℕ, zero, suc, ◌<◌, ◌+◌, ℤ, pos, ◌+ℤ◌, ◌-ℤ◌, ◌≤ℤ◌, ◌<ℤ◌, List, [], ◌∷◌, length, get_or, drop, subst, ◌∙◌, arith}
+use Rattle.std.specs.List.{All}
 use Rattle.std.proofs.lemmas.Int.{ints}
-use Rattle.std.proofs.lemmas.List.{take_more}
+use Rattle.std.proofs.lemmas.List.{drop_more}
+use Rattle.std.proofs.lemmas.List.Elements.{All-nil, All-cons}
+use Rattle.mf_geom.specs.Coordinates.{least_coordinate}
 use Rattle.mf_edges.specs.declared.edge.Edge.{Edge}
-use Rattle.mf_edges.specs.Edges.{weight_in, IsEdge, AreEdgesFrom}
-use Rattle.mf_edges.specs.LawfulWeights.{IsLawfulWeight}
+use Rattle.mf_edges.specs.Edges.{weight_in, IsEdge, AreEdgesFrom, AreEdges}
 use Rattle.mf_edges.specs.Merging.{IsChange}
-use Rattle.mf_edges.proofs.EdgesLemmas.{weight_in-append, weight_in-left, weight_in-right, weight_in-before}
+use Rattle.mf_edges.proofs.EdgesLemmas.{weight_in-before, weight_in-left, weight_in-right}
 
 pub edges_from-at : (low : ℤ) (es : List Edge) (at : ℕ) (d : Edge) → AreEdgesFrom low es → at < length es
     → IsEdge (get_or es at d) × (low ≤ℤ (get_or es at d).x)
@@ -16,69 +18,68 @@ edges_from-at low (e ∷ es) (suc at) d from lt =
     let rest = edges_from-at (e.x +ℤ pos 1) es at d from.2 (omega arith) in
     (rest.0, omega (arith, ints, from.1, rest.1))
 
--- the edges before it have, to the left of its column, the weights of the row
-pub weight_in-take : (low : ℤ) (es : List Edge) (at : ℕ) (d : Edge) (x : ℤ) → AreEdgesFrom low es → at < length es
-    → x <ℤ (get_or es at d).x → weight_in (take at es) x ≡ weight_in es x
-unfolding weight_in
-weight_in-take low [] at d x from lt left = absurd (omega (arith, lt))
-weight_in-take low (e ∷ es) zero d x from lt left = sym (weight_in-before e.x (e ∷ es) x (from.0, omega (arith, ints), from.2) left)
-weight_in-take low (e ∷ es) (suc at) d x from lt left = omega (arith, ints, weight_in-take (e.x +ℤ pos 1) es at d x from.2 (omega arith) left)
+-- the weight at column x that the edges before those that are left give it
+abbrev pub passed_in : List Edge → List Edge → ℤ → ℤ
+passed_in es left x = weight_in es x -ℤ weight_in left x
 
--- and from there on the weight just to the left of it
-pub weight_in-take_after : (low : ℤ) (es : List Edge) (at : ℕ) (d : Edge) (x : ℤ) → AreEdgesFrom low es → at < length es
-    → (get_or es at d).x ≤ℤ x → weight_in (take at es) x ≡ weight_in es ((get_or es at d).x -ℤ pos 1)
-unfolding weight_in
-weight_in-take_after low [] at d x from lt after = absurd (omega (arith, lt))
-weight_in-take_after low (e ∷ es) zero d x from lt after =
-    sym (weight_in-before e.x (e ∷ es) (e.x -ℤ pos 1) (from.0, omega (arith, ints), from.2) (omega (arith, ints)))
-weight_in-take_after low (e ∷ es) (suc at) d x from lt after =
-    let here = get_or es at d in
-    let right = (edges_from-at (e.x +ℤ pos 1) es at d from.2 (omega arith)).1 in
-    omega (
-      arith,
-      ints,
-      weight_in-take_after (e.x +ℤ pos 1) es at d x from.2 (omega arith) after,
-      weight_in-left e (take at es) x (omega (arith, ints, right)),
-      weight_in-left e es (here.x -ℤ pos 1) (omega (arith, ints, right)),
-    )
+-- w is the sum of those edges, and the ones that are left are at or to the right of column low
+pub record ArePassed (es left : List Edge) (w : ℤ) : Type 0 where
+  pub low : ℤ
+  pub sorted : AreEdgesFrom low left
+  pub sum : (x : ℤ) → low ≤ℤ (x +ℤ pos 1) → passed_in es left x ≡ w
+
+abbrev pub none_passed : (es : List Edge) → AreEdgesFrom least_coordinate es → ArePassed es es (pos 0)
+none_passed es sorted = record { low = least_coordinate; sorted = sorted; sum = λ x after. omega (arith, ints) }
 
 -- the weight of an edge is the difference between the weights at its column and before it
-pub step_at_edge : (low : ℤ) (es : List Edge) (at : ℕ) (d : Edge) → AreEdgesFrom low es → at < length es
-    → weight_in es (get_or es at d).x ≡ weight_in es ((get_or es at d).x -ℤ pos 1) +ℤ (get_or es at d).weight
-step_at_edge low [] at d from lt = absurd (omega (arith, lt))
-step_at_edge low (e ∷ es) zero d from lt = grind (arith, ints, weight_in-left, weight_in-right, weight_in-before)
-step_at_edge low (e ∷ es) (suc at) d from lt =
-    let here = get_or es at d in
-    let right = (edges_from-at (e.x +ℤ pos 1) es at d from.2 (omega arith)).1 in
-    omega (
-      arith,
-      ints,
-      step_at_edge (e.x +ℤ pos 1) es at d from.2 (omega arith),
-      weight_in-left e es here.x (omega (arith, ints, right)),
-      weight_in-left e es (here.x -ℤ pos 1) (omega (arith, ints, right)),
-    )
+pub record IsStep (es : List Edge) (e : Edge) : Type 0 where
+  pub edge : IsEdge e
+  pub weight : weight_in es e.x ≡ weight_in es (e.x -ℤ pos 1) +ℤ e.weight
+
+-- where edges of a list are passed by index, the one at an index is next
+abbrev pub no_edge : Edge
+no_edge = record { x = pos 0; weight = pos 0 }
+
+pub next_edge : (es : List Edge) (at : ℕ) {w : ℤ} → ArePassed es (drop at es) w → at < length es → ArePassed es (get_or es at no_edge ∷ drop (at + 1) es) w
+next_edge es at {w = w} passed inside = subst (λ left. ArePassed es left w) (drop_more es at no_edge inside) passed
+
+module _ {es left : List Edge} {e : Edge} {w : ℤ} (passed : ArePassed es (e ∷ left) w) where
+  start : passed.low ≤ℤ e.x
+  start = passed.sorted.1
+
+  -- the row has the weights of the edges before it to the left of its column
+  pub all_before : (x : ℤ) → x <ℤ e.x → weight_in es x ≡ passed_in es (e ∷ left) x
+  all_before x lt = omega (arith, ints, weight_in-before e.x (e ∷ left) x (passed.sorted.0, omega (arith, ints), passed.sorted.2) lt)
+
+  pub passed_before : (x : ℤ) → x <ℤ e.x → passed_in es left x ≡ passed_in es (e ∷ left) x
+  passed_before x lt = omega (arith, ints, weight_in-right e left x lt)
+
+  pub passed_after : (x : ℤ) → e.x ≤ℤ x → passed_in es left x ≡ w +ℤ e.weight
+  passed_after x le = omega (arith, ints, passed.sum x (omega (arith, ints, start)), weight_in-left e left x le)
+
+  abbrev pub one_passed : ArePassed es left (w +ℤ e.weight)
+  one_passed = record { low = e.x +ℤ pos 1; sorted = passed.sorted.2; sum = λ x after. passed_after x (omega (arith, ints)) }
+
+  before : weight_in es (e.x -ℤ pos 1) ≡ w
+  before = all_before (e.x -ℤ pos 1) (omega (arith, ints)) ∙ passed.sum (e.x -ℤ pos 1) (omega (arith, ints, start))
+
+  pub here : weight_in es e.x ≡ w +ℤ e.weight
+  here = omega (arith, ints, passed_after e.x (omega (arith, ints)), weight_in-before (e.x +ℤ pos 1) left e.x passed.sorted.2 (omega (arith, ints)))
+
+  step : IsStep es e
+  step = record { edge = passed.sorted.0; weight = omega (arith, ints, before, here) }
+
+  -- what all weights of the row have, the weights before and after the edge have
+  pub both_weights : (P : ℤ → Type 0) → ((x : ℤ) → P (weight_in es x)) → P w × P (w +ℤ e.weight)
+  both_weights P all = (subst P before (all (e.x -ℤ pos 1)), subst P here (all e.x))
+
+steps_left : (es left : List Edge) (w : ℤ) → ArePassed es left w → All (IsStep es) left
+steps_left es [] w passed = All-nil (IsStep es)
+steps_left es (e ∷ left) w passed = All-cons (IsStep es) e left (step passed) (steps_left es left (w +ℤ e.weight) (one_passed passed))
+
+pub all_steps : (es : List Edge) → AreEdgesFrom least_coordinate es → All (IsStep es) es
+all_steps es sorted = steps_left es es (pos 0) (none_passed es sorted)
 
 -- so it is a change where the weights are lawful
-pub change_at_edge : (low : ℤ) (es : List Edge) (at : ℕ) (d : Edge) → AreEdgesFrom low es → ((x : ℤ) → IsLawfulWeight (weight_in es x))
-    → at < length es → IsChange (get_or es at d).weight
-change_at_edge low es at d from lawful lt =
-    let step = step_at_edge low es at d from lt in
-    let upper = lawful (get_or es at d).x in
-    let lower = lawful ((get_or es at d).x -ℤ pos 1) in
-    record { least = omega (arith, ints, step, upper, lower); greatest = omega (arith, ints, step, upper, lower) }
-
--- with it, the edges have from its column on its weight more
-pub weight_in-take_more : (es : List Edge) (at : ℕ) (d : Edge) (x : ℤ) → at < length es → (get_or es at d).x ≤ℤ x
-    → weight_in (take (at + 1) es) x ≡ weight_in (take at es) x +ℤ (get_or es at d).weight
-unfolding weight_in
-weight_in-take_more es at d x lt after =
-    ap (λ es. weight_in es x) (take_more es at d lt) ∙ weight_in-append (take at es) (get_or es at d ∷ []) x
-    ∙ omega (arith, ints, weight_in-left (get_or es at d) [] x after)
-
--- and to the left of it the same weights
-pub weight_in-take_same : (es : List Edge) (at : ℕ) (d : Edge) (x : ℤ) → at < length es → x <ℤ (get_or es at d).x
-    → weight_in (take (at + 1) es) x ≡ weight_in (take at es) x
-unfolding weight_in
-weight_in-take_same es at d x lt left =
-    ap (λ es. weight_in es x) (take_more es at d lt) ∙ weight_in-append (take at es) (get_or es at d ∷ []) x
-    ∙ omega (arith, ints, weight_in-right (get_or es at d) [] x left)
+pub step_is_change : {es : List Edge} {e : Edge} → AreEdges es → IsStep es e → IsChange e.weight
+step_is_change edges step = grind (arith, ints)

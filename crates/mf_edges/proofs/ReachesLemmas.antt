@@ -1,18 +1,17 @@
 -- The reach of edges, and of the sum of two rows.
-use Rattle.std.proofs.Common.{◌≡◌, ◌<◌, ◌≤◌, ◌+◌, nat_abs, ℕ, ℤ, get_or, take, length, to_z}
-use Rattle.std.proofs.Common.{of_z, w32, pos, ◌+ℤ◌, ◌-ℤ◌, ◌≤ℤ◌, List, refl, sym, subst, ap, ◌∙◌, arith}
+use Rattle.std.proofs.Common.{◌≡◌, nat_abs, ℤ, to_z}
+use Rattle.std.proofs.Common.{of_z, w32, pos, ◌+ℤ◌, ◌-ℤ◌, ◌≤ℤ◌, List, [], ◌∷◌, sym, ap, arith}
 use Rattle.std.specs.Ordering.{int_cmp, ord_max}
 use Rattle.std.proofs.lemmas.Cmp.{by_ranked, int_ranked}
 use Rattle.std.proofs.lemmas.Int.{ints, by_lt_z}
-use Rattle.std.proofs.lemmas.List.{take_all}
-use Rattle.mf_geom.specs.Coordinates.{least_coordinate, greatest_coordinate}
+use Rattle.mf_geom.specs.Coordinates.{least_coordinate}
 use Rattle.mf_edges.specs.declared.edge.Edge.{Edge}
 use Rattle.mf_edges.specs.LawfulWeights.{IsInReach, IsLawfulWeight, greatest_weight}
 use Rattle.mf_edges.specs.Edges.{weight_in, AreEdges}
-use Rattle.mf_edges.specs.Merging.{AreChanges, IsChange}
+use Rattle.mf_edges.specs.Merging.{AreChanges}
 use Rattle.mf_edges.specs.Reaches.{IsLeastReach, StaysInReach}
 use Rattle.mf_edges.specs.Sums.{IsEdgeSum, IsUnlawfulColumn, weight_in_both}
-use Rattle.mf_edges.proofs.EdgesAt.{edges_from-at, step_at_edge, weight_in-take_after, weight_in-take_more, weight_in-take_same}
+use Rattle.mf_edges.proofs.EdgesAt.{ArePassed, here, none_passed, one_passed, passed_after, passed_before, passed_in}
 use Rattle.mf_edges.proofs.EdgesLemmas.{weight_in-before}
 
 pub wider_reach : {reach next w : ℤ} → reach ≤ℤ next → IsInReach reach w → IsInReach next w
@@ -32,74 +31,43 @@ ord_max_is a b most below_a below_b = grind (arith, ints, by_greater)
 
 -- ---- the least reach of edges, edge by edge
 
--- w is the weight after the first edges, no weight of these exceeds a reach in absolute value, and a weight of all edges has it
-pub record IsReachSoFar (es : List Edge) (count : ℕ) (w reach : ℤ) : Type 0 where
-  pub weight : w ≡ weight_in (take count es) greatest_coordinate
-  pub within : (x : ℤ) → IsInReach reach (weight_in (take count es) x)
+-- no weight that the edges that were passed give exceeds a reach in absolute value, and a weight of all edges has it
+pub record IsReachSoFar (es left : List Edge) (w reach : ℤ) : Type 0 where
+  pub passed : ArePassed es left w
+  pub within : (x : ℤ) → IsInReach reach (passed_in es left x)
   pub x : ℤ
   pub here : pos (nat_abs (weight_in es x)) ≡ reach
 
-pub reach_none : (es : List Edge) → AreChanges es → IsReachSoFar es 0 (pos 0) (pos 0)
-unfolding weight_in
+pub reach_none : (es : List Edge) → AreChanges es → IsReachSoFar es es (pos 0) (pos 0)
 reach_none es changes = record {
-  weight = refl;
+  passed = none_passed es changes.sorted;
   within = λ x. record { least = omega (arith, ints); greatest = omega (arith, ints) };
   x = least_coordinate -ℤ pos 1;
   here = ap (λ w. pos (nat_abs w)) (weight_in-before least_coordinate es (least_coordinate -ℤ pos 1) changes.sorted (omega (arith, ints)));
 }
 
--- the weights before and after an edge, and the reach so far
-pub record AreChangesAt (w change reach : ℤ) : Type 0 where
-  pub before : IsChange w
-  pub after : IsChange (w +ℤ change)
-  pub reached : IsChange reach
-
-module _ (es : List Edge) (count : ℕ) (d : Edge) (w reach : ℤ) (changes : AreChanges es) (inside : count < length es)
-    (so_far : IsReachSoFar es count w reach) where
-  abbrev pub e : Edge
-  e = get_or es count d
-
-  before : (x : ℤ) → e.x ≤ℤ x → weight_in (take count es) x ≡ w
-  before x after =
-      let right = (edges_from-at least_coordinate es count d changes.sorted inside).0.column.greatest in
-      weight_in-take_after least_coordinate es count d x changes.sorted inside after
-      ∙ sym (weight_in-take_after least_coordinate es count d greatest_coordinate changes.sorted inside right) ∙ sym so_far.weight
-
-  at_edge : weight_in es e.x ≡ w +ℤ e.weight
-  at_edge =
-      let step = step_at_edge least_coordinate es count d changes.sorted inside in
-      let old = weight_in-take_after least_coordinate es count d e.x changes.sorted inside (omega (arith, ints)) in
-      let same = before e.x (omega (arith, ints)) in
-      omega (arith, ints)
-
-  pub changes_at : AreChangesAt w e.weight reach
-  changes_at = grind (arith, ints, weight_in-take_after, before, sym, at_edge)
-
+module _ {es left : List Edge} {e : Edge} {w reach : ℤ} (so_far : IsReachSoFar es (e ∷ left) w reach) where
   reach_grows : (next : ℤ) → reach ≤ℤ next → pos (nat_abs (w +ℤ e.weight)) ≤ℤ next → (x : ℤ) → pos (nat_abs (weight_in es x)) ≡ next
-      → IsReachSoFar es (count + 1) (w +ℤ e.weight) next
-  reach_grows next wider enough x here =
-      let right = (edges_from-at least_coordinate es count d changes.sorted inside).0.column.greatest in
-      record {
-        weight = sym (weight_in-take_more es count d greatest_coordinate inside right ∙ ap (λ v. v +ℤ e.weight) (sym so_far.weight));
-        within = λ x. by_lt_z x e.x
-            (λ left. let same = weight_in-take_same es count d x inside left in subst (IsInReach next) (sym same) (wider_reach wider (so_far.within x)))
-            (λ after.
-            let more = weight_in-take_more es count d x inside after in
-            let old = before x after in
-            record { least = omega (arith, ints); greatest = omega (arith, ints) });
-        x = x;
-        here = here;
-      }
+      → IsReachSoFar es left (w +ℤ e.weight) next
+  reach_grows next wider enough x here = record {
+    passed = one_passed so_far.passed;
+    within = λ x. by_lt_z x e.x
+        (λ lt. rw (passed_before so_far.passed x lt) (wider_reach wider (so_far.within x)))
+        (λ le. rw (passed_after so_far.passed x le) (record { least = omega (arith, ints); greatest = omega (arith, ints) }));
+    x = x;
+    here = here;
+  }
 
   -- the greater of the reach and the absolute value of the next weight is the next reach
-  pub reach_more : IsReachSoFar es (count + 1) (w +ℤ e.weight) (ord_max int_cmp reach (pos (nat_abs (w +ℤ e.weight))))
+  pub reach_more : IsReachSoFar es left (w +ℤ e.weight) (ord_max int_cmp reach (pos (nat_abs (w +ℤ e.weight))))
   reach_more =
-      by_greater (IsReachSoFar es (count + 1) (w +ℤ e.weight)) reach (pos (nat_abs (w +ℤ e.weight)))
+      by_greater (IsReachSoFar es left (w +ℤ e.weight)) reach (pos (nat_abs (w +ℤ e.weight)))
       (λ enough. reach_grows reach (omega (arith, ints)) enough so_far.x so_far.here)
-      (λ wider. reach_grows (pos (nat_abs (w +ℤ e.weight))) wider (omega (arith, ints)) e.x (ap (λ v. pos (nat_abs v)) at_edge))
+      (λ wider. reach_grows (pos (nat_abs (w +ℤ e.weight))) wider (omega (arith, ints)) e.x (ap (λ v. pos (nat_abs v)) (here so_far.passed)))
 
-pub reach_all : (es : List Edge) (w reach : ℤ) (count : ℕ) → IsReachSoFar es count w reach → length es ≤ count → IsLeastReach reach es
-reach_all es w reach count so_far end = grind (arith, ints, take_all)
+pub reach_all : (es : List Edge) (w reach : ℤ) → IsReachSoFar es [] w reach → IsLeastReach reach es
+unfolding weight_in
+reach_all es w reach so_far = grind (arith, ints)
 
 -- ---- reaches that fit
 

@@ -1,5 +1,5 @@
 -- What is left of the edges of two rows while their sum is made.
-use Rattle.std.specs.Prelude.{◌≡◌, ◌<◌, ◌≤◌, ℤ, pos, ◌+ℤ◌, ◌-ℤ◌, ◌≤ℤ◌, All, List, [], ◌∷◌, length, if◌then◌else◌}
+use Rattle.std.specs.Prelude.{◌≡◌, ℤ, pos, ◌+ℤ◌, ◌-ℤ◌, ◌≤ℤ◌, All, List, [], ◌∷◌, if◌then◌else◌}
 use Rattle.std.specs.Ordering.{int_eq}
 use Rattle.mf_geom.specs.Coordinates.{least_coordinate, greatest_coordinate}
 use Rattle.mf_edges.specs.declared.edge.Edge.{Edge}
@@ -40,19 +40,11 @@ abbrev pub BeginFrom : ℤ → List Edge → Type 0
 BeginFrom x [] = Unit {0}
 BeginFrom x (e ∷ es) = x ≤ℤ e.x
 
--- the first edge is at column x
-abbrev pub BeginAt : ℤ → List Edge → Type 0
-BeginAt x [] = ⊥
-BeginAt x (e ∷ es) = e.x ≡ x
-
--- the edge at column x has weight w, or there is none and w is 0; the others are to the right of it and still to be added, and are
--- fewer where there is one
+-- the edge at column x has weight w, or there is none and w is 0; the others are to the right of it and still to be added
 pub record IsSplitAt (es : List Edge) (x w : ℤ) (others : List Edge) : Type 0 where
   pub weights : HaveWeights (with_edge_in others x w) es
   pub difference : IsDifference w
   pub rest : AreEdgesLeft (x +ℤ pos 1) others
-  pub no_longer : length others ≤ length es
-  pub shorter : BeginAt x es → length others < length es
 
 -- an edge, unless its weight is 0
 abbrev pub unless_zero : Edge → List Edge

@@ -52,7 +52,6 @@ pub fn total_of_edges(edges: &[Edge]) -> i64
 /// The least reach of edges: the greatest absolute value of the weights between them, 0 where there are no edges. Requires edges as
 /// `weight_at_column` does, but the weights between them may be sums of two lawful weights, in -65534..=65534. So they are the edges
 /// of a row exactly where their reach is at most 32767.
-#[tactic(auto, using(crate::proofs::ReachesLemmas::reach_all))]
 pub fn reach_of(edges: &[Edge]) -> i32
     requires { AreChanges edges.now }
     ensures { IsLeastReach result edges.now }

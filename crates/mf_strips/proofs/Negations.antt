@@ -2,13 +2,12 @@
 use Rattle.std.proofs.Common.{◌≡◌, ℤ, neg_ℤ, List, map, get_or, w32, refl, ◌∙◌, arith}
 use Rattle.std.specs.Int.{int_wrapping_neg}
 use Rattle.std.proofs.lemmas.Int.{ints, wrapping_neg_is, int_wrap_fits}
-use Rattle.mf_geom.specs.Coordinates.{least_coordinate}
 use Rattle.mf_edges.specs.declared.edge.Edge.{Edge}
 use Rattle.mf_edges.specs.Edges.{AreEdges, weight_in}
 use Rattle.mf_edges.specs.Merging.{IsChange}
 use Rattle.mf_edges.specs.Reaches.{StaysInReach}
 use Rattle.mf_edges.proofs.EdgeChanges.{RowBecomes, negate_row, negative_edge, row_negative}
-use Rattle.mf_edges.proofs.EdgesAt.{change_at_edge}
+use Rattle.mf_edges.proofs.EdgesAt.{all_steps, step_is_change}
 use Rattle.mf_strips.specs.Changes.{negated_edge, negated_weight_in}
 use Rattle.mf_strips.specs.Strips.{EdgeStrip, AreStrips, HaveStripWeights}
 use Rattle.mf_strips.proofs.StripMaps.{StripsBecome, each_row, map_same, strips_become, with_rows}
@@ -19,7 +18,7 @@ wrapped_negation z change = wrapping_neg_is w32 z (omega (arith, ints, change)) 
 pub row_negated : (reach : ℤ) (es : List Edge) → AreEdges es → StaysInReach reach es → RowBecomes negate_row reach es (map negated_edge es)
 row_negated reach es edges reached =
     rw (map_same negated_edge negative_edge es (λ k d lt.
-    let weight = wrapped_negation (get_or es k d).weight (change_at_edge least_coordinate es k d edges.sorted edges.lawful lt) in
+    let weight = wrapped_negation (get_or es k d).weight (step_is_change edges (all_steps es edges.sorted k d lt)) in
     λ i. record { x = (get_or es k d).x; weight = weight i }))
     (row_negative reach es edges reached)
 

@@ -9,7 +9,7 @@ use Rattle.mf_edges.specs.Axes.{IsStretch, PlaceStaysInside, source_of}
 use Rattle.mf_edges.specs.Edges.{weight_in, AreEdges, AreEdgesFrom}
 use Rattle.mf_edges.specs.Reaches.{StaysInReach}
 use Rattle.mf_edges.proofs.EdgeChanges.{EdgesStayInside, RowBecomes, move_row, row_stretched, target_edge}
-use Rattle.mf_edges.proofs.EdgesAt.{edges_from-at, step_at_edge}
+use Rattle.mf_edges.proofs.EdgesAt.{all_steps}
 use Rattle.mf_edges.proofs.EdgesLemmas.{weight_in-left, weight_in-before}
 use Rattle.mf_strips.specs.Moves.{StripsStayInside, moved_columns, moved_rows, stretched_edge}
 use Rattle.mf_strips.specs.Strips.{EdgeStrip, AreStrips, HaveStripWeights, row_in, weight_in_strips}
@@ -38,11 +38,10 @@ edges_stay : (s : Stretch) (es : List Edge) → AreEdgesFrom least_coordinate es
     → ((x : ℤ) → weight_in es x ≢ pos 0 → PlaceStaysInside s x) → EdgesStayInside s es
 edges_stay s es edges inside = λ k d lt.
     let e = get_or es k d in
-    let edge = (edges_from-at least_coordinate es k d edges lt).0 in
-    let step = step_at_edge least_coordinate es k d edges lt in
+    let step = all_steps es edges k d lt in
     by_zero (weight_in es e.x)
     (λ zero.
-    let left = inside (e.x -ℤ pos 1) (λ none. edge.nonzero (omega (arith, ints))) in
+    let left = inside (e.x -ℤ pos 1) (λ none. step.edge.nonzero (omega (arith, ints, step.weight))) in
     let same : (e.x -ℤ pos 1) +ℤ pos 1 ≡ e.x = omega (arith, ints) in
     rw same at left.end)
     (λ nonzero. (inside e.x nonzero).start)
@@ -51,8 +50,7 @@ row_wide : (s : Stretch) (reach : ℤ) (es : List Edge) → IsStretch s → AreE
     → RowBecomes (move_row (source_of s)) reach es (map (stretched_edge s) es)
 row_wide s reach es stretch edges reached inside =
     rw (map_same (stretched_edge s) (target_edge s) es (λ k d lt.
-    let edge = (edges_from-at least_coordinate es k d edges.sorted lt).0 in
-    let column = wrapped_is s (get_or es k d).x edge.column stretch (inside k d lt) in
+    let column = wrapped_is s (get_or es k d).x (all_steps es edges.sorted k d lt).edge.column stretch (inside k d lt) in
     λ i. record { x = column i; weight = (get_or es k d).weight }))
     (row_stretched s stretch reach es edges reached inside)
 

@@ -1,5 +1,5 @@
 -- Strips whose rows are changed alike.
-use Rattle.std.proofs.Common.{◌≡◌, ℤ, pos, ◌-ℤ◌, ◌≤ℤ◌, List, [], ◌∷◌, map, take, drop, refl, sym, ap, ◌∙◌, arith}
+use Rattle.std.proofs.Common.{◌≡◌, ℕ, ℤ, pos, ◌-ℤ◌, ◌≤ℤ◌, List, [], ◌∷◌, map, take, drop, refl, sym, ap, ◌∙◌, arith}
 use Rattle.std.specs.List.{All}
 use Rattle.std.proofs.lemmas.Int.{ints, by_lt_z}
 use Rattle.std.proofs.lemmas.List.{take-map, drop-map, length-map}
@@ -11,7 +11,7 @@ use Rattle.mf_edges.specs.Reaches.{StaysInReach}
 use Rattle.mf_edges.proofs.EdgeChanges.{RowBecomes}
 use Rattle.mf_strips.specs.declared.part.Part.{Part}
 use Rattle.mf_strips.specs.declared.strips.Head.{Head}
-use Rattle.mf_strips.specs.Heads.{strip_at, strips_at, AreHeads}
+use Rattle.mf_strips.specs.Heads.{strips_at, AreHeads}
 use Rattle.mf_strips.specs.Strips.{EdgeStrip, IsStrip, AreStrips, AreStripsFrom, row_in, weight_in_strips}
 use Rattle.mf_strips.specs.Sums.{IsFrom}
 use Rattle.mf_strips.proofs.StripsLemmas.{row_in-below, row_in-from}
@@ -23,19 +23,18 @@ with_row g s = record { top = s.top; edges = g s.edges }
 abbrev pub with_rows : (List Edge → List Edge) → List EdgeStrip → List EdgeStrip
 with_rows g ss = map (with_row g) ss
 
--- two changes of edges that are equal at each of these
-pub map_same : (f g : Edge → Edge) (es : List Edge) → All (λ e. f e ≡ g e) es → map f es ≡ map g es
+-- two maps that are equal at each of these
+pub map_same : {X Y : Type 0} (f g : X → Y) (xs : List X) → All (λ x. f x ≡ g x) xs → map f xs ≡ map g xs
 map_same f g [] same = refl
-map_same f g (e ∷ es) same = λ i. All-head (λ e. f e ≡ g e) e es same i ∷ map_same f g es (All-tail (λ e. f e ≡ g e) e es same) i
+map_same f g (x ∷ xs) same = λ i. All-head (λ x. f x ≡ g x) x xs same i ∷ map_same f g xs (All-tail (λ x. f x ≡ g x) x xs same) i
 
 -- where all edges that stand in a list are changed, so are all rows
+pub row_at-map : (g : Edge → Edge) (es : List Edge) (start count : ℕ) → take count (drop start (map g es)) ≡ map g (take count (drop start es))
+row_at-map g es start count = ap (take count) (drop-map g start es) ∙ take-map g count (drop start es)
+
 pub strips_at-map : (g : Edge → Edge) (es : List Edge) (hs : List Head) → strips_at (map g es) hs ≡ with_rows (map g) (strips_at es hs)
 strips_at-map g es [] = refl
-strips_at-map g es (h ∷ hs) =
-    let row : take h.count (drop h.start (map g es)) ≡ map g (take h.count (drop h.start es)) =
-    ap (take h.count) (drop-map g h.start es) ∙ take-map g h.count (drop h.start es) in
-    let first : strip_at (map g es) h ≡ with_row (map g) (strip_at es h) = λ i. record { top = h.top; edges = row i } in
-    λ i. first i ∷ strips_at-map g es hs i
+strips_at-map g es (h ∷ hs) = λ i. record { top = h.top; edges = row_at-map g es h.start h.count i } ∷ strips_at-map g es hs i
 
 pub heads-map : (g : Edge → Edge) (es : List Edge) (hs : List Head) → AreHeads es hs → AreHeads (map g es) hs
 heads-map g es hs heads = λ k d lt. record { there = omega (arith, (heads k d lt).there, length-map es g) }
