@@ -5,7 +5,7 @@ use Rattle.std.proofs.lemmas.List.{ext_get_or, get_or-drop, get_or-reverse, get_
 use Rattle.std.proofs.lemmas.List.Elements.{All-head, All-map, All-tail}
 use Rattle.mf_edges.specs.declared.edge.Edge.{Edge}
 use Rattle.mf_edges.specs.Axes.{opposite}
-use Rattle.mf_edges.specs.Edges.{AreEdges, weight_in}
+use Rattle.mf_edges.specs.Edges.{AreEdges}
 use Rattle.mf_edges.specs.Reaches.{StaysInReach}
 use Rattle.mf_edges.proofs.EdgeChanges.{RowBecomes, move_row, opposite_edge, row_opposite}
 use Rattle.mf_edges.proofs.EdgesAt.{all_steps, no_edge, step_is_change}
@@ -14,7 +14,7 @@ use Rattle.mf_strips.specs.Heads.{strips_at, IsHead, AreHeads}
 use Rattle.mf_strips.specs.Moves.{reflected_edge, reversed_head}
 use Rattle.mf_strips.specs.Strips.{EdgeStrip, AreStrips}
 use Rattle.mf_strips.proofs.Negations.{wrapped_negation}
-use Rattle.mf_strips.proofs.StripMaps.{StripsBecome, each_row, map_same, strips_become, row_at-map, with_rows}
+use Rattle.mf_strips.proofs.StripMaps.{StripsBecome, each_row, map_same, row_at-map, with_rows}
 
 -- ---- heads
 
@@ -58,5 +58,4 @@ row_reflected reach es edges reached =
     (row_opposite reach es edges reached)
 
 pub columns_mirrored : (reach : ℤ) (ss : List EdgeStrip) → AreStrips reach ss → StripsBecome (move_row opposite) reach ss (with_rows reflected_edges ss)
-unfolding weight_in
-columns_mirrored reach ss strips = strips_become _ _ reach ss strips refl (λ x. refl) (each_row _ _ reach ss strips (row_reflected reach))
+columns_mirrored reach ss strips = each_row _ _ reach ss strips refl (row_reflected reach)

@@ -3,14 +3,14 @@ use Rattle.std.proofs.Common.{◌≡◌, ℤ, neg_ℤ, List, map, get_or, w32, r
 use Rattle.std.specs.Int.{int_wrapping_neg}
 use Rattle.std.proofs.lemmas.Int.{ints, wrapping_neg_is, int_wrap_fits}
 use Rattle.mf_edges.specs.declared.edge.Edge.{Edge}
-use Rattle.mf_edges.specs.Edges.{AreEdges, weight_in}
+use Rattle.mf_edges.specs.Edges.{AreEdges}
 use Rattle.mf_edges.specs.Merging.{IsChange}
 use Rattle.mf_edges.specs.Reaches.{StaysInReach}
 use Rattle.mf_edges.proofs.EdgeChanges.{RowBecomes, negate_row, negative_edge, row_negative}
 use Rattle.mf_edges.proofs.EdgesAt.{all_steps, step_is_change}
 use Rattle.mf_strips.specs.Changes.{negated_edge, negated_weight_in}
 use Rattle.mf_strips.specs.Strips.{EdgeStrip, AreStrips, HaveStripWeights}
-use Rattle.mf_strips.proofs.StripMaps.{StripsBecome, each_row, map_same, strips_become, with_rows}
+use Rattle.mf_strips.proofs.StripMaps.{StripsBecome, each_row, map_same, with_rows}
 
 pub wrapped_negation : (z : ℤ) → IsChange z → int_wrapping_neg w32 z ≡ neg_ℤ z
 wrapped_negation z change = wrapping_neg_is w32 z (omega (arith, ints, change)) ∙ int_wrap_fits w32 (neg_ℤ z) (omega (arith, ints, change))
@@ -24,8 +24,7 @@ row_negated reach es edges reached =
 
 module _ (reach : ℤ) (ss : List EdgeStrip) (strips : AreStrips reach ss) where
   pub negated_strips : StripsBecome negate_row reach ss (with_rows (map negated_edge) ss)
-  unfolding weight_in
-  negated_strips = strips_become _ _ reach ss strips refl (λ x. refl) (each_row _ _ reach ss strips (row_negated reach))
+  negated_strips = each_row _ _ reach ss strips refl (row_negated reach)
 
   pub negated_weights : HaveStripWeights (negated_weight_in ss) (with_rows (map negated_edge) ss)
   unfolding negated_weight_in

@@ -1,6 +1,5 @@
 -- Strips whose columns and rows are stretched, where all pixels of nonzero weight stay in the field.
-use Rattle.std.proofs.Common.{◌≡◌, ◌≢◌, ℤ, pos, ◌+ℤ◌, ◌-ℤ◌, List, [], ◌∷◌, map, get_or, refl, sym, ap, ◌∙◌, arith}
-use Rattle.std.specs.List.{All}
+use Rattle.std.proofs.Common.{◌≡◌, ◌≢◌, ℤ, pos, ◌+ℤ◌, ◌-ℤ◌, List, [], ◌∷◌, map, get_or, refl, ap, ◌∙◌, arith}
 use Rattle.std.proofs.lemmas.Int.{ints, by_lt_z}
 use Rattle.mf_geom.specs.Coordinates.{least_coordinate, greatest_coordinate}
 use Rattle.mf_edges.specs.declared.edge.Edge.{Edge}
@@ -14,9 +13,9 @@ use Rattle.mf_edges.proofs.EdgesLemmas.{weight_in-left, weight_in-before}
 use Rattle.mf_strips.specs.Moves.{StripsStayInside, moved_columns, moved_rows, stretched_edge}
 use Rattle.mf_strips.specs.Strips.{EdgeStrip, AreStrips, HaveStripWeights, row_in, weight_in_strips}
 use Rattle.mf_strips.proofs.StretchedPlaces.{wrapped_is}
-use Rattle.mf_strips.proofs.StretchedRows.{RowsStayInside, each_own, stretched_strips, rows_stretched, strips_stretched}
-use Rattle.mf_strips.proofs.StripMaps.{StripsBecome, map_same, strips_become, with_rows, row_in-with_rows, strips_from-all}
-use Rattle.mf_strips.proofs.StripsLemmas.{row_lawful, no_edges}
+use Rattle.mf_strips.proofs.StretchedRows.{stretched_strips, rows_stretched, strips_stretched}
+use Rattle.mf_strips.proofs.StripMaps.{StripsBecome, map_same, strips_become, with_rows, row_in-with_rows}
+use Rattle.mf_strips.proofs.StripsLemmas.{none_reached, no_edges, row_lawful, row_reached}
 
 -- ---- edges
 
@@ -56,38 +55,25 @@ row_wide s reach es stretch edges reached inside =
 
 -- ---- strips
 
--- the pixels on both sides of an edge stay in the field, and so does the edge
-columns_allowed : (columns : Stretch) (reach : ℤ) (ss : List EdgeStrip) → AreStrips reach ss
-    → ((x y : ℤ) → weight_in_strips ss x y ≢ pos 0 → PlaceStaysInside columns x) → All (λ t. EdgesStayInside columns t.edges) ss
-unfolding weight_in_strips
-columns_allowed columns reach ss strips inside =
-    each_own (λ t. EdgesStayInside columns t.edges) [] greatest_coordinate reach ss strips.strips
-    (λ t strip le own. edges_stay columns t.edges strip.edges.sorted
-    (λ x nonzero. inside x (t.top -ℤ pos 1) (λ zero. nonzero (ap (λ es. weight_in es x) (sym own) ∙ zero))))
-
 module _ (columns rows : Stretch) (reach : ℤ) (ss : List EdgeStrip) (strips : AreStrips reach ss) (across : IsStretch columns) (up : IsStretch rows)
     (inside : StripsStayInside columns rows ss) where
   abbrev wide : List EdgeStrip
   wide = with_rows (map (stretched_edge columns)) ss
 
-  rows_wide : All (λ t. RowBecomes (move_row (source_of columns)) reach t.edges (map (stretched_edge columns) t.edges)) ss
-  rows_wide = λ k d lt.
-      let strip = strips_from-all greatest_coordinate reach ss strips.strips k d lt in
-      row_wide columns reach (get_or ss k d).edges across strip.edges strip.reached (columns_allowed columns reach ss strips inside.across k d lt)
+  row_at : (y : ℤ) → AreEdges (row_in [] ss y)
+  row_at y = row_lawful greatest_coordinate reach [] ss y no_edges strips.strips
 
   strips_wide : StripsBecome (move_row (source_of columns)) reach ss wide
-  unfolding weight_in
-  strips_wide = strips_become _ _ reach ss strips refl (λ x. refl) rows_wide
-
-  rows_inside : RowsStayInside rows wide
   unfolding weight_in_strips
-  rows_inside = record {
-    stay = λ y some.
-        let row = row_lawful greatest_coordinate reach [] ss y no_edges strips.strips in
-        first_weight least_coordinate (row_in [] ss y)
-        (λ none. some (row_in-with_rows (map (stretched_edge columns)) [] ss y ∙ ap (map (stretched_edge columns)) none))
-        row.sorted (λ x. inside.up x y);
-  }
+  strips_wide = strips_become _ _ reach ss strips refl (λ y.
+      row_wide columns reach (row_in [] ss y) across (row_at y) (row_reached greatest_coordinate reach [] ss y (none_reached reach strips.least strips.most) strips.strips)
+      (edges_stay columns (row_in [] ss y) (row_at y).sorted (λ x. inside.across x y)))
+
+  rows_inside : (y : ℤ) → row_in [] wide y ≢ [] → PlaceStaysInside rows y
+  unfolding weight_in_strips
+  rows_inside y some =
+      first_weight least_coordinate (row_in [] ss y)
+      (λ none. some (row_in-with_rows (map (stretched_edge columns)) [] ss y ∙ ap (map (stretched_edge columns)) none)) (row_at y).sorted (λ x. inside.up x y)
 
   pub strips_in_place : AreStrips reach (stretched_strips rows wide)
   strips_in_place = strips_stretched rows up reach wide strips_wide.strips rows_inside

@@ -1,5 +1,5 @@
 -- Strips whose rows are changed alike.
-use Rattle.std.proofs.Common.{◌≡◌, ℕ, ℤ, pos, ◌-ℤ◌, ◌≤ℤ◌, List, [], ◌∷◌, map, take, drop, refl, sym, ap, ◌∙◌, arith}
+use Rattle.std.proofs.Common.{◌≡◌, ℕ, ℤ, pos, ◌-ℤ◌, ◌≤ℤ◌, ◌<ℤ◌, List, [], ◌∷◌, map, take, drop, refl, sym, ap, subst, ◌∙◌, arith}
 use Rattle.std.specs.List.{All}
 use Rattle.std.proofs.lemmas.Int.{ints, by_lt_z}
 use Rattle.std.proofs.lemmas.List.{take-map, drop-map, length-map}
@@ -14,7 +14,7 @@ use Rattle.mf_strips.specs.declared.strips.Head.{Head}
 use Rattle.mf_strips.specs.Heads.{strips_at, AreHeads}
 use Rattle.mf_strips.specs.Strips.{EdgeStrip, IsStrip, AreStrips, AreStripsFrom, row_in, weight_in_strips}
 use Rattle.mf_strips.specs.Sums.{IsFrom}
-use Rattle.mf_strips.proofs.StripsLemmas.{row_in-below, row_in-from}
+use Rattle.mf_strips.proofs.StripsLemmas.{none_reached, no_edges, row_in-below, row_in-from, row_lawful, row_reached}
 
 -- a strip with a changed row
 abbrev pub with_row : (List Edge → List Edge) → EdgeStrip → EdgeStrip
@@ -48,15 +48,6 @@ row_in-with_rows g above (s ∷ ss) y =
     (λ under. row_in-below (g above) (with_row g s) (with_rows g ss) y under ∙ row_in-with_rows g s.edges ss y ∙ ap g (sym (row_in-below above s ss y under)))
     (λ over. row_in-from (g above) (with_rows g (s ∷ ss)) y over ∙ ap g (sym (row_in-from above (s ∷ ss) y over)))
 
--- what holds of the row above and of each strip's holds of each row
-pub row_in-has : (P : List Edge → Type 0) (above : List Edge) (ss : List EdgeStrip) (y : ℤ) → P above → All (λ s. P s.edges) ss → P (row_in above ss y)
-unfolding row_in
-row_in-has P above [] y first all = first
-row_in-has P above (s ∷ ss) y first all =
-    by_lt_z y s.top
-    (λ under. rw (row_in-below above s ss y under) (row_in-has P s.edges ss y (All-head (λ s. P s.edges) s ss all) (All-tail (λ s. P s.edges) s ss all)))
-    (λ over. rw (row_in-from above (s ∷ ss) y over) first)
-
 pub starts_from : (top reach : ℤ) (ss : List EdgeStrip) (y : ℤ) → AreStripsFrom top reach ss → top ≤ℤ y → IsFrom ss y
 starts_from top reach [] y strips le = tt
 starts_from top reach (s ∷ ss) y strips le = let start : s.top ≤ℤ top = strips.1 in omega (arith, ints)
@@ -77,43 +68,46 @@ tops_in_range es top reach (h ∷ hs) strips high =
 pub tops_of_part : (p : Part) (hs : List Head) → hs ≡ p.heads.items → All (λ h. IsCoordinate h.top) hs
 tops_of_part p hs same = rw same (tops_in_range p.edges.items greatest_coordinate p.reach p.heads.items p.lawful.strips (omega (arith, ints)))
 
--- so do all strips
+-- the rows of strips become those of others, whose weights are an image of theirs
 pub record StripsBecome (image : (ℤ → ℤ) → ℤ → ℤ) (reach : ℤ) (ss new : List EdgeStrip) : Type 0 where
   pub strips : AreStrips reach new
   pub weights : (x y : ℤ) → weight_in_strips new x y ≡ image (λ z. weight_in_strips ss z y) x
 
 module _ (g : List Edge → List Edge) (image : (ℤ → ℤ) → ℤ → ℤ) (reach : ℤ) where
-  strips_from : (top : ℤ) (ss : List EdgeStrip) → AreStripsFrom top reach ss → All (λ s. RowBecomes image reach s.edges (g s.edges)) ss
+  abbrev Becomes : List Edge → Type 0
+  Becomes es = RowBecomes image reach es (g es)
+
+  strips_from : (above : List Edge) (top : ℤ) (ss : List EdgeStrip) → AreStripsFrom top reach ss → ((y : ℤ) → y <ℤ top → Becomes (row_in above ss y))
       → AreStripsFrom top reach (with_rows g ss)
-  strips_from top [] strips all = tt
-  strips_from top (s ∷ ss) strips all =
-      let row = All-head (λ s. RowBecomes image reach s.edges (g s.edges)) s ss all in (
+  strips_from above top [] strips rows = tt
+  strips_from above top (s ∷ ss) strips rows =
+      let le : s.top ≤ℤ top = strips.1 in
+      let y = s.top -ℤ pos 1 in
+      let own = row_in-below above s ss y (omega (arith, ints)) ∙ row_in-from s.edges ss y (starts_from y reach ss y strips.2 (omega (arith, ints))) in
+      let row = subst Becomes own (rows y (omega (arith, ints))) in (
         record { bottom = strips.0.bottom; edges = row.edges; reached = row.reached },
         strips.1,
-        strips_from (s.top -ℤ pos 1) ss strips.2 (All-tail (λ s. RowBecomes image reach s.edges (g s.edges)) s ss all),
+        strips_from s.edges y ss strips.2 (λ z lt. subst Becomes (row_in-below above s ss z (omega (arith, ints))) (rows z (omega (arith, ints)))),
       )
 
   module _ (ss : List EdgeStrip) (strips : AreStrips reach ss) where
-    pub strips_become : g [] ≡ [] → ((x : ℤ) → image (weight_in []) x ≡ pos 0) → All (λ s. RowBecomes image reach s.edges (g s.edges)) ss
-        → StripsBecome image reach ss (with_rows g ss)
-    unfolding weight_in_strips weight_in
-    strips_become blank none all =
+    pub strips_become : g [] ≡ [] → ((y : ℤ) → Becomes (row_in [] ss y)) → StripsBecome image reach ss (with_rows g ss)
+    unfolding weight_in_strips
+    strips_become blank rows =
         let row : (y : ℤ) → row_in [] (with_rows g ss) y ≡ g (row_in [] ss y) =
         λ y. ap (λ es. row_in es (with_rows g ss) y) (sym blank) ∙ row_in-with_rows g [] ss y in
         record {
           strips = record {
-            strips = strips_from greatest_coordinate ss strips.strips all;
+            strips = strips_from [] greatest_coordinate ss strips.strips (λ y lt. rows y);
             closed = row (least_coordinate -ℤ pos 1) ∙ ap g strips.closed ∙ blank;
             least = strips.least;
             most = strips.most;
           };
-          weights = λ x y.
-              ap (λ es. weight_in es x) (row y)
-              ∙ row_in-has (λ es. weight_in (g es) x ≡ image (weight_in es) x) [] ss y (ap (λ es. weight_in es x) blank ∙ sym (none x))
-              (λ k d lt. (all k d lt).weights.weights x);
+          weights = λ x y. ap (λ es. weight_in es x) (row y) ∙ (rows y).weights.weights x;
         }
 
     -- where each row of the reach becomes another
-    pub each_row : ((es : List Edge) → AreEdges es → StaysInReach reach es → RowBecomes image reach es (g es))
-        → All (λ s. RowBecomes image reach s.edges (g s.edges)) ss
-    each_row row = λ k d lt. let strip = strips_from-all greatest_coordinate reach ss strips.strips k d lt in row _ strip.edges strip.reached
+    pub each_row : g [] ≡ [] → ((es : List Edge) → AreEdges es → StaysInReach reach es → Becomes es) → StripsBecome image reach ss (with_rows g ss)
+    each_row blank row = strips_become blank (λ y.
+        row (row_in [] ss y) (row_lawful greatest_coordinate reach [] ss y no_edges strips.strips)
+        (row_reached greatest_coordinate reach [] ss y (none_reached reach strips.least strips.most) strips.strips))
