@@ -9,12 +9,13 @@ use Rattle.mf_edges.specs.Edges.{AreEdges}
 use Rattle.mf_edges.specs.Reaches.{StaysInReach}
 use Rattle.mf_edges.proofs.EdgeChanges.{RowBecomes, move_row, opposite_edge, row_opposite}
 use Rattle.mf_edges.proofs.EdgesAt.{all_steps, no_edge, step_is_change}
+use Rattle.mf_strips.specs.declared.part.Part.{Part}
 use Rattle.mf_strips.specs.declared.strips.Head.{Head}
 use Rattle.mf_strips.specs.Heads.{strips_at, IsHead, AreHeads}
-use Rattle.mf_strips.specs.Moves.{reflected_edge, reversed_head}
-use Rattle.mf_strips.specs.Strips.{EdgeStrip, AreStrips}
+use Rattle.mf_strips.specs.Moves.{moved_columns, reflected_edge, reversed_head}
+use Rattle.mf_strips.specs.Parts.{strips_in, weight_in_part}
 use Rattle.mf_strips.proofs.Negations.{wrapped_negation}
-use Rattle.mf_strips.proofs.StripMaps.{StripsBecome, each_row, map_same, row_at-map, with_rows}
+use Rattle.mf_strips.proofs.StripMaps.{AreLists, each_row, map_same, row_at-map, with_rows}
 
 -- ---- heads
 
@@ -31,7 +32,7 @@ row_reversed es n start count all there =
 abbrev pub reflected_edges : List Edge → List Edge
 reflected_edges es = reverse (map reflected_edge es)
 
-pub strips_at-reversed : (es : List Edge) (hs : List Head) → AreHeads es hs
+strips_at-reversed : (es : List Edge) (hs : List Head) → AreHeads es hs
     → strips_at (reflected_edges es) (map (reversed_head (length es)) hs) ≡ with_rows reflected_edges (strips_at es hs)
 strips_at-reversed es [] heads = refl
 strips_at-reversed es (h ∷ hs) heads =
@@ -40,7 +41,7 @@ strips_at-reversed es (h ∷ hs) heads =
     ∙ ap reverse (row_at-map reflected_edge es h.start h.count) in
     λ i. record { top = h.top; edges = row i } ∷ strips_at-reversed es hs (All-tail (IsHead es) h hs heads) i
 
-pub heads-reversed : (es : List Edge) (hs : List Head) → AreHeads es hs → AreHeads (reflected_edges es) (map (reversed_head (length es)) hs)
+heads-reversed : (es : List Edge) (hs : List Head) → AreHeads es hs → AreHeads (reflected_edges es) (map (reversed_head (length es)) hs)
 heads-reversed es hs heads =
     All-map (IsHead (reflected_edges es)) (reversed_head (length es)) hs
     (λ k d lt. record { there = omega (arith, (heads k d lt).there, length-reverse (map reflected_edge es), length-map es reflected_edge) })
@@ -57,5 +58,8 @@ row_reflected reach es edges reached =
     λ i. record { x = x i; weight = weight i }))
     (row_opposite reach es edges reached)
 
-pub columns_mirrored : (reach : ℤ) (ss : List EdgeStrip) → AreStrips reach ss → StripsBecome (move_row opposite) reach ss (with_rows reflected_edges ss)
-columns_mirrored reach ss strips = each_row _ _ reach ss strips refl (row_reflected reach)
+pub lists_mirrored : (p : Part) → AreLists p (moved_columns opposite (weight_in_part p)) (reflected_edges p.edges.items) (map (reversed_head (length p.edges.items)) p.heads.items)
+lists_mirrored p =
+    let same = strips_at-reversed p.edges.items p.heads.items p.placed in
+    let new = each_row reflected_edges (move_row opposite) p.reach (strips_in p) p.lawful refl (row_reflected p.reach) in
+    record { placed = heads-reversed p.edges.items p.heads.items p.placed; lawful = rw same new.strips; weights = rw same (record { weights = new.weights }) }

@@ -8,71 +8,49 @@ use Rattle.mf_edges.specs.declared.edge.Edge.{Edge}
 use Rattle.mf_edges.specs.Axes.{opposite}
 use Rattle.mf_edges.specs.Edges.{weight_in, AreEdges}
 use Rattle.mf_edges.specs.Reaches.{StaysInReach}
+use Rattle.mf_strips.specs.declared.part.Part.{Part}
 use Rattle.mf_strips.specs.declared.strips.Head.{Head}
 use Rattle.mf_strips.specs.Heads.{strip_at, strips_at, IsHead, AreHeads}
 use Rattle.mf_strips.specs.Moves.{moved_rows}
-use Rattle.mf_strips.specs.Strips.{EdgeStrip, AreAbove, AreStrips, AreStripsFrom, HaveStripWeights, row_in, weight_in_strips}
-use Rattle.mf_strips.proofs.StripMaps.{starts_from}
+use Rattle.mf_strips.specs.Parts.{strips_in, weight_in_part}
+use Rattle.mf_strips.specs.Strips.{EdgeStrip, AreAbove, AreStripsFrom, row_in, weight_in_strips}
+use Rattle.mf_strips.proofs.StripMaps.{AreLists, starts_from}
 use Rattle.mf_strips.proofs.StripsLemmas.{row_in-below, row_in-from, row_in-pushed, row_in-kept, strips_push, no_edges, none_reached}
 
 -- ---- strips
 
 -- the strips from the bottom up, each with the row above it
-abbrev pub opposite_strips : List Edge → List EdgeStrip → List EdgeStrip
+abbrev opposite_strips : List Edge → List EdgeStrip → List EdgeStrip
 opposite_strips above [] = []
 opposite_strips above (s ∷ ss) = opposite_strips s.edges ss ++ record { top = neg_ℤ s.top; edges = above } ∷ []
 
-opposite-above : (above : List Edge) (low top reach : ℤ) (ss : List EdgeStrip) → AreStripsFrom top reach ss → low <ℤ neg_ℤ top
-    → AreAbove low (opposite_strips above ss)
-opposite-above above low top reach [] strips lt = All-nil (λ s. low <ℤ s.top)
-opposite-above above low top reach (s ∷ ss) strips lt =
-    let le : s.top ≤ℤ top = strips.1 in
-    All-push (λ s. low <ℤ s.top) (opposite_strips s.edges ss) (record { top = neg_ℤ s.top; edges = above })
-    (opposite-above s.edges low (s.top -ℤ pos 1) reach ss strips.2 (omega (arith, ints))) (omega (arith, ints))
+record AreOpposite (above : List Edge) (top reach : ℤ) (ss new : List EdgeStrip) : Type 0 where
+  strips : AreStripsFrom greatest_coordinate reach new
+  higher : (low : ℤ) → low <ℤ neg_ℤ top → AreAbove low new
+  rows : (last : List Edge) → row_in above ss (least_coordinate -ℤ pos 1) ≡ last → (y : ℤ) → row_in last new y ≡ row_in above ss (opposite y)
 
-opposite-row : (last above : List Edge) (top reach : ℤ) (ss : List EdgeStrip) (y : ℤ) → AreStripsFrom top reach ss
-    → row_in above ss (least_coordinate -ℤ pos 1) ≡ last → row_in last (opposite_strips above ss) y ≡ row_in above ss (opposite y)
+opposites : (above : List Edge) (top reach : ℤ) (ss : List EdgeStrip) → AreStripsFrom top reach ss → top ≤ℤ greatest_coordinate
+    → AreEdges above → StaysInReach reach above → AreOpposite above top reach ss (opposite_strips above ss)
 unfolding row_in
-opposite-row last above top reach [] y strips end = sym end
-opposite-row last above top reach (s ∷ ss) y strips end =
+opposites above top reach [] strips high edges reached = record { strips = tt; higher = λ low lt. All-nil (λ s. low <ℤ s.top); rows = λ last end y. sym end }
+opposites above top reach (s ∷ ss) strips high edges reached =
     let t : EdgeStrip = record { top = neg_ℤ s.top; edges = above } in
-    let lower = opposite-above s.edges t.top (s.top -ℤ pos 1) reach ss strips.2 (omega (arith, ints)) in
-    let bottom = strips.0.bottom in
-    by_lt_z y t.top
-    (λ lt. row_in-pushed last (opposite_strips s.edges ss) t y lower lt ∙ sym (row_in-from above (s ∷ ss) (opposite y) (omega (arith, ints))))
-    (λ ge.
-    row_in-kept last (opposite_strips s.edges ss) t y ge
-    ∙ opposite-row last s.edges (s.top -ℤ pos 1) reach ss y strips.2 (sym (row_in-below above s ss (least_coordinate -ℤ pos 1) (omega (arith, ints))) ∙ end)
-    ∙ sym (row_in-below above s ss (opposite y) (omega (arith, ints))))
-
-opposite-from : (above : List Edge) (top reach : ℤ) (ss : List EdgeStrip) → AreStripsFrom top reach ss → top ≤ℤ greatest_coordinate
-    → AreEdges above → StaysInReach reach above → AreStripsFrom greatest_coordinate reach (opposite_strips above ss)
-opposite-from above top reach [] strips high edges reached = tt
-opposite-from above top reach (s ∷ ss) strips high edges reached =
     let le : s.top ≤ℤ top = strips.1 in
     let strip = strips.0 in
-    strips_push greatest_coordinate reach (opposite_strips s.edges ss) (record { top = neg_ℤ s.top; edges = above })
-    (opposite-from s.edges (s.top -ℤ pos 1) reach ss strips.2 (omega (arith, ints)) strip.edges strip.reached)
-    (opposite-above s.edges (neg_ℤ s.top) (s.top -ℤ pos 1) reach ss strips.2 (omega (arith, ints)))
-    (omega (arith, ints, strip.bottom))
-    (record { bottom = omega (arith, ints); edges = edges; reached = reached })
-
-module _ (reach : ℤ) (ss : List EdgeStrip) (strips : AreStrips reach ss) where
-  rows_opposite : (y : ℤ) → row_in [] (opposite_strips [] ss) y ≡ row_in [] ss (opposite y)
-  rows_opposite y = opposite-row [] [] greatest_coordinate reach ss y strips.strips strips.closed
-
-  pub weights_opposite : HaveStripWeights (moved_rows opposite (weight_in_strips ss)) (opposite_strips [] ss)
-  unfolding weight_in_strips
-  weights_opposite = record { weights = λ x y. ap (λ es. weight_in es x) (rows_opposite y) }
-
-  pub strips_opposite : AreStrips reach (opposite_strips [] ss)
-  strips_opposite = record {
-    strips = opposite-from [] greatest_coordinate reach ss strips.strips (omega (arith, ints)) no_edges (none_reached reach strips.least strips.most);
-    closed = rows_opposite (least_coordinate -ℤ pos 1) ∙ row_in-from [] ss greatest_coordinate
-        (starts_from greatest_coordinate reach ss greatest_coordinate strips.strips (omega (arith, ints)));
-    least = strips.least;
-    most = strips.most;
-  }
+    let next = opposites s.edges (s.top -ℤ pos 1) reach ss strips.2 (omega (arith, ints)) strip.edges strip.reached in
+    let lower = next.higher t.top (omega (arith, ints)) in
+    record {
+      strips = strips_push greatest_coordinate reach (opposite_strips s.edges ss) t next.strips lower (omega (arith, ints, strip.bottom))
+          (record { bottom = omega (arith, ints); edges = edges; reached = reached });
+      higher = λ low lt. All-push (λ s. low <ℤ s.top) (opposite_strips s.edges ss) t (next.higher low (omega (arith, ints))) (omega (arith, ints));
+      rows = λ last end y.
+          let bottom = row_in-below above s ss (least_coordinate -ℤ pos 1) (omega (arith, ints, strip.bottom)) in
+          by_lt_z y t.top
+          (λ lt. row_in-pushed last (opposite_strips s.edges ss) t y lower lt ∙ sym (row_in-from above (s ∷ ss) (opposite y) (omega (arith, ints))))
+          (λ ge.
+          row_in-kept last (opposite_strips s.edges ss) t y ge ∙ next.rows last (sym bottom ∙ end) y
+          ∙ sym (row_in-below above s ss (opposite y) (omega (arith, ints))));
+    }
 
 -- ---- heads
 
@@ -81,14 +59,14 @@ abbrev pub opposite_heads : ℕ → ℕ → List Head → List Head
 opposite_heads start count [] = []
 opposite_heads start count (h ∷ hs) = opposite_heads h.start h.count hs ++ record { top = neg_ℤ h.top; count = count; start = start } ∷ []
 
-pub heads_opposite : (es : List Edge) (start count : ℕ) (hs : List Head) → start + count ≤ length es → AreHeads es hs
+heads_opposite : (es : List Edge) (start count : ℕ) (hs : List Head) → start + count ≤ length es → AreHeads es hs
     → AreHeads es (opposite_heads start count hs)
 heads_opposite es start count [] there heads = heads
 heads_opposite es start count (h ∷ hs) there heads =
     All-push (IsHead es) (opposite_heads h.start h.count hs) (record { top = neg_ℤ h.top; count = count; start = start })
     (heads_opposite es h.start h.count hs (All-head (IsHead es) h hs heads).there (All-tail (IsHead es) h hs heads)) (record { there = there })
 
-pub strips_at-opposite : (es : List Edge) (start count : ℕ) (hs : List Head)
+strips_at-opposite : (es : List Edge) (start count : ℕ) (hs : List Head)
     → strips_at es (opposite_heads start count hs) ≡ opposite_strips (take count (drop start es)) (strips_at es hs)
 strips_at-opposite es start count [] = refl
 strips_at-opposite es start count (h ∷ hs) =
@@ -106,3 +84,23 @@ opposite_more whole hs done start count i d inside so_far =
     ap (λ ts. opposite_heads h.start h.count (drop (i + 1) hs) ++ ts) (reverse-append done (t ∷ []))
     ∙ sym (append_assoc (opposite_heads h.start h.count (drop (i + 1) hs)) (t ∷ []) (reverse done))
     ∙ ap (λ rest. opposite_heads start count rest ++ reverse done) (sym (drop_more hs i d inside)) ∙ so_far
+
+pub lists_opposite : (p : Part) → AreLists p (moved_rows opposite (weight_in_part p)) p.edges.items (opposite_heads 0 0 p.heads.items)
+unfolding weight_in_strips
+lists_opposite p =
+    let ss = strips_in p in
+    let strips = p.lawful in
+    let all = opposites [] greatest_coordinate p.reach ss strips.strips (omega (arith, ints)) no_edges (none_reached p.reach strips.least strips.most) in
+    let first = starts_from greatest_coordinate p.reach ss greatest_coordinate strips.strips (omega (arith, ints)) in
+    let rows = all.rows [] strips.closed in
+    let same = strips_at-opposite p.edges.items 0 0 p.heads.items in
+    record {
+      placed = heads_opposite p.edges.items 0 0 p.heads.items (omega arith) p.placed;
+      lawful = rw same (record {
+        strips = all.strips;
+        closed = rows (least_coordinate -ℤ pos 1) ∙ row_in-from [] ss greatest_coordinate first;
+        least = strips.least;
+        most = strips.most;
+      });
+      weights = rw same (record { weights = λ x y. ap (λ es. weight_in es x) (rows y) });
+    }

@@ -8,9 +8,10 @@ use Rattle.mf_edges.specs.Merging.{IsChange}
 use Rattle.mf_edges.specs.Reaches.{StaysInReach}
 use Rattle.mf_edges.proofs.EdgeChanges.{RowBecomes, negate_row, negative_edge, row_negative}
 use Rattle.mf_edges.proofs.EdgesAt.{all_steps, step_is_change}
+use Rattle.mf_strips.specs.declared.part.Part.{Part}
 use Rattle.mf_strips.specs.Changes.{negated_edge, negated_weight_in}
-use Rattle.mf_strips.specs.Strips.{EdgeStrip, AreStrips, HaveStripWeights}
-use Rattle.mf_strips.proofs.StripMaps.{StripsBecome, each_row, map_same, with_rows}
+use Rattle.mf_strips.specs.Parts.{strips_in}
+use Rattle.mf_strips.proofs.StripMaps.{AreLists, each_row, heads-map, map_same, strips_at-map}
 
 pub wrapped_negation : (z : ℤ) → IsChange z → int_wrapping_neg w32 z ≡ neg_ℤ z
 wrapped_negation z change = wrapping_neg_is w32 z (omega (arith, ints, change)) ∙ int_wrap_fits w32 (neg_ℤ z) (omega (arith, ints, change))
@@ -22,10 +23,9 @@ row_negated reach es edges reached =
     λ i. record { x = (get_or es k d).x; weight = weight i }))
     (row_negative reach es edges reached)
 
-module _ (reach : ℤ) (ss : List EdgeStrip) (strips : AreStrips reach ss) where
-  pub negated_strips : StripsBecome negate_row reach ss (with_rows (map negated_edge) ss)
-  negated_strips = each_row _ _ reach ss strips refl (row_negated reach)
-
-  pub negated_weights : HaveStripWeights (negated_weight_in ss) (with_rows (map negated_edge) ss)
-  unfolding negated_weight_in
-  negated_weights = record { weights = negated_strips.weights }
+pub lists_negated : (p : Part) → AreLists p (negated_weight_in (strips_in p)) (map negated_edge p.edges.items) p.heads.items
+unfolding negated_weight_in
+lists_negated p =
+    let same = strips_at-map negated_edge p.edges.items p.heads.items in
+    let new = each_row (map negated_edge) negate_row p.reach (strips_in p) p.lawful refl (row_negated p.reach) in
+    record { placed = heads-map negated_edge p.edges.items p.heads.items p.placed; lawful = rw same new.strips; weights = rw same (record { weights = new.weights }) }

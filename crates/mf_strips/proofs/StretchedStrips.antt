@@ -1,7 +1,8 @@
 -- Strips whose columns and rows are stretched, where all pixels of nonzero weight stay in the field.
 use Rattle.std.proofs.Common.{◌≡◌, ◌≢◌, ℤ, pos, ◌+ℤ◌, ◌-ℤ◌, List, [], ◌∷◌, map, get_or, refl, ap, ◌∙◌, arith}
+use Rattle.std.specs.List.{filter_map}
 use Rattle.std.proofs.lemmas.Int.{ints, by_lt_z}
-use Rattle.mf_geom.specs.Coordinates.{least_coordinate, greatest_coordinate}
+use Rattle.mf_geom.specs.Coordinates.{least_coordinate}
 use Rattle.mf_edges.specs.declared.edge.Edge.{Edge}
 use Rattle.mf_edges.specs.declared.stretch.Stretch.{Stretch}
 use Rattle.mf_edges.specs.Axes.{IsStretch, PlaceStaysInside, source_of}
@@ -10,12 +11,13 @@ use Rattle.mf_edges.specs.Reaches.{StaysInReach}
 use Rattle.mf_edges.proofs.EdgeChanges.{EdgesStayInside, RowBecomes, move_row, row_stretched, target_edge}
 use Rattle.mf_edges.proofs.EdgesAt.{all_steps}
 use Rattle.mf_edges.proofs.EdgesLemmas.{weight_in-left, weight_in-before}
-use Rattle.mf_strips.specs.Moves.{StripsStayInside, moved_columns, moved_rows, stretched_edge}
+use Rattle.mf_strips.specs.Moves.{StripsStayInside, moved_columns, moved_rows, stretched_edge, stretched_head}
+use Rattle.mf_strips.specs.declared.part.Part.{Part}
+use Rattle.mf_strips.specs.Parts.{strips_in, weight_in_part}
 use Rattle.mf_strips.specs.Strips.{EdgeStrip, AreStrips, HaveStripWeights, row_in, weight_in_strips}
 use Rattle.mf_strips.proofs.StretchedPlaces.{wrapped_is}
-use Rattle.mf_strips.proofs.StretchedRows.{stretched_strips, rows_stretched, strips_stretched}
-use Rattle.mf_strips.proofs.StripMaps.{StripsBecome, map_same, strips_become, with_rows, row_in-with_rows}
-use Rattle.mf_strips.proofs.StripsLemmas.{none_reached, no_edges, row_lawful, row_reached}
+use Rattle.mf_strips.proofs.StretchedRows.{heads-stretched, strips_at-stretched, stretched_strips, rows_stretched, strips_stretched}
+use Rattle.mf_strips.proofs.StripMaps.{AreLists, StripsBecome, heads-map, map_same, rows_lawful, strips_at-map, strips_become, with_rows, row_in-with_rows}
 
 -- ---- edges
 
@@ -60,20 +62,17 @@ module _ (columns rows : Stretch) (reach : ℤ) (ss : List EdgeStrip) (strips : 
   abbrev wide : List EdgeStrip
   wide = with_rows (map (stretched_edge columns)) ss
 
-  row_at : (y : ℤ) → AreEdges (row_in [] ss y)
-  row_at y = row_lawful greatest_coordinate reach [] ss y no_edges strips.strips
-
   strips_wide : StripsBecome (move_row (source_of columns)) reach ss wide
   unfolding weight_in_strips
   strips_wide = strips_become _ _ reach ss strips refl (λ y.
-      row_wide columns reach (row_in [] ss y) across (row_at y) (row_reached greatest_coordinate reach [] ss y (none_reached reach strips.least strips.most) strips.strips)
-      (edges_stay columns (row_in [] ss y) (row_at y).sorted (λ x. inside.across x y)))
+      let row = rows_lawful reach ss strips y in
+      row_wide columns reach (row_in [] ss y) across row.0 row.1 (edges_stay columns (row_in [] ss y) row.0.sorted (λ x. inside.across x y)))
 
   rows_inside : (y : ℤ) → row_in [] wide y ≢ [] → PlaceStaysInside rows y
   unfolding weight_in_strips
   rows_inside y some =
       first_weight least_coordinate (row_in [] ss y)
-      (λ none. some (row_in-with_rows (map (stretched_edge columns)) [] ss y ∙ ap (map (stretched_edge columns)) none)) (row_at y).sorted (λ x. inside.up x y)
+      (λ none. some (row_in-with_rows (map (stretched_edge columns)) [] ss y ∙ ap (map (stretched_edge columns)) none)) (rows_lawful reach ss strips y).0.sorted (λ x. inside.up x y)
 
   pub strips_in_place : AreStrips reach (stretched_strips rows wide)
   strips_in_place = strips_stretched rows up reach wide strips_wide.strips rows_inside
@@ -83,3 +82,16 @@ module _ (columns rows : Stretch) (reach : ℤ) (ss : List EdgeStrip) (strips : 
   weights_in_place = record {
     weights = λ x y. ap (λ es. weight_in es x) (rows_stretched rows up reach wide strips_wide.strips rows_inside y) ∙ strips_wide.weights x (source_of rows y);
   }
+
+pub lists_stretched : (p : Part) (columns rows : Stretch) → IsStretch columns → IsStretch rows → StripsStayInside columns rows (strips_in p)
+    → AreLists p (moved_rows (source_of rows) (moved_columns (source_of columns) (weight_in_part p)))
+    (map (stretched_edge columns) p.edges.items) (filter_map (stretched_head rows) p.heads.items)
+lists_stretched p columns rows across up inside =
+    let es = p.edges.items in
+    let hs = p.heads.items in
+    let same = strips_at-stretched rows (map (stretched_edge columns) es) hs ∙ ap (stretched_strips rows) (strips_at-map (stretched_edge columns) es hs) in
+    record {
+      placed = heads-stretched rows (map (stretched_edge columns) es) hs (heads-map (stretched_edge columns) es hs p.placed);
+      lawful = rw same (strips_in_place columns rows p.reach (strips_in p) p.lawful across up inside);
+      weights = rw same (weights_in_place columns rows p.reach (strips_in p) p.lawful across up inside);
+    }

@@ -12,9 +12,15 @@ use Rattle.mf_edges.proofs.EdgeChanges.{RowBecomes}
 use Rattle.mf_strips.specs.declared.part.Part.{Part}
 use Rattle.mf_strips.specs.declared.strips.Head.{Head}
 use Rattle.mf_strips.specs.Heads.{strips_at, AreHeads}
-use Rattle.mf_strips.specs.Strips.{EdgeStrip, IsStrip, AreStrips, AreStripsFrom, row_in, weight_in_strips}
+use Rattle.mf_strips.specs.Strips.{EdgeStrip, AreStrips, AreStripsFrom, HaveStripWeights, row_in, weight_in_strips}
 use Rattle.mf_strips.specs.Sums.{IsFrom}
 use Rattle.mf_strips.proofs.StripsLemmas.{none_reached, no_edges, row_in-below, row_in-from, row_lawful, row_reached}
+
+-- these edges and heads are those of a part of the reach of part p, with the weights f
+pub record AreLists (p : Part) (f : ℤ → ℤ → ℤ) (es : List Edge) (hs : List Head) : Type 0 where
+  pub placed : AreHeads es hs
+  pub lawful : AreStrips p.reach (strips_at es hs)
+  pub weights : HaveStripWeights f (strips_at es hs)
 
 -- a strip with a changed row
 abbrev pub with_row : (List Edge → List Edge) → EdgeStrip → EdgeStrip
@@ -43,18 +49,11 @@ pub row_in-with_rows : (g : List Edge → List Edge) (above : List Edge) (ss : L
     → row_in (g above) (with_rows g ss) y ≡ g (row_in above ss y)
 unfolding row_in
 row_in-with_rows g above [] y = refl
-row_in-with_rows g above (s ∷ ss) y =
-    by_lt_z y s.top
-    (λ under. row_in-below (g above) (with_row g s) (with_rows g ss) y under ∙ row_in-with_rows g s.edges ss y ∙ ap g (sym (row_in-below above s ss y under)))
-    (λ over. row_in-from (g above) (with_rows g (s ∷ ss)) y over ∙ ap g (sym (row_in-from above (s ∷ ss) y over)))
+row_in-with_rows g above (s ∷ ss) y = grind (arith, ints, by_lt_z, row_in-below, row_in-from, row_in-with_rows g s.edges ss y)
 
 pub starts_from : (top reach : ℤ) (ss : List EdgeStrip) (y : ℤ) → AreStripsFrom top reach ss → top ≤ℤ y → IsFrom ss y
 starts_from top reach [] y strips le = tt
 starts_from top reach (s ∷ ss) y strips le = let start : s.top ≤ℤ top = strips.1 in omega (arith, ints)
-
-pub strips_from-all : (top reach : ℤ) (ss : List EdgeStrip) → AreStripsFrom top reach ss → All (IsStrip reach) ss
-strips_from-all top reach [] strips = All-nil (IsStrip reach)
-strips_from-all top reach (s ∷ ss) strips = All-cons (IsStrip reach) s ss strips.0 (strips_from-all (s.top -ℤ pos 1) reach ss strips.2)
 
 -- the heights of strips are coordinates
 tops_in_range : (es : List Edge) (top reach : ℤ) (hs : List Head) → AreStripsFrom top reach (strips_at es hs) → top ≤ℤ greatest_coordinate
@@ -67,6 +66,12 @@ tops_in_range es top reach (h ∷ hs) strips high =
 
 pub tops_of_part : (p : Part) (hs : List Head) → hs ≡ p.heads.items → All (λ h. IsCoordinate h.top) hs
 tops_of_part p hs same = rw same (tops_in_range p.edges.items greatest_coordinate p.reach p.heads.items p.lawful.strips (omega (arith, ints)))
+
+pub rows_lawful : (reach : ℤ) (ss : List EdgeStrip) → AreStrips reach ss → (y : ℤ) → AreEdges (row_in [] ss y) × StaysInReach reach (row_in [] ss y)
+rows_lawful reach ss strips y = (
+  row_lawful greatest_coordinate reach [] ss y no_edges strips.strips,
+  row_reached greatest_coordinate reach [] ss y (none_reached reach strips.least strips.most) strips.strips,
+)
 
 -- the rows of strips become those of others, whose weights are an image of theirs
 pub record StripsBecome (image : (ℤ → ℤ) → ℤ → ℤ) (reach : ℤ) (ss new : List EdgeStrip) : Type 0 where
@@ -108,6 +113,4 @@ module _ (g : List Edge → List Edge) (image : (ℤ → ℤ) → ℤ → ℤ) (
 
     -- where each row of the reach becomes another
     pub each_row : g [] ≡ [] → ((es : List Edge) → AreEdges es → StaysInReach reach es → Becomes es) → StripsBecome image reach ss (with_rows g ss)
-    each_row blank row = strips_become blank (λ y.
-        row (row_in [] ss y) (row_lawful greatest_coordinate reach [] ss y no_edges strips.strips)
-        (row_reached greatest_coordinate reach [] ss y (none_reached reach strips.least strips.most) strips.strips))
+    each_row blank row = strips_become blank (λ y. row (row_in [] ss y) (rows_lawful reach ss strips y).0 (rows_lawful reach ss strips y).1)

@@ -2,9 +2,13 @@ use Rattle.std.proofs.Common.{◌≡◌, ◌-ℤ◌, pos, neg_ℤ, get_or, to_z,
 use Rattle.std.proofs.lemmas.Int.{ints}
 use Rattle.std.proofs.lemmas.List.{drop_all}
 use Rattle.mf_strips.specs.declared.strips.Head.{Head}
-use Rattle.mf_strips.proofs.MirroredRows.{opposite_heads, opposite_more, heads_opposite, strips_at-opposite, strips_opposite, weights_opposite}
-use Rattle.mf_strips.proofs.StripMaps.{tops_of_part}
+use Rattle.mf_edges.specs.Axes.{opposite}
+use Rattle.mf_strips.specs.Moves.{moved_rows}
+use Rattle.mf_strips.specs.Parts.{weight_in_part}
+use Rattle.mf_strips.proofs.MirroredRows.{lists_opposite, opposite_heads, opposite_more}
+use Rattle.mf_strips.proofs.StripMaps.{AreLists, tops_of_part}
 use Rattle.mf_strips.proofs.moves.mirrored_rows.Goals as goal
+use Rattle.mf_strips.proofs.moves.mirrored_rows.Goals.{After-reverse}
 
 pub overflow_sub-head : goal.overflow_sub-head
 overflow_sub-head c =
@@ -23,22 +27,19 @@ loop-head-preserved c =
     rw (c.in_ok-push.ensures.items, top)
     (opposite_more (opposite_heads 0 0 hs) hs c.loop-head.heads.items c.loop-head.start c.loop-head.count i d c.loop-head-test.true c.loop-head.invariant)
 
+lists : (c : After-reverse) → AreLists c.args.part.now (moved_rows opposite (weight_in_part c.args.part.now)) c.extend_from_slice.new.self.items c.reverse.new.self.items
+lists c =
+    let part = c.args.part.now in
+    let edges : c.extend_from_slice.new.self.items ≡ part.edges.items = rw (c.in_ok-extend_from_slice.ensures.items, c.new-edges.ensures.items) (cc) in
+    let heads : c.reverse.new.self.items ≡ opposite_heads 0 0 part.heads.items =
+    c.reverse.ensures.items ∙ (rw (drop_all c.loop-head.head-index c.deref-head-items.result.now c.loop-head-test.false, c.deref-head-items.ensures.value) at c.loop-head.invariant) in
+    rw (edges, heads) (lists_opposite part)
+
 pub of-requires : goal.of-requires
 of-requires c =
-    let part = c.args.part.now in
-    let edges : c.extend_from_slice.new.self.items ≡ part.edges.items = rw (c.in_ok-extend_from_slice.ensures.items, c.new-edges.ensures.items) (cc) in
-    let heads : c.reverse.new.self.items ≡ opposite_heads 0 0 part.heads.items =
-    c.reverse.ensures.items ∙ (rw (drop_all c.loop-head.head-index c.deref-head-items.result.now c.loop-head-test.false, c.deref-head-items.ensures.value) at c.loop-head.invariant) in
-    let same : to_z w32 (of_z w32 c.reach.result) ≡ part.reach = omega (arith, ints) in
-    rw (edges, heads, same) (record {
-      placed = heads_opposite part.edges.items 0 0 part.heads.items (omega arith) part.placed;
-      lawful = rw (strips_at-opposite part.edges.items 0 0 part.heads.items) (strips_opposite part.reach _ part.lawful);
-    })
+    let same : to_z w32 (of_z w32 c.reach.result) ≡ c.args.part.now.reach = omega (arith, ints) in
+    let new = lists (goal.at.of-requires c).After-reverse in
+    rw same (record { placed = new.placed; lawful = new.lawful })
 
 pub returns-clause-weights : goal.returns-clause-weights
-returns-clause-weights c =
-    let part = c.args.part.now in
-    let edges : c.extend_from_slice.new.self.items ≡ part.edges.items = rw (c.in_ok-extend_from_slice.ensures.items, c.new-edges.ensures.items) (cc) in
-    let heads : c.reverse.new.self.items ≡ opposite_heads 0 0 part.heads.items =
-    c.reverse.ensures.items ∙ (rw (drop_all c.loop-head.head-index c.deref-head-items.result.now c.loop-head-test.false, c.deref-head-items.ensures.value) at c.loop-head.invariant) in
-    rw (c.of.ensures.strips, edges, heads, strips_at-opposite part.edges.items 0 0 part.heads.items) (weights_opposite part.reach _ part.lawful)
+returns-clause-weights c = rw c.of.ensures.strips (lists (goal.at.returns-clause-weights c).After-reverse).weights
