@@ -5,7 +5,5 @@ pub mod EdgesAt
 pub mod EdgesLemmas
 pub mod EdgeSums
 pub mod Falls
-pub mod LeftOfColumns
 pub mod ReachesLemmas
 pub mod Sources
-pub mod TotalsLemmas

@@ -6,7 +6,7 @@ use Rattle.std.proofs.lemmas.Cmp.{by_ranked, int_ranked}
 use Rattle.std.proofs.lemmas.Int.{ints, by_lt_z}
 use Rattle.mf_geom.specs.Coordinates.{least_coordinate}
 use Rattle.mf_edges.specs.declared.edge.Edge.{Edge}
-use Rattle.mf_edges.specs.LawfulWeights.{IsInReach, IsLawfulWeight, greatest_weight}
+use Rattle.mf_edges.specs.LawfulWeights.{IsInReach, IsLawfulWeight}
 use Rattle.mf_edges.specs.Edges.{weight_in, AreEdges}
 use Rattle.mf_edges.specs.Merging.{AreChanges}
 use Rattle.mf_edges.specs.Reaches.{IsLeastReach, StaysInReach}
@@ -71,19 +71,12 @@ reach_all es w reach so_far = grind (arith, ints)
 
 -- ---- reaches that fit
 
-pub reach_bounds : (reach : ℤ) (es : List Edge) → StaysInReach reach es → (pos 0 ≤ℤ reach) × (reach ≤ℤ greatest_weight)
-reach_bounds reach es stays = let within = stays.within (pos 0) in (omega (arith, ints, within), stays.most)
-
 pub reach_is : (reach : ℤ) (es : List Edge) → StaysInReach reach es → to_z w32 (of_z w32 reach) ≡ reach
-reach_is reach es stays = let bounds = reach_bounds reach es stays in omega (arith, ints)
+reach_is reach es stays = omega (arith, ints, stays.within (pos 0), stays.most)
 
--- the least reach is one where it is at most 32767
-pub least_is_reach : (reach : ℤ) (es : List Edge) → IsLeastReach reach es → reach ≤ℤ greatest_weight → StaysInReach reach es
-least_is_reach reach es least most = record { most = most; within = least.within }
-
--- that of a row always is
+-- the least reach of a row is one
 pub reach_of_row : (reach : ℤ) (es : List Edge) → AreEdges es → IsLeastReach reach es → StaysInReach reach es
-reach_of_row reach es edges least = grind (arith, ints, least_is_reach)
+reach_of_row reach es edges least = record { most = omega (arith, ints, edges.lawful least.x, least.here); within = least.within }
 
 -- ---- the sum of two rows
 

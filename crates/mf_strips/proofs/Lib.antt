@@ -15,8 +15,5 @@ pub mod Written
 pub mod StripMaps
 pub mod Negations
 pub mod MappedStrips
-pub mod MirroredColumns
-pub mod MirroredRows
-pub mod StretchedPlaces
-pub mod StretchedRows
-pub mod StretchedStrips
+pub mod Mirrors
+pub mod Stretches

@@ -1,7 +1,6 @@
 //! Parts whose rows and columns move.
-ghost use Rattle.std.specs.Prelude.{◌≡◌, All, IfOk, map};
+ghost use Rattle.std.specs.Prelude.{◌≡◌, IfOk, map};
 ghost use Rattle.std.specs.List.{filter_map};
-ghost use Rattle.mf_geom.specs.Coordinates.{IsCoordinate};
 ghost use Rattle.mf_edges.specs.Axes.{IsStretch, opposite, source_of, target_of};
 ghost use Rattle.mf_strips.specs.Moves.{StripsStayInside, moved_columns, moved_rows, reflected_edge, reversed_head, stretched_edge, stretched_head};
 ghost use Rattle.mf_strips.specs.Parts.{strips_in, weight_in_part};
@@ -99,8 +98,6 @@ pub fn stretched(
 /// The heads of strips whose rows are stretched. A strip that would begin outside the field is left out: where all pixels of nonzero
 /// weight stay in the field, it is blank, and so is the row above it.
 fn stretched_heads(alloc: Global, heads: &[Head], rows: &Stretch) -> Result<Vec<Head>, OutOfMemory>
-    requires heights { All (λ head. IsCoordinate head.top) heads.now }
-    requires rows { IsStretch rows.now }
     ensures { IfOk result (λ stretched. stretched.items ≡ filter_map (stretched_head rows.now) heads.now) }
 {
     let mut stretched = Vec::new(alloc);
@@ -115,8 +112,6 @@ fn stretched_heads(alloc: Global, heads: &[Head], rows: &Stretch) -> Result<Vec<
 
 /// The head of a strip whose rows are stretched, `None` where it begins outside the field.
 fn stretched_head(head: &Head, rows: &Stretch) -> Option<Head>
-    requires height { IsCoordinate head.now.top }
-    requires rows { IsStretch rows.now }
     ensures { result ≡ stretched_head rows.now head.now }
 {
     let top = target_of(rows, head.top);
@@ -132,8 +127,6 @@ fn stretched_head(head: &Head, rows: &Stretch) -> Option<Head>
 
 /// Where a stretch takes a point of its axis, in or outside the field.
 fn target_of(stretch: &Stretch, place: i16) -> i64
-    requires place { IsCoordinate place }
-    requires stretch { IsStretch stretch.now }
     ensures { result ≡ target_of stretch.now place }
 {
     i64::from(place) * i64::from(stretch.factor) + i64::from(stretch.offset)

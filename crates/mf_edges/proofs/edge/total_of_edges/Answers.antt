@@ -7,7 +7,7 @@ use Rattle.mf_edges.specs.declared.edge.Edge.{Edge}
 use Rattle.mf_edges.specs.Merging.{greatest_change}
 use Rattle.mf_edges.specs.Totals.{edges_total}
 use Rattle.mf_edges.proofs.EdgesAt.{no_edge}
-use Rattle.mf_edges.proofs.TotalsLemmas.{part_of_total}
+use Rattle.mf_edges.proofs.ColumnTotals.{part_of_total}
 use Rattle.mf_edges.proofs.edge.total_of_edges.Goals as goal
 
 pub loop-edge-init : goal.loop-edge-init

@@ -1,7 +1,7 @@
 use Rattle.std.proofs.Common.{◌≡◌, ◌+ℤ◌, ◌≤◌, ◌*◌, drop}
 use Rattle.std.specs.Int.RustNames.{unsigned_abs}
 use Rattle.mf_edges.specs.Totals.{edges_total}
-use Rattle.mf_edges.proofs.TotalsLemmas.{greatest_part}
+use Rattle.mf_edges.proofs.ColumnTotals.{greatest_part}
 use Rattle.mf_edges.proofs.edge.total_of_edges.Given as goal
 
 abbrev pub invariant-loop-edge : goal.invariant-loop-edge

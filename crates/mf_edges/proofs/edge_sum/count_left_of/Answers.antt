@@ -2,7 +2,7 @@ use Rattle.std.proofs.Common.{◌≡◌, true, false, to_z, of_z, to_z-of_z, w32
 use Rattle.std.specs.List.Sorted.{IsPartitionPoint}
 use Rattle.std.proofs.lemmas.Int.{ints}
 use Rattle.std.proofs.lemmas.Fn.{always_returns_same}
-use Rattle.mf_edges.proofs.LeftOfColumns.{is_left_of, IsPartitionedBy-is_left_of, left_split, begin_from}
+use Rattle.mf_edges.proofs.Falls.{is_left_of, IsPartitionedBy-is_left_of, left_split, begin_from}
 use Rattle.mf_edges.proofs.edge_sum.count_left_of.Goals as goal
 
 split : (c : goal.After-partition_point)

@@ -3,7 +3,7 @@ use Rattle.std.proofs.lemmas.Int.{ints}
 use Rattle.mf_edges.specs.Axes.{opposite}
 use Rattle.mf_strips.specs.Moves.{moved_columns, reflected_edge, reversed_head}
 use Rattle.mf_strips.specs.Parts.{weight_in_part}
-use Rattle.mf_strips.proofs.MirroredColumns.{lists_mirrored}
+use Rattle.mf_strips.proofs.Mirrors.{lists_mirrored}
 use Rattle.mf_strips.proofs.StripMaps.{AreLists}
 use Rattle.mf_strips.proofs.moves.mirrored_columns.Goals as goal
 use Rattle.mf_strips.proofs.moves.mirrored_columns.Goals.{After-reverse}

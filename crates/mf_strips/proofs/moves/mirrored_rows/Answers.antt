@@ -5,7 +5,7 @@ use Rattle.mf_strips.specs.declared.strips.Head.{Head}
 use Rattle.mf_edges.specs.Axes.{opposite}
 use Rattle.mf_strips.specs.Moves.{moved_rows}
 use Rattle.mf_strips.specs.Parts.{weight_in_part}
-use Rattle.mf_strips.proofs.MirroredRows.{lists_opposite, opposite_heads, opposite_more}
+use Rattle.mf_strips.proofs.Mirrors.{lists_opposite, opposite_heads, opposite_more}
 use Rattle.mf_strips.proofs.StripMaps.{AreLists, tops_of_part}
 use Rattle.mf_strips.proofs.moves.mirrored_rows.Goals as goal
 use Rattle.mf_strips.proofs.moves.mirrored_rows.Goals.{After-reverse}

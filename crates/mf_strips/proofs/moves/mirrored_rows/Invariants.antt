@@ -1,5 +1,5 @@
 use Rattle.std.proofs.Common.{◌≡◌, ◌++◌, drop, reverse}
-use Rattle.mf_strips.proofs.MirroredRows.{opposite_heads}
+use Rattle.mf_strips.proofs.Mirrors.{opposite_heads}
 use Rattle.mf_strips.proofs.moves.mirrored_rows.Given as goal
 
 -- the reversed heads so far follow those that are still to come

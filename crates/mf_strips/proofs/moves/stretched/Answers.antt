@@ -4,13 +4,10 @@ use Rattle.std.proofs.lemmas.Int.{ints}
 use Rattle.mf_edges.specs.Axes.{source_of}
 use Rattle.mf_strips.specs.Moves.{moved_columns, moved_rows, stretched_edge, stretched_head}
 use Rattle.mf_strips.specs.Parts.{weight_in_part}
-use Rattle.mf_strips.proofs.StretchedStrips.{lists_stretched}
-use Rattle.mf_strips.proofs.StripMaps.{AreLists, tops_of_part}
+use Rattle.mf_strips.proofs.Stretches.{lists_stretched}
+use Rattle.mf_strips.proofs.StripMaps.{AreLists}
 use Rattle.mf_strips.proofs.moves.stretched.Goals as goal
 use Rattle.mf_strips.proofs.moves.stretched.Goals.{In_ok-edges}
-
-pub stretched_heads-requires-clause-heights : goal.stretched_heads-requires-clause-heights
-stretched_heads-requires-clause-heights c = tops_of_part c.args.part.now c.deref.result.now c.deref.ensures.value
 
 lists : (c : In_ok-edges)
     → AreLists c.args.part.now (moved_rows (source_of c.args.rows.now) (moved_columns (source_of c.args.columns.now) (weight_in_part c.args.part.now)))
