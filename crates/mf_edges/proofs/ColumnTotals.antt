@@ -25,7 +25,6 @@ greatest_part = unsigned_abs greatest_change * field_size
 
 -- what an edge adds to the total weight
 pub record IsPartOfTotal (e : Edge) (n : ℕ) : Type 0 where
-  pub weight : unsigned_abs e.weight ≤ unsigned_abs greatest_change
   pub columns : unsigned_abs (greatest_coordinate -ℤ e.x) ≤ field_size
   pub product : unsigned_abs (e.weight *ℤ (greatest_coordinate -ℤ e.x)) ≤ greatest_part
   pub few : n ≤ field_size + 1
@@ -34,11 +33,9 @@ pub part_of_total : (es : List Edge) (at : ℕ) → AreEdges es → at < length 
 part_of_total es at edges lt =
     let e = get_or es at no_edge in
     let step = all_steps es edges.sorted at no_edge lt in
-    let change = step_is_change edges step in
-    let weight : unsigned_abs e.weight ≤ unsigned_abs greatest_change = omega (arith, ints) in
+    let weight : unsigned_abs e.weight ≤ unsigned_abs greatest_change = omega (arith, ints, step_is_change edges step) in
     let columns : unsigned_abs (greatest_coordinate -ℤ e.x) ≤ field_size = omega (arith, ints, step.edge.column) in
     record {
-      weight = weight;
       columns = columns;
       product = omega (arith, unsigned_abs-mul e.weight (greatest_coordinate -ℤ e.x), mul-le-mul weight columns);
       few = omega (arith, ints, length-edges least_coordinate es edges.sorted (omega (arith, ints)));

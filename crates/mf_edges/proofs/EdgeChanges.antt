@@ -1,5 +1,5 @@
 -- The edges of a row after each of them is negated, reflected or stretched.
-use Rattle.std.proofs.Common.{◌≡◌, ℕ, ◌<◌, ◌≤◌, ℤ, pos, neg_ℤ, ◌+ℤ◌, ◌-ℤ◌, ◌≤ℤ◌, ◌<ℤ◌, unsigned_abs, List, [], ◌∷◌, length, get_or, map, reverse, refl, sym, ap, subst, ◌∙◌, arith}
+use Rattle.std.proofs.Common.{◌≡◌, ℕ, suc, ◌<◌, ◌≤◌, ℤ, pos, neg_ℤ, ◌+ℤ◌, ◌-ℤ◌, ◌≤ℤ◌, ◌<ℤ◌, unsigned_abs, List, [], ◌∷◌, length, get_or, map, reverse, refl, sym, ap, subst, ◌∙◌, arith}
 use Rattle.std.specs.List.{All}
 use Rattle.std.proofs.lemmas.Int.{ints, by_lt_z}
 use Rattle.std.proofs.lemmas.List.{reverse-append}
@@ -45,19 +45,17 @@ weight_in-images : (g : Edge → Edge) (x a b : ℤ) (es : List Edge) → All (�
 unfolding weight_in
 weight_in-images g x a b [] all = refl
 weight_in-images g x a b (e ∷ es) all =
-    let first = All-head (λ e. weight_in (g e ∷ []) x +ℤ weight_in (e ∷ []) a ≡ weight_in (e ∷ []) b) e es all in
-    let others = weight_in-images g x a b es (All-tail (λ e. weight_in (g e ∷ []) x +ℤ weight_in (e ∷ []) a ≡ weight_in (e ∷ []) b) e es all) in
-    omega (arith, ints)
+    omega (arith, ints, all 0 e (omega arith), weight_in-images g x a b es (λ k d lt. all (suc k) d (omega arith)))
 
 -- images of edges in a rising order of columns
 edges_from-map : (g : Edge → Edge) (low new : ℤ) (es : List Edge) → ((e f : Edge) → e.x <ℤ f.x → (g e).x <ℤ (g f).x) → AreEdgesFrom low es
     → All (λ e. IsEdge (g e)) es → ((e : Edge) → low ≤ℤ e.x → IsEdge (g e) → new ≤ℤ (g e).x) → AreEdgesFrom new (map g es)
 edges_from-map g low new [] rises sorted edges from = tt
 edges_from-map g low new (e ∷ es) rises sorted edges from =
-    let first = All-head (λ e. IsEdge (g e)) e es edges in (
+    let first = edges 0 e (omega arith) in (
       first,
       from e sorted.1 first,
-      edges_from-map g (e.x +ℤ pos 1) ((g e).x +ℤ pos 1) es rises sorted.2 (All-tail (λ e. IsEdge (g e)) e es edges)
+      edges_from-map g (e.x +ℤ pos 1) ((g e).x +ℤ pos 1) es rises sorted.2 (λ k d lt. edges (suc k) d (omega arith))
           (λ f after _. let lt = rises e f (omega (arith, ints)) in omega (arith, ints)),
     )
 
@@ -75,18 +73,15 @@ weight_in-negative (e ∷ es) x =
     (λ lt. omega (arith, ints, rest, weight_in-right e es x lt, weight_in-right (negative_edge e) (map negative_edge es) x lt))
     (λ le. omega (arith, ints, rest, weight_in-left e es x le, weight_in-left (negative_edge e) (map negative_edge es) x le))
 
-negative_edges : (low : ℤ) (es : List Edge) → AreEdgesFrom low es → AreEdgesFrom low (map negative_edge es)
-negative_edges low es edges =
-    edges_from-map negative_edge low low es (λ e f lt. lt) edges
-    (λ k d lt. let edge = (edges_from-at low es k d edges lt).0 in record { column = edge.column; nonzero = λ none. edge.nonzero (omega (arith, ints, none)) })
-    (λ e le _. le)
-
 pub row_negative : (reach : ℤ) (es : List Edge) → AreEdges es → StaysInReach reach es → RowBecomes negate_row reach es (map negative_edge es)
-row_negative reach es edges reached = record {
-  edges = grind (arith, ints, negative_edges, weight_in-negative);
-  reached = grind (arith, ints, weight_in-negative);
-  weights = record { weights = weight_in-negative es };
-}
+row_negative reach es edges reached =
+    let sorted = edges_from-map negative_edge least_coordinate least_coordinate es (λ e f lt. lt) edges.sorted
+        (λ k d lt. let edge = (edges_from-at least_coordinate es k d edges.sorted lt).0 in grind (arith, ints)) (λ e le _. le) in
+    record {
+      edges = grind (arith, ints, weight_in-negative);
+      reached = grind (arith, ints, weight_in-negative);
+      weights = record { weights = weight_in-negative es };
+    }
 
 -- ---- columns that are reflected
 

@@ -66,7 +66,7 @@ pub lists_mirrored : (p : Part) → AreLists p (moved_columns opposite (weight_i
 lists_mirrored p =
     let same = strips_at-reversed p.edges.items p.heads.items p.placed in
     let new = each_row reflected_edges (move_row opposite) p.reach (strips_in p) p.lawful refl (row_reflected p.reach) in
-    record { placed = heads-reversed p.edges.items p.heads.items p.placed; lawful = rw same new.strips; weights = rw same (record { weights = new.weights }) }
+    record { placed = heads-reversed p.edges.items p.heads.items p.placed; lawful = rw same new.strips; weights = rw same new.weights }
 
 -- ---- strips
 

@@ -28,4 +28,4 @@ unfolding negated_weight_in
 lists_negated p =
     let same = strips_at-map negated_edge p.edges.items p.heads.items in
     let new = each_row (map negated_edge) negate_row p.reach (strips_in p) p.lawful refl (row_negated p.reach) in
-    record { placed = heads-map negated_edge p.edges.items p.heads.items p.placed; lawful = rw same new.strips; weights = rw same (record { weights = new.weights }) }
+    record { placed = heads-map negated_edge p.edges.items p.heads.items p.placed; lawful = rw same new.strips; weights = rw same new.weights }

@@ -215,24 +215,23 @@ module _ (columns rows : Stretch) (reach : ℤ) (ss : List EdgeStrip) (strips : 
       first_weight least_coordinate (row_in [] ss y)
       (λ none. some (row_in-with_rows (map (stretched_edge columns)) [] ss y ∙ ap (map (stretched_edge columns)) none)) (rows_lawful reach ss strips y).0.sorted (λ x. inside.up x y)
 
-  strips_in_place : AreStrips reach (stretched_strips rows wide)
-  strips_in_place = strips_stretched rows up reach wide strips_wide.strips rows_inside
-
   weights_in_place : HaveStripWeights (moved_rows (source_of rows) (moved_columns (source_of columns) (weight_in_strips ss))) (stretched_strips rows wide)
   unfolding weight_in_strips
   weights_in_place = record {
-    weights = λ x y. ap (λ es. weight_in es x) (rows_stretched rows up reach wide strips_wide.strips rows_inside y) ∙ strips_wide.weights x (source_of rows y);
+    weights = λ x y.
+        ap (λ es. weight_in es x) (rows_stretched rows up reach wide strips_wide.strips rows_inside y) ∙ strips_wide.weights.weights x (source_of rows y);
   }
 
 pub lists_stretched : (p : Part) (columns rows : Stretch) → IsStretch columns → IsStretch rows → StripsStayInside columns rows (strips_in p)
     → AreLists p (moved_rows (source_of rows) (moved_columns (source_of columns) (weight_in_part p)))
     (map (stretched_edge columns) p.edges.items) (filter_map (stretched_head rows) p.heads.items)
 lists_stretched p columns rows across up inside =
-    let es = p.edges.items in
-    let hs = p.heads.items in
-    let same = strips_at-stretched rows (map (stretched_edge columns) es) hs ∙ ap (stretched_strips rows) (strips_at-map (stretched_edge columns) es hs) in
+    let es = map (stretched_edge columns) p.edges.items in
+    let ss = strips_in p in
+    let same = strips_at-stretched rows es p.heads.items ∙ ap (stretched_strips rows) (strips_at-map (stretched_edge columns) p.edges.items p.heads.items) in
+    let wide = strips_wide columns rows p.reach ss p.lawful across up inside in
     record {
-      placed = heads-stretched rows (map (stretched_edge columns) es) hs (heads-map (stretched_edge columns) es hs p.placed);
-      lawful = rw same (strips_in_place columns rows p.reach (strips_in p) p.lawful across up inside);
-      weights = rw same (weights_in_place columns rows p.reach (strips_in p) p.lawful across up inside);
+      placed = heads-stretched rows es p.heads.items (heads-map (stretched_edge columns) p.edges.items p.heads.items p.placed);
+      lawful = rw same (strips_stretched rows up p.reach _ wide.strips (rows_inside columns rows p.reach ss p.lawful across up inside));
+      weights = rw same (weights_in_place columns rows p.reach ss p.lawful across up inside);
     }

@@ -76,7 +76,7 @@ rows_lawful reach ss strips y = (
 -- the rows of strips become those of others, whose weights are an image of theirs
 pub record StripsBecome (image : (ℤ → ℤ) → ℤ → ℤ) (reach : ℤ) (ss new : List EdgeStrip) : Type 0 where
   pub strips : AreStrips reach new
-  pub weights : (x y : ℤ) → weight_in_strips new x y ≡ image (λ z. weight_in_strips ss z y) x
+  pub weights : HaveStripWeights (λ x y. image (λ z. weight_in_strips ss z y) x) new
 
 module _ (g : List Edge → List Edge) (image : (ℤ → ℤ) → ℤ → ℤ) (reach : ℤ) where
   abbrev Becomes : List Edge → Type 0
@@ -108,7 +108,7 @@ module _ (g : List Edge → List Edge) (image : (ℤ → ℤ) → ℤ → ℤ) (
             least = strips.least;
             most = strips.most;
           };
-          weights = λ x y. ap (λ es. weight_in es x) (row y) ∙ (rows y).weights.weights x;
+          weights = record { weights = λ x y. ap (λ es. weight_in es x) (row y) ∙ (rows y).weights.weights x };
         }
 
     -- where each row of the reach becomes another

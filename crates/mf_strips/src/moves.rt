@@ -102,11 +102,7 @@ fn stretched_heads(alloc: Global, heads: &[Head], rows: &Stretch) -> Result<Vec<
 {
     let mut stretched = Vec::new(alloc);
     stretched.reserve(heads.len())?;
-    for head in heads {
-        if let Some(head) = stretched_head(head, rows) {
-            stretched.push(head)?;
-        }
-    }
+    stretched.extend(heads.iter().filter_map(|head| stretched_head(head, rows)))?;
     Ok(stretched)
 }
 

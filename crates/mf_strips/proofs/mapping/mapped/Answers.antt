@@ -1,7 +1,7 @@
 use Rattle.std.proofs.Common.{◌≡◌, ◌≤ℤ◌, to_z, of_z, w32, arith}
 use Rattle.std.proofs.lemmas.Int.{ints}
 use Rattle.mf_strips.specs.Parts.{edge_strip}
-use Rattle.mf_strips.proofs.MappedStrips.{mapped_none, mapped_next, mapped_all, mapped_strips}
+use Rattle.mf_strips.proofs.MappedStrips.{mapped_none, mapped_next, mapped_all}
 use Rattle.mf_strips.proofs.mapping.mapped.Goals as goal
 
 pub loop-strip-init : goal.loop-strip-init
@@ -13,7 +13,7 @@ pub push_mapped-requires-clause-top : goal.push_mapped-requires-clause-top
 push_mapped-requires-clause-top c =
     let so_far = rw c.in-Some.ensures.some at c.loop-strip.invariant in
     let low : (edge_strip c.in-Some.strip).top ≤ℤ so_far.low = so_far.strips.1 in
-    omega (arith, ints, low, so_far.written.high)
+    omega (arith, ints, low, so_far.high)
 
 pub loop-strip-preserved : goal.loop-strip-preserved
 loop-strip-preserved c =
@@ -22,7 +22,7 @@ loop-strip-preserved c =
     mapped_next _ _ _ _ _ _ (edge_strip c.in-Some.strip) so_far _ (rw top at c.in_ok-push_mapped.ensures)
 
 pub finish-requires : goal.finish-requires
-finish-requires c = mapped_strips _ _ _ _ _ _ c.loop-strip.invariant c.in_default.ensures.none c.args.part.now.lawful c.requires
+finish-requires c = (mapped_all _ _ _ _ _ _ c.loop-strip.invariant c.in_default.ensures.none c.args.part.now.lawful c.requires).0
 
 pub returns : goal.returns
-returns c = rw c.finish.ensures.strips (mapped_all _ _ _ _ _ _ c.loop-strip.invariant c.in_default.ensures.none)
+returns c = rw c.finish.ensures.strips (mapped_all _ _ _ _ _ _ c.loop-strip.invariant c.in_default.ensures.none c.args.part.now.lawful c.requires).1
