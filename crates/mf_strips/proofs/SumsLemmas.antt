@@ -163,6 +163,16 @@ sum_all ss ts l r reach left right out so_far on_l on_r none =
     (λ y. (subst (λ ss. IsFrom ss y) (sym over.0) tt, subst (λ ss. IsFrom ss y) (sym over.1) tt)) in
     (weights, strips_closed reach (sum_in_strips ss ts) so_far.low out so_far.written.out weights (λ x. rw (on_l.closed, on_r.closed, no_weight x) refl) so_far.least so_far.lawful)
 
+-- ---- a row beside a blank one
+
+pub sum_left : (es fs : List Edge) → AreEdges es → fs ≡ [] → IsEdgeSum es fs es
+unfolding weight_in_both weight_in
+sum_left es fs row none = record { sorted = row.sorted; weights = record { weights = λ x. rw none (omega (arith, ints)) } }
+
+pub sum_right : (es fs : List Edge) → AreChanges fs → es ≡ [] → IsEdgeSum es fs fs
+unfolding weight_in_both weight_in
+sum_right es fs changes none = record { sorted = changes.sorted; weights = record { weights = λ x. rw none (omega (arith, ints)) } }
+
 -- ---- the row that was appended
 
 module _ (before : List EdgeStrip) (top : ℤ) (es fs : List Edge) (after : List EdgeStrip) (pushed : HasSumStrip before top es fs after) where

@@ -3,6 +3,7 @@ ghost use Rattle.std.specs.Prelude.{◌≡◌, [], ◌∷◌, ◌++◌, ◌≤�
 ghost use Rattle.mf_geom.specs.Coordinates.{least_coordinate, greatest_coordinate};
 ghost use Rattle.mf_edges.specs.Edges.{AreEdges};
 ghost use Rattle.mf_edges.specs.Merging.{AreChanges};
+ghost use Rattle.mf_edges.specs.Sums.{HasMoreEdges};
 ghost use Rattle.mf_edges.specs.WeightMaps.{IsWeightMap};
 ghost use Rattle.mf_strips.specs.Changes.{HasMappedStrip};
 ghost use Rattle.mf_strips.specs.Heads.{strips_at};
@@ -60,7 +61,7 @@ impl PartWriter {
         ensures { OnOk result (self.new ≡ self.old ++ record { top = top; edges = edges.now } ∷ []) }
     {
         let start = self.edges.len();
-        self.edges.extend_from_slice(edges)?;
+        push_row(&mut self.edges, edges)?;
         let head = head_between(top, start, self.edges.len())?;
         Ok(self.heads.push(head)?)
     }
@@ -79,6 +80,13 @@ impl PartWriter {
         requires right { AreChanges right.now }
         ensures { OnOk result (HasSumStrip self.old top left.now right.now self.new) }
     {
+        // Mostly one of two rows is blank.
+        if right.is_empty() {
+            return self.push(top, left);
+        }
+        if left.is_empty() {
+            return self.push(top, right);
+        }
         let start = self.edges.len();
         push_sum_of_edges(&mut self.edges, left, right)?;
         let head = head_between(top, start, self.edges.len())?;
@@ -157,4 +165,17 @@ fn head_between(top: i32, start: usize, end: usize) -> Result<Head, OutOfMemory>
         count,
         start: first,
     })
+}
+
+/// Appends the edges of a row to a list of edges. Most rows have two.
+fn push_row(edges: &mut Vec<Edge>, row: &[Edge]) -> Result<(), OutOfMemory>
+    ensures pushed { OnOk result (edges.new.items ≡ edges.old.items ++ row.now) }
+    ensures kept { OnErr result (HasMoreEdges edges.old.items edges.new.items) }
+{
+    if let [first, second] = row {
+        edges.push(*first)?;
+        edges.push(*second)?;
+        return Ok(());
+    }
+    Ok(edges.extend_from_slice(row)?)
 }

@@ -1,7 +1,21 @@
-use Rattle.std.proofs.Common.{arith}
+use Rattle.std.proofs.Common.{to_z-of_z, arith}
 use Rattle.std.proofs.lemmas.Int.{ints}
+use Rattle.std.proofs.lemmas.List.{nil_from_length}
+use Rattle.std.proofs.lemmas.Result.{on_ok_weaker}
 use Rattle.mf_strips.proofs.HeadsLemmas.{heads_push, strips_push}
+use Rattle.mf_strips.proofs.SumsLemmas.{sum_left, sum_right}
 use Rattle.mf_strips.proofs.writer.PartWriter.push_sum.Goals as goal
+
+pub returns-then-is_empty : goal.returns-then-is_empty
+returns-then-is_empty c =
+    let none = nil_from_length c.args.right.now (grind (arith, c.if-is_empty)) in
+    on_ok_weaker c.push.result (λ all. record { edges = c.args.left.now; all = all; sum = sum_left _ _ c.requires.left none }) (rw (to_z-of_z c.ranges.top) at c.push.ensures)
+
+pub returns-then-is_empty-2 : goal.returns-then-is_empty-2
+returns-then-is_empty-2 c =
+    let none = nil_from_length c.args.left.now (grind (arith, c.if-is_empty-2)) in
+    on_ok_weaker c.push-then-is_empty-2.result (λ all. record { edges = c.args.right.now; all = all; sum = sum_right _ _ c.requires.right none })
+    (rw (to_z-of_z c.ranges.top) at c.push-then-is_empty-2.ensures)
 
 pub returns : goal.returns
 returns c =
