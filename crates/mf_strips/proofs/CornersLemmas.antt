@@ -1,6 +1,6 @@
 -- Corners from the top down, and the strips that they make.
 use Rattle.std.proofs.Common.{◌≡◌, ℕ, suc, ◌+◌, ◌*◌, ◌<◌, ◌≤◌, ℤ, pos, negsuc, ◌+ℤ◌, ◌-ℤ◌, ◌≤ℤ◌, ◌<ℤ◌}
-use Rattle.std.proofs.Common.{◌&&◌, int_le, int_lt, Bool, true, false, List, [], ◌∷◌, ◌++◌, length, w32, FitsSigned, refl, sym, ap, subst, ◌∙◌, arith, if◌then◌else◌}
+use Rattle.std.proofs.Common.{int_le, Bool, false, List, [], ◌∷◌, ◌++◌, length, w32, FitsSigned, refl, sym, ap, subst, ◌∙◌, arith, if◌then◌else◌}
 use Rattle.std.specs.Int.{int_wrap, int_max}
 use Rattle.std.proofs.lemmas.Int.{ints, clamps, by_lt_z, int_wrap_fits, int_wrap-add_left}
 use Rattle.std.specs.List.{All, sum_by}
@@ -9,7 +9,7 @@ use Rattle.std.specs.Ordering.{int_cmp, is_lt, ordering_then}
 use Rattle.std.proofs.lemmas.Cmp.{by_ranked, int_ranked}
 use Rattle.std.proofs.lemmas.List.Sorted.{sum_by-IsPermutation}
 use Rattle.std.proofs.lemmas.List.Sums.{sum_by-cons}
-use Rattle.std.proofs.lemmas.List.Elements.{All-head, All-tail, All-nil, All-weaker, All-push}
+use Rattle.std.proofs.lemmas.List.Elements.{All-head, All-tail, All-nil, All-weaker}
 use Rattle.mf_geom.specs.Coordinates.{least_coordinate, greatest_coordinate}
 use Rattle.mf_edges.specs.declared.edge.Edge.{Edge}
 use Rattle.mf_edges.specs.Edges.{AreEdges, AreEdgesFrom, weight_in}
@@ -22,6 +22,7 @@ use Rattle.mf_edges.proofs.EdgeSums.{sorted_push, before_push, weight_in-push}
 use Rattle.mf_edges.proofs.ReachesLemmas.{row_unless_unlawful, reach_of_row}
 use Rattle.mf_strips.specs.Strips.{EdgeStrip, row_in, last_row, weight_in_strips, AreAbove, AreStrips, AreStripsDownTo}
 use Rattle.mf_strips.proofs.StripsLemmas.{row_in-below, row_in-pushed, row_in-kept, row_lawful, no_edges, none_reached, strips_push, wider_strip, wider_strips}
+use Rattle.mf_strips.proofs.Written.{strips_lower, strips_more}
 use Rattle.mf_strips.specs.declared.corner.Corner.{Corner}
 use Rattle.mf_strips.specs.Corners.{added_by, added_by_all, IsPlaced, IsPast, AreSortedFrom, AddChanges, AreChangedBelow, AreCorners, HaveFieldStripWeights, AreSweptCorners, BeginAtHeight, BeginBelowField, IsCorner, IsCornerWeight, IsReach, IsSplitPlace, IsSplitHeight}
 
@@ -186,12 +187,9 @@ module _ (low reach : ℤ) (ss : List EdgeStrip) (strips : AreStripsDownTo low r
   pub last_lawful : AreEdges (last_row ss)
   last_lawful = rw (← row_in-lowest ss low strips.above) (row_lawful greatest_coordinate reach [] ss low no_edges strips.strips)
 
-  pub strips_lower : (next : ℤ) → next ≤ℤ low → AreStripsDownTo next reach ss
-  strips_lower next le = record { strips = strips.strips; above = All-weaker (λ s. low <ℤ s.top) (λ s. next <ℤ s.top) (λ s lt. omega (arith, ints)) ss strips.above }
-
 pub changed_none : (top : ℤ) (ss : List EdgeStrip) → AreChangedBelow top [] ss ss
 unfolding weight_in
-changed_none top ss = record { weights = λ x y. grind (arith, ints) }
+changed_none top ss = record { below = λ x y lt. omega (arith, ints); above = λ x y ge. refl }
 
 module _ (top reach : ℤ) (changes es : List Edge) (ss : List EdgeStrip) (strips : AreStripsDownTo top reach ss) (changed : AreChanges changes)
     (sum : IsEdgeSum (last_row ss) changes es) (lawful : IsUnlawfulColumn (weight_in_both (last_row ss) changes) → ⊥) where
@@ -204,14 +202,10 @@ module _ (top reach : ℤ) (changes es : List Edge) (ss : List EdgeStrip) (strip
   pub changed_weights : AreChangedBelow top changes ss (ss ++ strip ∷ [])
   unfolding weight_in_strips weight_in_both
   changed_weights = record {
-    weights = λ x y. by_lt_z y top
-        (λ lt.
+    below = λ x y lt.
         let new = ap (λ es. weight_in es x) (row_in-pushed [] ss strip y strips.above lt) in
-        let old = weight_below top reach ss strips x y (omega (arith, ints)) in
-        grind (arith, ints, new, old, sum.weights.weights x))
-        (λ ge.
-        let same = ap (λ es. weight_in es x) (row_in-kept [] ss strip y ge) in
-        grind (arith, ints, same));
+        omega (arith, ints, new, weight_below top reach ss strips x y (omega (arith, ints)), sum.weights.weights x);
+    above = λ x y ge. ap (λ es. weight_in es x) (row_in-kept [] ss strip y ge);
   }
 
   module _ (r next : ℤ) (lawful_reach : IsReach reach) (least : IsLeastReach r es) (greater : next ≡ int_max reach r) where
@@ -223,13 +217,9 @@ module _ (top reach : ℤ) (changes es : List Edge) (ss : List EdgeStrip) (strip
 
     pub changed_strips : least_coordinate ≤ℤ top → top ≤ℤ greatest_coordinate → AreStripsDownTo (top -ℤ pos 1) next (ss ++ strip ∷ [])
     changed_strips bottom high =
-        let lower = strips_lower top reach ss strips (top -ℤ pos 1) (omega (arith, ints)) in
         let new = wider_strip r next strip (omega (arith, ints, clamps)) changed_reach.most (record { bottom = bottom; edges = changed_row; reached = own }) in
         let old = wider_strips greatest_coordinate reach next ss (omega (arith, ints, clamps)) changed_reach.most strips.strips in
-        record {
-          strips = strips_push greatest_coordinate next ss strip old strips.above high new;
-          above = All-push (λ s. (top -ℤ pos 1) <ℤ s.top) ss strip lower.above (omega (arith, ints));
-        }
+        strips_more next ss strip (record { strips = old; above = strips.above }) high new
 
 -- ---- the field is finished
 
@@ -285,12 +275,6 @@ swept_none all left sorted same = record {
   reached = record { least = omega (arith, ints); most = omega (arith, ints) };
   weights = λ x y. omega (arith, ints, same x y);
 }
-
-lower_part : (y top w : ℤ) → y <ℤ top → (if int_lt y top then w else pos 0) ≡ w
-lower_part y top w lt = grind (arith, ints)
-
-upper_part : (y top w : ℤ) → top ≤ℤ y → (if int_lt y top then w else pos 0) ≡ pos 0
-upper_part y top w ge = grind (arith, ints)
 
 -- the corners that are left begin at height `top`
 sorted_here : (low top : ℤ) (ks : List Corner) → AreSortedFrom least_coordinate low ks → BeginAtHeight top ks
@@ -359,15 +343,11 @@ module _ (all left : List Corner) (reach : ℤ) (out : List EdgeStrip) (top : �
       sorted = split.sorted;
       strips = strips;
       reached = lawful;
-      weights = λ x y.
-          let now = changed.weights x y in
-          let old = so_far.weights x y in
-          by_lt_z y top
-          (λ lt. omega (arith, ints, split.weights x y lt, lower_part y top (weight_in changes x) lt))
+      weights = λ x y. by_lt_z y top
+          (λ lt. omega (arith, ints, changed.below x y lt, so_far.weights x y, split.weights x y lt))
           (λ ge.
-          let none = nothing_above x y ge in
           let none_left = added_before least_coordinate (top -ℤ pos 1) x y others split.sorted (omega (arith, ints)) (λ same. absurd (omega (arith, ints))) in
-          omega (arith, ints, upper_part y top (weight_in changes x) ge));
+          omega (arith, ints, changed.above x y ge, so_far.weights x y, nothing_above x y ge));
     }
 
 -- no row of the field is below the corners that are left
@@ -440,13 +420,9 @@ sorted_all (k ∷ ks) placed sorted =
 
 -- ---- the corners of contours, which are few and light
 
-part_is_light : (b : Bool) (w : ℤ) → IsCornerWeight w → IsCornerWeight (if b then w else pos 0)
-part_is_light true w light = light
-part_is_light false w light = record { least = omega (arith, ints); greatest = omega (arith, ints) }
-
 part_within : (k : Corner) (x y : ℤ) → IsCorner k → IsCornerWeight (added_by k x y)
 unfolding added_by
-part_within k x y corner = part_is_light (int_le k.x x && int_lt y k.y) k.weight corner.weight
+part_within k x y corner = grind (arith, ints)
 
 added_within : (ks : List Corner) (x y : ℤ) → All IsCorner ks → IsInReach (pos (3 * length ks)) (added_by_all ks x y)
 unfolding added_by_all

@@ -41,10 +41,6 @@ pub record IsSumSoFar (ss ts : List EdgeStrip) (l r reach : ℤ) (left right : S
 
 -- ---- the next height
 
-from_first : (ss : List EdgeStrip) (t top : ℤ) → first_top ss ≡ Some t → t ≤ℤ top → IsFrom ss top
-from_first [] t top first le = tt
-from_first (s ∷ ss) t top first le = let is : s.top ≡ t = cc in omega (arith, ints, is)
-
 -- the strips of both sides begin at the higher one of their heights, or below it
 pub from_higher : (ss ts : List EdgeStrip) (top : ℤ) → higher_of (first_top ss) (first_top ts) ≡ Some top → IsFrom ss top × IsFrom ts top
 from_higher [] [] top first = (tt, tt)
@@ -204,9 +200,9 @@ module _ (before : List EdgeStrip) (top : ℤ) (es fs : List Edge) (after : List
 
 -- ---- what a call asks and tells
 
-pub both_reaches : (l r x y : ℤ) → x ≡ l → y ≡ r → pos 0 ≤ℤ l → l ≤ℤ greatest_weight → pos 0 ≤ℤ r → r ≤ℤ greatest_weight
+pub both_reaches : (ss ts : List EdgeStrip) (l r x y : ℤ) → x ≡ l → y ≡ r → AreStrips l ss → AreStrips r ts
     → to_z w32 (of_z w32 (to_z w32 (of_z w32 x) +ℤ to_z w32 (of_z w32 y))) ≡ l +ℤ r
-both_reaches l r x y is_l is_r least_l most_l least_r most_r = omega (arith, ints)
+both_reaches ss ts l r x y is_l is_r on_l on_r = omega (arith, ints, on_l.least, on_l.most, on_r.least, on_r.most)
 
 -- the rows that were passed last have no sum of weights beyond the sum of both reaches
 pub sides_of : (low l r : ℤ) (left right : Side) → IsSide low l left → IsSide low r right → AreSidesOf (l +ℤ r) left right

@@ -10,6 +10,18 @@ use Rattle.mf_strips.specs.Strips.{EdgeStrip, row_in, weight_in_strips, IsStrip,
 use Rattle.mf_strips.specs.Sums.{AreWritten}
 use Rattle.mf_strips.proofs.StripsLemmas.{row_in-pushed, row_in-kept, strips_push, wider_strips, row_lawful, no_edges, blank_row}
 
+-- the strips above a height are those above a lower one
+pub strips_lower : (low reach : ℤ) (ss : List EdgeStrip) → AreStripsDownTo low reach ss → (next : ℤ) → next ≤ℤ low → AreStripsDownTo next reach ss
+strips_lower low reach ss strips next le = record { strips = strips.strips; above = All-weaker (λ s. low <ℤ s.top) (λ s. next <ℤ s.top) (λ s lt. omega (arith, ints)) ss strips.above }
+
+-- a strip is appended
+pub strips_more : (reach : ℤ) (ss : List EdgeStrip) (s : EdgeStrip) → AreStripsDownTo s.top reach ss → s.top ≤ℤ greatest_coordinate → IsStrip reach s
+    → AreStripsDownTo (s.top -ℤ pos 1) reach (ss ++ s ∷ [])
+strips_more reach ss s strips high strip = record {
+  strips = strips_push greatest_coordinate reach ss s strips.strips strips.above high strip;
+  above = All-push (λ t. (s.top -ℤ pos 1) <ℤ t.top) ss s (strips_lower s.top reach ss strips (s.top -ℤ pos 1) (omega (arith, ints))).above (omega (arith, ints));
+}
+
 -- nothing was written yet
 pub written_none : (f rest : ℤ → ℤ → ℤ) (From : ℤ → Type 0) (reach : ℤ) → ((x y : ℤ) → From y → pos 0 ≡ f x y) → ((x y : ℤ) → rest x y ≡ f x y)
     → AreWritten f rest From greatest_coordinate reach []
@@ -32,16 +44,12 @@ unfolding weight_in_strips
 written_push f rest rest' From From' low reach top es out written le strip from same rows =
     let s : EdgeStrip = record { top = top; edges = es } in
     let high : top ≤ℤ greatest_coordinate = omega (arith, ints, le, written.high) in
-    let lower = All-weaker (λ t. low <ℤ t.top) (λ t. top <ℤ t.top) (λ t lt. omega (arith, ints)) out written.out.above in
+    let lower = strips_lower low reach out written.out top le in
     record {
-      out = record {
-        strips = strips_push greatest_coordinate reach out s written.out.strips lower high strip;
-        above = All-push (λ t. (top -ℤ pos 1) <ℤ t.top) out s
-            (All-weaker (λ t. low <ℤ t.top) (λ t. (top -ℤ pos 1) <ℤ t.top) (λ t lt. omega (arith, ints)) out written.out.above) (omega (arith, ints));
-      };
+      out = strips_more reach out s lower high strip;
       high = omega (arith, ints);
       above = λ x y fr. by_lt_z y top
-          (λ lt. ap (λ es. weight_in es x) (row_in-pushed [] out s y lower lt) ∙ rows x y lt fr ∙ same x y lt ∙ written.below x y (omega (arith, ints)))
+          (λ lt. ap (λ es. weight_in es x) (row_in-pushed [] out s y lower.above lt) ∙ rows x y lt fr ∙ same x y lt ∙ written.below x y (omega (arith, ints)))
           (λ ge. ap (λ es. weight_in es x) (row_in-kept [] out s y ge) ∙ written.above x y (from y ge));
       below = λ x y lt. same x y (omega (arith, ints)) ∙ written.below x y (omega (arith, ints));
     }

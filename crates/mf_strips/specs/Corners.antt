@@ -101,4 +101,5 @@ pub record IsReach (reach : ℤ) : Type 0 where
 
 -- the weights of the rows below height `top` are greater by those of changes
 pub record AreChangedBelow (top : ℤ) (changes : List Edge) (before after : List EdgeStrip) : Type 0 where
-  pub weights : (x y : ℤ) → weight_in_strips after x y ≡ weight_in_strips before x y +ℤ (if int_lt y top then weight_in changes x else pos 0)
+  pub below : (x y : ℤ) → y <ℤ top → weight_in_strips after x y ≡ weight_in_strips before x y +ℤ weight_in changes x
+  pub above : (x y : ℤ) → top ≤ℤ y → weight_in_strips after x y ≡ weight_in_strips before x y
