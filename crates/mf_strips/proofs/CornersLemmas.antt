@@ -13,8 +13,8 @@ use Rattle.std.proofs.lemmas.List.Elements.{All-head, All-tail, All-nil, All-wea
 use Rattle.mf_geom.specs.Coordinates.{least_coordinate, greatest_coordinate}
 use Rattle.mf_edges.specs.declared.edge.Edge.{Edge}
 use Rattle.mf_edges.specs.Edges.{AreEdges, AreEdgesFrom, weight_in}
-use Rattle.mf_edges.specs.LawfulWeights.{IsInReach}
-use Rattle.mf_edges.specs.Reaches.{IsLeastReach, StaysInReach}
+use Rattle.mf_edges.specs.LawfulWeights.{greatest_weight, IsInReach}
+use Rattle.mf_edges.specs.Reaches.{IsLeastReach}
 use Rattle.mf_edges.specs.Merging.{AreChanges, IsDifference, unless_zero}
 use Rattle.mf_edges.specs.Sums.{with_edge_in, weight_in_both, IsEdgeSum, HasEdgeSum, IsUnlawfulColumn}
 use Rattle.mf_edges.proofs.EdgesLemmas.{weight_in-left}
@@ -187,9 +187,14 @@ module _ (low reach : ℤ) (ss : List EdgeStrip) (strips : AreStripsDownTo low r
   pub last_lawful : AreEdges (last_row ss)
   last_lawful = rw (← row_in-lowest ss low strips.above) (row_lawful greatest_coordinate reach [] ss low no_edges strips.strips)
 
-pub changed_none : (top : ℤ) (ss : List EdgeStrip) → AreChangedBelow top [] ss ss
+pub changed_none : (top reach : ℤ) (ss : List EdgeStrip) → AreStripsDownTo top reach ss → IsReach reach → AreChangedBelow top [] ss reach ss
 unfolding weight_in
-changed_none top ss = record { below = λ x y lt. omega (arith, ints); above = λ x y ge. refl }
+changed_none top reach ss strips lawful = record {
+  strips = strips_lower top reach ss strips (top -ℤ pos 1) (omega (arith, ints));
+  reached = lawful;
+  below = λ x y lt. omega (arith, ints);
+  above = λ x y ge. refl;
+}
 
 module _ (top reach : ℤ) (changes es : List Edge) (ss : List EdgeStrip) (strips : AreStripsDownTo top reach ss) (changed : AreChanges changes)
     (sum : IsEdgeSum (last_row ss) changes es) (lawful : IsUnlawfulColumn (weight_in_both (last_row ss) changes) → ⊥) where
@@ -199,27 +204,22 @@ module _ (top reach : ℤ) (changes es : List Edge) (ss : List EdgeStrip) (strip
   pub changed_row : AreEdges es
   changed_row = row_unless_unlawful (last_row ss) changes es sum (last_lawful top reach ss strips) changed lawful
 
-  pub changed_weights : AreChangedBelow top changes ss (ss ++ strip ∷ [])
+  pub changed_more : (r next : ℤ) → IsReach reach → IsLeastReach r es → next ≡ int_max reach r → least_coordinate ≤ℤ top → top ≤ℤ greatest_coordinate
+      → AreChangedBelow top changes ss next (ss ++ strip ∷ [])
   unfolding weight_in_strips weight_in_both
-  changed_weights = record {
-    below = λ x y lt.
-        let new = ap (λ es. weight_in es x) (row_in-pushed [] ss strip y strips.above lt) in
-        omega (arith, ints, new, weight_below top reach ss strips x y (omega (arith, ints)), sum.weights.weights x);
-    above = λ x y ge. ap (λ es. weight_in es x) (row_in-kept [] ss strip y ge);
-  }
-
-  module _ (r next : ℤ) (lawful_reach : IsReach reach) (least : IsLeastReach r es) (greater : next ≡ int_max reach r) where
-    own : StaysInReach r es
-    own = reach_of_row r es changed_row least
-
-    pub changed_reach : IsReach next
-    changed_reach = record { least = omega (arith, ints, clamps); most = omega (arith, ints, clamps, own.most) }
-
-    pub changed_strips : least_coordinate ≤ℤ top → top ≤ℤ greatest_coordinate → AreStripsDownTo (top -ℤ pos 1) next (ss ++ strip ∷ [])
-    changed_strips bottom high =
-        let new = wider_strip r next strip (omega (arith, ints, clamps)) changed_reach.most (record { bottom = bottom; edges = changed_row; reached = own }) in
-        let old = wider_strips greatest_coordinate reach next ss (omega (arith, ints, clamps)) changed_reach.most strips.strips in
-        strips_more next ss strip (record { strips = old; above = strips.above }) high new
+  changed_more r next lawful_reach least greater bottom high =
+      let own = reach_of_row r es changed_row least in
+      let most : next ≤ℤ greatest_weight = omega (arith, ints, clamps, own.most, lawful_reach) in
+      let new = wider_strip r next strip (omega (arith, ints, clamps)) most (record { bottom = bottom; edges = changed_row; reached = own }) in
+      let old = wider_strips greatest_coordinate reach next ss (omega (arith, ints, clamps)) most strips.strips in
+      record {
+        strips = strips_more next ss strip (record { strips = old; above = strips.above }) high new;
+        reached = record { least = omega (arith, ints, clamps, lawful_reach); most = most };
+        below = λ x y lt.
+            let pushed = ap (λ es. weight_in es x) (row_in-pushed [] ss strip y strips.above lt) in
+            omega (arith, ints, pushed, weight_below top reach ss strips x y (omega (arith, ints)), sum.weights.weights x);
+        above = λ x y ge. ap (λ es. weight_in es x) (row_in-kept [] ss strip y ge);
+      }
 
 -- ---- the field is finished
 
@@ -335,14 +335,13 @@ module _ (all left : List Corner) (reach : ℤ) (out : List EdgeStrip) (top : �
         let next : weight_in (last_row out) x +ℤ weight_in changes x ≡ added_by_all all x (top -ℤ pos 1) = omega (arith, ints, changes_are x, next_row_is x) in
         wrong.unlawful (rw next (given.lawful x (top -ℤ pos 1)))
 
-    pub swept_more : (next : ℤ) (new : List EdgeStrip) → AreStripsDownTo (top -ℤ pos 1) next new → IsReach next → AreChangedBelow top changes out new
-        → IsSwept all others next new
-    swept_more next new strips lawful changed = record {
+    pub swept_more : (next : ℤ) (new : List EdgeStrip) → AreChangedBelow top changes out next new → IsSwept all others next new
+    swept_more next new changed = record {
       low = top -ℤ pos 1;
       bottom = omega (arith, ints);
       sorted = split.sorted;
-      strips = strips;
-      reached = lawful;
+      strips = changed.strips;
+      reached = changed.reached;
       weights = λ x y. by_lt_z y top
           (λ lt. omega (arith, ints, changed.below x y lt, so_far.weights x y, split.weights x y lt))
           (λ ge.

@@ -1,5 +1,5 @@
 -- The sum of two lists of strips, which is made from the top down.
-use Rattle.std.proofs.Common.{◌≡◌, ◌⊎◌, inl, inr, ◌+◌, ◌<◌, ◌≤◌, ℤ, to_z, of_z, w32, pos, ◌+ℤ◌, ◌-ℤ◌, ◌≤ℤ◌, ◌<ℤ◌, Option, Some, None, List, [], ◌∷◌, ◌++◌, length, refl, ap, sym, subst, ◌∙◌, arith}
+use Rattle.std.proofs.Common.{◌≡◌, ◌⊎◌, inl, inr, ◌+◌, ◌<◌, ◌≤◌, ℤ, to_z, of_z, w32, pos, ◌+ℤ◌, ◌-ℤ◌, ◌≤ℤ◌, ◌<ℤ◌, Option, Some, None, List, [], ◌∷◌, length, refl, ap, sym, subst, ◌∙◌, arith}
 use Rattle.std.specs.Int.{int_max}
 use Rattle.std.specs.Ordering.{int_cmp, ord_max}
 use Rattle.std.proofs.lemmas.Int.{ints, by_lt_z, int_max_is}
@@ -12,13 +12,13 @@ use Rattle.mf_edges.specs.Reaches.{StaysInReach}
 use Rattle.mf_edges.specs.Sums.{IsEdgeSum, IsUnlawfulColumn, weight_in_both}
 use Rattle.mf_edges.proofs.EdgesLemmas.{weight_in-outside}
 use Rattle.mf_edges.proofs.EdgeSums.{changes_of_edges}
-use Rattle.mf_edges.proofs.ReachesLemmas.{sum_is_changes, row_in_reach, wider_reach, ord_max_is}
+use Rattle.mf_edges.proofs.ReachesLemmas.{sum_is_changes, row_in_reach, ord_max_is}
 use Rattle.mf_strips.specs.declared.side.Side.{Side}
 use Rattle.mf_strips.specs.Parts.{strips_of, side_row, first_top, IsSide, AreSidesOf}
 use Rattle.mf_strips.specs.Strips.{EdgeStrip, last_row, weight_in_strips, AreStrips, AreStripsFrom, HaveStripWeights, IsUnlawfulSomewhere}
 use Rattle.mf_strips.specs.Sums.{sum_in_strips, AreWritten, IsFrom, higher_of, HasSumStrip, HasReachedStrip, IsWithin}
 use Rattle.mf_strips.proofs.HeadsLemmas.{last_row-push}
-use Rattle.mf_strips.proofs.StripsLemmas.{row_in-from, no_edges, no_weight, none_reached}
+use Rattle.mf_strips.proofs.StripsLemmas.{row_in-from, no_edges, no_weight, none_reached, wider_strip}
 use Rattle.mf_strips.proofs.Written.{written_none, written_push, written_wider, written_all, strips_closed}
 
 -- the weights of the rows that two sides have still to come
@@ -98,39 +98,6 @@ side_at low reach top s side from = record { row = side.row; reached = side.reac
 from_lower : (ss : List EdgeStrip) (y z : ℤ) → IsFrom ss y → y ≤ℤ z → IsFrom ss z
 from_lower [] y z from le = tt
 from_lower (s ∷ ss) y z from le = let start : s.top ≤ℤ y = from in omega (arith, ints)
-
--- the rows below the height at which both sides were passed
-pub record IsPassed (top : ℤ) (old new : Side) : Type 0 where
-  pub rows : (y : ℤ) → y <ℤ top → side_row new y ≡ side_row old y
-
-module _ (ss ts : List EdgeStrip) (l r reach top next : ℤ) (left right left' right' : Side) (es : List Edge) (out : List EdgeStrip) where
-  -- a strip was written, with the sum of the rows of both sides
-  pub sum_next : IsSumSoFar ss ts l r reach left right out
-      → higher_of (first_top (strips_of left.strips)) (first_top (strips_of right.strips)) ≡ Some top
-      → IsSide (top -ℤ pos 1) l left' → IsSide (top -ℤ pos 1) r right' → IsPassed top left left' → IsPassed top right right'
-      → AreEdges es → IsEdgeSum left'.row.now right'.row.now es → StaysInReach next es → reach ≤ℤ next → next ≤ℤ (l +ℤ r)
-      → IsSumSoFar ss ts l r next left' right' (out ++ record { top = top; edges = es } ∷ [])
-  unfolding rest_of weight_in_both
-  sum_next so_far first on_left on_right passed_left passed_right edges sum reached wider most =
-      let within = top_within so_far.low l r top left right so_far.on_left so_far.on_right first in
-      let from = from_higher (strips_of left.strips) (strips_of right.strips) top first in
-      record {
-        low = top -ℤ pos 1;
-        on_left = on_left;
-        on_right = on_right;
-        written = written_push (sum_in_strips ss ts) (rest_of left right) (rest_of left' right') (FromBoth left right) (FromBoth left' right')
-            so_far.low next top es out
-            (written_wider (sum_in_strips ss ts) (rest_of left right) (FromBoth left right) so_far.low reach next out wider reached.most so_far.written)
-            within.0
-            (record { bottom = within.1; edges = edges; reached = reached })
-            (λ y le. (from_lower (strips_of left.strips) top y from.0 le, from_lower (strips_of right.strips) top y from.1 le))
-            (λ x y lt. rw (passed_left.rows y lt, passed_right.rows y lt) refl)
-            (λ x y lt fr. sum.weights.weights x
-            ∙ rw (row_in-from left'.row.now (strips_of left'.strips) y fr.0, row_in-from right'.row.now (strips_of right'.strips) y fr.1) refl);
-        least = omega (arith, ints, so_far.least);
-        most = most;
-        lawful = reached.most;
-      }
 
 -- before the first strip
 pub sum_none : (ss ts : List EdgeStrip) (l r : ℤ) (left right : Side) → left.row.now ≡ [] → right.row.now ≡ [] → strips_of left.strips ≡ ss → strips_of right.strips ≡ ts
@@ -223,8 +190,8 @@ pub record AreBothPassed (top l r : ℤ) (left right left' right' : Side) : Type
   pub high : top ≤ℤ greatest_coordinate
   pub on_left : IsSide (top -ℤ pos 1) l left'
   pub on_right : IsSide (top -ℤ pos 1) r right'
-  pub left_rows : IsPassed top left left'
-  pub right_rows : IsPassed top right right'
+  pub left_rows : (y : ℤ) → y <ℤ top → side_row left' y ≡ side_row left y
+  pub right_rows : (y : ℤ) → y <ℤ top → side_row right' y ≡ side_row right y
   pub first : higher_of (first_top (strips_of left.strips)) (first_top (strips_of right.strips)) ≡ Some top
 
 -- what a side tells of passing a height
@@ -248,8 +215,8 @@ both_passed ss ts l r reach top left right left' right' out g h so_far is_g is_h
       high = omega (arith, ints, within.0, so_far.written.high);
       on_left = on_l.side l (side_at so_far.low l top left so_far.on_left from.0);
       on_right = on_r.side r (side_at so_far.low r top right so_far.on_right from.1);
-      left_rows = record { rows = on_l.rows };
-      right_rows = record { rows = on_r.rows };
+      left_rows = on_l.rows;
+      right_rows = on_r.rows;
       first = first;
     }
 
@@ -279,8 +246,8 @@ unlawful_somewhere ss ts l r reach top left right left' right' out on_l on_r so_
     let is : sum_in_strips ss ts x y ≡ weight_in left'.row.now x +ℤ weight_in right'.row.now x =
     sym (so_far.written.below x y (omega (arith, ints, within.0)))
     ∙ rw (
-      ← passed.left_rows.rows y (omega (arith, ints)),
-      ← passed.right_rows.rows y (omega (arith, ints)),
+      ← passed.left_rows y (omega (arith, ints)),
+      ← passed.right_rows y (omega (arith, ints)),
       row_in-from left'.row.now (strips_of left'.strips) y (strips_from y l (strips_of left'.strips) passed.on_left.strips),
       row_in-from right'.row.now (strips_of right'.strips) y (strips_from y r (strips_of right'.strips) passed.on_right.strips),
     ) refl in
@@ -307,17 +274,33 @@ pub fewer_strips : (ss ts ss' ts' : List EdgeStrip) (top : ℤ) → higher_of (f
 fewer_strips ss ts ss' ts' top first less_left le_left less_right le_right =
     elim (higher_is ss ts top first) [ inl is ↦ (let lt = less_left is in omega (arith, lt)) | inr is ↦ (let lt = less_right is in omega (arith, lt)) ]
 
--- the next strip of the sum, with the greater one of both reaches
+-- a strip was written with the sum of the rows of both sides, and the greater one of both reaches
 pub next_sum : (ss ts : List EdgeStrip) (l r reach top : ℤ) (left right left' right' : Side) (out : List EdgeStrip) (row : ℤ) (after : List EdgeStrip)
     → IsSumSoFar ss ts l r reach left right out → AreBothPassed top l r left right left' right'
     → HasReachedStrip out top left'.row.now right'.row.now row after → row ≤ℤ (l +ℤ r)
     → IsSumSoFar ss ts l r (to_z w32 (of_z w32 (ord_max int_cmp reach row))) left' right' after
+unfolding rest_of weight_in_both
 next_sum ss ts l r reach top left right left' right' out row after so_far passed pushed most =
     let next = ord_max int_cmp reach row in
     let both = ord_max_is reach row (l +ℤ r) so_far.most most in
     let lawful = (ord_max_is reach row greatest_weight so_far.lawful pushed.reached.most).most in
     let is : to_z w32 (of_z w32 next) ≡ next = omega (arith, ints, both.left, so_far.least, lawful) in
-    rw is
-    (subst (IsSumSoFar ss ts l r next left' right') (sym pushed.all)
-    (sum_next ss ts l r reach top next left right left' right' pushed.edges out so_far passed.first passed.on_left passed.on_right passed.left_rows
-    passed.right_rows pushed.row pushed.sum (record { most = lawful; within = λ x. wider_reach both.right (pushed.reached.within x) }) both.left both.most))
+    let within = top_within so_far.low l r top left right so_far.on_left so_far.on_right passed.first in
+    let from = from_higher (strips_of left.strips) (strips_of right.strips) top passed.first in
+    rw (is, pushed.all) (record {
+      low = top -ℤ pos 1;
+      on_left = passed.on_left;
+      on_right = passed.on_right;
+      written = written_push (sum_in_strips ss ts) (rest_of left right) (rest_of left' right') (FromBoth left right) (FromBoth left' right')
+          so_far.low next top pushed.edges out
+          (written_wider (sum_in_strips ss ts) (rest_of left right) (FromBoth left right) so_far.low reach next out both.left lawful so_far.written)
+          within.0
+          (wider_strip row next _ both.right lawful (record { bottom = within.1; edges = pushed.row; reached = pushed.reached }))
+          (λ y le. (from_lower (strips_of left.strips) top y from.0 le, from_lower (strips_of right.strips) top y from.1 le))
+          (λ x y lt. rw (passed.left_rows y lt, passed.right_rows y lt) refl)
+          (λ x y lt fr. pushed.sum.weights.weights x
+          ∙ rw (row_in-from left'.row.now (strips_of left'.strips) y fr.0, row_in-from right'.row.now (strips_of right'.strips) y fr.1) refl);
+      least = omega (arith, ints, so_far.least, both.left);
+      most = both.most;
+      lawful = lawful;
+    })

@@ -8,7 +8,7 @@ use Rattle.mf_edges.specs.declared.edge.Edge.{Edge}
 use Rattle.mf_edges.specs.Edges.{AreEdgesFrom, weight_in}
 use Rattle.mf_edges.specs.Merging.{IsChange}
 use Rattle.mf_strips.specs.declared.corner.Corner.{Corner}
-use Rattle.mf_strips.specs.Strips.{EdgeStrip, weight_in_strips}
+use Rattle.mf_strips.specs.Strips.{EdgeStrip, weight_in_strips, AreStripsDownTo}
 
 -- what a corner adds to the pixel (x, y)
 unfoldable pub added_by : Corner → ℤ → ℤ → ℤ
@@ -99,7 +99,9 @@ pub record IsReach (reach : ℤ) : Type 0 where
   pub least : pos 0 ≤ℤ reach
   pub most : reach ≤ℤ greatest_weight
 
--- the weights of the rows below height `top` are greater by those of changes
-pub record AreChangedBelow (top : ℤ) (changes : List Edge) (before after : List EdgeStrip) : Type 0 where
+-- strips of a reach have weights that are greater by those of changes in the rows below height `top`
+pub record AreChangedBelow (top : ℤ) (changes : List Edge) (before : List EdgeStrip) (reach : ℤ) (after : List EdgeStrip) : Type 0 where
+  pub strips : AreStripsDownTo (top -ℤ pos 1) reach after
+  pub reached : IsReach reach
   pub below : (x y : ℤ) → y <ℤ top → weight_in_strips after x y ≡ weight_in_strips before x y +ℤ weight_in changes x
   pub above : (x y : ℤ) → top ≤ℤ y → weight_in_strips after x y ≡ weight_in_strips before x y

@@ -1,5 +1,5 @@
 //! Corners, and the part that they make.
-ghost use Rattle.std.specs.Prelude.{◌≡◌, ◌∷◌, IfOk, OnOk, IfNone, IfSome, pos, ◌-ℤ◌, ◌≤ℤ◌, ◌<ℤ◌};
+ghost use Rattle.std.specs.Prelude.{◌≡◌, ◌∷◌, IfOk, IfNone, IfSome, pos, ◌-ℤ◌, ◌≤ℤ◌, ◌<ℤ◌};
 ghost use Rattle.mf_geom.specs.Coordinates.{least_coordinate, greatest_coordinate};
 ghost use Rattle.mf_edges.specs.Edges.{weight_in};
 ghost use Rattle.mf_edges.specs.Merging.{AreChanges, IsDifference};
@@ -121,9 +121,7 @@ fn push_changed(
     requires reach { IsReach reach }
     requires changes { AreChanges changes.now }
     requires lawful { IsUnlawfulColumn (weight_in_both (last_row part.old) changes.now) → ⊥ }
-    ensures strips { IfOk result (λ reach. AreStripsDownTo (top -ℤ pos 1) reach part.new) }
-    ensures reach { IfOk result (λ reach. IsReach reach) }
-    ensures weights { OnOk result (AreChangedBelow top changes.now part.old part.new) }
+    ensures { IfOk result (λ reach. AreChangedBelow top changes.now part.old reach part.new) }
 {
     if changes.is_empty() {
         return Ok(reach);

@@ -40,8 +40,7 @@ loop-top-preserved c =
     let split = rw (to_z-of_z top, ← c.deref.ensures.value) at c.in_ok-left.ensures in
     let pushed = rw (to_z-of_z top) at c.in_ok-reach.ensures in
     rw (to_z-of_z reach)
-    (swept_more _ _ _ _ c.in-Some.top c.requires c.loop-top.invariant c.in-Some.ensures.first c.in-Some.ensures.above _ _ split _ _
-    pushed.strips pushed.reach pushed.weights)
+    (swept_more _ _ _ _ c.in-Some.top c.requires c.loop-top.invariant c.in-Some.ensures.first c.in-Some.ensures.above _ _ split _ _ pushed)
 
 pub returns : goal.returns
 returns c =
