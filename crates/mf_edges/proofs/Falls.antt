@@ -27,7 +27,7 @@ IsPartitionedBy-falls f p up (x ∷ xs) falls (suc i) zero d le lt e = absurd (o
 IsPartitionedBy-falls f p up (x ∷ xs) falls (suc i) (suc j) d le lt e = IsPartitionedBy-falls f p up xs falls.1 i j d (omega arith) (omega arith) e
 
 -- what a partition point says of the elements before it
-All-take_within : {X : Type 0} (P : X → Type 0) (xs : List X) (n : ℕ) → n ≤ length xs → AllWithin P xs 0 n → All P (take n xs)
+pub All-take_within : {X : Type 0} (P : X → Type 0) (xs : List X) (n : ℕ) → n ≤ length xs → AllWithin P xs 0 n → All P (take n xs)
 All-take_within P xs n le within k d lt = grind (arith, ints, length-take-le, get_or-take)
 
 abbrev pub is_left_of : ℤ → Edge → Bool

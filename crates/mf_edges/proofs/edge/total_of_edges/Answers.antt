@@ -1,5 +1,4 @@
 use Rattle.std.proofs.Common.{◌≡◌, ℤ, get_or, ◌-ℤ◌, ◌+ℤ◌, ◌*ℤ◌, FitsSigned, to_z, of_z, w64, refl, arith}
-use Rattle.std.specs.Int.RustNames.{unsigned_abs}
 use Rattle.std.proofs.lemmas.Int.{ints, to_z-of_z}
 use Rattle.std.proofs.lemmas.List.{drop_all, drop_more}
 use Rattle.mf_geom.specs.Coordinates.{greatest_coordinate}

@@ -14,7 +14,6 @@ use Rattle.mf_strips.specs.RowEdges.{rests_of, weight_left, weights_of}
 use Rattle.mf_strips.specs.Strips.{EdgeStrip, row_in}
 use Rattle.mf_strips.proofs.PartsLemmas.{part_lawful, part_row}
 use Rattle.mf_strips.proofs.PileReads.{weight_of_rows, equal_weights, rows_more}
-use Rattle.mf_strips.proofs.PilesLemmas.{parts_in_reach}
 use Rattle.mf_strips.proofs.row_edges.RowEdges.enter.Goals as goal
 use Rattle.mf_strips.proofs.row_edges.RowEdges.enter.Goals.{After-find-rows, After-loop-i}
 
@@ -82,7 +81,7 @@ pub returns-clause-lawful : goal.returns-clause-lawful
 unfolding weights_of
 returns-clause-lawful c = λ x.
     let pile = c.args.self.now.pile.now in
-    wider_reach (omega (arith, ints, pile.lawful.reached, pile.lawful.most)) (parts_in_reach pile.parts.items x c.args.y)
+    wider_reach pile.lawful.most (pile.lawful.within x c.args.y)
 
 pub returns-clause-rows : goal.returns-clause-rows
 unfolding weights_of
