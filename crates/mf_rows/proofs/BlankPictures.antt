@@ -40,3 +40,5 @@ added_to_blank ds es blank = rw blank (record { weights = λ x y inside. omega (
 pub blank_mapped : (ds : List Dot) (m : WeightMap) → ds ≡ [] → IsWeightMap m → HasWeights (mapped_weights m (weight_at ds)) []
 unfolding weight_at
 blank_mapped ds m blank map = rw blank (record { weights = λ x y inside. sym map.zero })
+
+pub ruleset blanks = (blank_added, blank_subtracted, added_to_blank, blank_mapped)

@@ -33,7 +33,7 @@ use Rattle.mf_rows.specs.Moves.{PixelsStayInside}
 use Rattle.mf_rows.specs.Sums.{HasWeights, difference_at, sum_at}
 use Rattle.mf_rows.specs.Weights.{picture_of}
 use Rattle.mf_rows.proofs.FieldTotals.{total_of-picture_of}
-use Rattle.mf_rows.proofs.BlankPictures.{added_to_blank, blank_added, blank_mapped, blank_subtracted}
+use Rattle.mf_rows.proofs.BlankPictures.{blanks}
 use Rattle.mf_rows.proofs.DotsLemmas.{weight_at-outside}
 use Rattle.mf_rows.proofs.StretchBounds.{holds_at_weight}
 use Rattle.mf_rows.proofs.WeightsLemmas.{lawful_picture_of, same_pictures, weight_at-picture_of}
@@ -159,17 +159,4 @@ strips_inside columns rows ds part is inside = record {
 }
 
 -- what the methods of pictures use
-pub ruleset of_piles = (
-  ints,
-  sym,
-  to_z-of_z,
-  lawful_pile,
-  part_is,
-  pile_weight,
-  total_of-picture_of,
-  blank_pile,
-  blank_added,
-  added_to_blank,
-  blank_subtracted,
-  blank_mapped,
-)
+pub ruleset of_piles = (ints, sym, to_z-of_z, lawful_pile, part_is, pile_weight, total_of-picture_of, blank_pile, blanks)
