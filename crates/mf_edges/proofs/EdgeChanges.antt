@@ -76,7 +76,7 @@ weight_in-negative (e ∷ es) x =
 pub row_negative : (reach : ℤ) (es : List Edge) → AreEdges es → StaysInReach reach es → RowBecomes negate_row reach es (map negative_edge es)
 row_negative reach es edges reached =
     let sorted = edges_from-map negative_edge least_coordinate least_coordinate es (λ e f lt. lt) edges.sorted
-        (λ k d lt. let edge = (edges_from-at least_coordinate es k d edges.sorted lt).0 in grind (arith, ints)) (λ e le _. le) in
+    (λ k d lt. let edge = (edges_from-at least_coordinate es k d edges.sorted lt).0 in grind (arith, ints)) (λ e le _. le) in
     record {
       edges = grind (arith, ints, weight_in-negative);
       reached = grind (arith, ints, weight_in-negative);

@@ -4,7 +4,6 @@ use Rattle.std.specs.List.{All}
 use Rattle.std.proofs.lemmas.Bool.{cond-true, cond-false}
 use Rattle.std.proofs.lemmas.Int.{ints, by_lt_z}
 use Rattle.std.proofs.lemmas.List.{take-append-drop}
-use Rattle.std.proofs.lemmas.List.Elements.{All-head, All-tail}
 use Rattle.mf_geom.specs.Coordinates.{least_coordinate, greatest_coordinate, last_in_field}
 use Rattle.mf_edges.specs.declared.edge.Edge.{Edge}
 use Rattle.mf_edges.specs.Edges.{weight_in, AreEdgesFrom, AreEdges}
@@ -47,8 +46,8 @@ pub edges_from-append : (low middle : ℤ) (es fs : List Edge) → low ≤ℤ mi
     → All (λ e. e.x <ℤ middle) es → AreEdgesFrom middle fs → AreEdgesFrom low (es ++ fs)
 edges_from-append low middle [] fs le front before back = edges_from-lower low middle fs le back
 edges_from-append low middle (e ∷ es) fs le front before back =
-    let lower : e.x <ℤ middle = All-head (λ e. e.x <ℤ middle) e es before in
-    (front.0, front.1, edges_from-append (e.x +ℤ pos 1) middle es fs (omega (arith, ints)) front.2 (All-tail (λ e. e.x <ℤ middle) e es before) back)
+    let lower = before 0 e (omega arith) in
+    (front.0, front.1, edges_from-append (e.x +ℤ pos 1) middle es fs (omega (arith, ints)) front.2 (λ k d lt. before (suc k) d (omega arith)) back)
 
 -- the first edges and the others
 pub edges_from-take : (low : ℤ) (n : ℕ) (es : List Edge) → AreEdgesFrom low es → AreEdgesFrom low (take n es)
