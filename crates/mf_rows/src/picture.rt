@@ -100,7 +100,7 @@ impl Picture {
         self.pile.total()
     }
 
-    /// The least box of the pixels of nonzero weight, `None` where the picture is blank. It goes over the runs once.
+    /// The least box of the pixels of nonzero weight, `None` where the picture is blank. It passes equal rows once.
     #[tactic(auto, using(crate::proofs::LeastBoxes::least_boxes))]
     pub fn bounds(&self) -> Option<Box4>
         ensures blank { IsNone result ↔ (self.now ≡ []) }
@@ -110,8 +110,8 @@ impl Picture {
         self.bounds_of(Pixels::Nonzero)
     }
 
-    /// The least box of the pixels of positive weight, which are black in a character, `None` where there are none. It goes over the
-    /// runs once.
+    /// The least box of the pixels of positive weight, which are black in a character, `None` where there are none. It passes
+    /// equal rows once.
     #[tactic(auto, using(crate::proofs::LeastBoxes::black_in_dots))]
     pub fn black_bounds(&self) -> Option<Box4>
         ensures bounds { AreBounds (is_positive_at self.now) result }

@@ -16,7 +16,7 @@ pub const MAX_PARTS: usize = 32;
 pub struct Pile {
     /// The oldest and largest one first.
     pub(crate) parts: Vec<Arc<Part>>,
-    /// No weight exceeds it in absolute value, nor does one of some of the parts alone.
+    /// No weight exceeds it in absolute value. The reaches of the parts together are at most this, too, which the invariant does not say.
     reach: i32,
     ghost lawful: { ArePiled parts.items reach } by { ArePiled-prop parts.items reach },
 }
