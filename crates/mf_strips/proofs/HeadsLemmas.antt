@@ -1,9 +1,14 @@
 -- Heads stay true where edges are appended, and a new head appends a strip.
-use Rattle.std.proofs.Common.{◌≡◌, ℕ, zero, suc, ℤ, get_or, ◌+◌, ◌≤◌, List, [], ◌∷◌, ◌++◌, length, take, drop, refl, sym, ap, subst, ◌∙◌, length-append, length-drop, arith}
+use Rattle.std.proofs.Common.{◌≡◌, ℕ, zero, suc, ℤ, get_or, ◌+◌, ◌≤◌, List, [], ◌∷◌, ◌++◌, length, take, drop, true, refl, sym, ap, subst, ◌∙◌, length-append, length-drop, arith}
+use Rattle.std.specs.Bool.{Decides}
+use Rattle.std.specs.Cmp.Lexicographic.{pointwise}
+use Rattle.std.proofs.lemmas.Bool.Decides.{Decides-and, Decides-int_eq, Decides-like}
 use Rattle.std.proofs.lemmas.Int.{ints}
 use Rattle.std.proofs.lemmas.List.{take-append-le, drop-append-le, map_push, take_all}
 use Rattle.std.proofs.lemmas.List.Elements.{All-head, All-tail, All-weaker, All-push}
+use Rattle.std.proofs.lemmas.Slice.Eq.{slice_eq-Decides}
 use Rattle.std.proofs.Math.Seq.{drop-append_seam, take-append_seam}
+use Rattle.mf_edges.specs.contracts.edge.EdgePartialEq.TheImpl as edge_eq
 use Rattle.mf_edges.specs.declared.edge.Edge.{Edge}
 use Rattle.mf_strips.specs.declared.strips.Head.{Head}
 use Rattle.mf_strips.specs.Heads.{strip_at, strips_at, IsHead, AreHeads}
@@ -70,3 +75,12 @@ pub last_row-push : (ss : List EdgeStrip) (s : EdgeStrip) → last_row (ss ++ s 
 last_row-push [] s = refl
 last_row-push (r ∷ []) s = refl
 last_row-push (r ∷ t ∷ ss) s = last_row-push (t ∷ ss) s
+
+-- ---- equal rows
+
+-- edges compare as equal exactly where they are
+edge_decides : (d e : Edge) → Decides ((edge_eq.eq-value).it d e) (d ≡ e)
+edge_decides d e = grind (arith, ints, Decides-like, Decides-and, Decides-int_eq)
+
+pub same_edges : (es fs : List Edge) → true ≡ pointwise (edge_eq.eq-value).it es fs → es ≡ fs
+same_edges es fs equal = (slice_eq-Decides edge_decides es fs _ refl).0 (sym equal)

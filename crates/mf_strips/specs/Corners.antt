@@ -1,14 +1,14 @@
 -- Corners: each adds its weight to all pixels at or to the right of its column and below its height.
-use Rattle.std.specs.Prelude.{◌≡◌, ◌≤◌, ◌<◌, ◌*◌, ◌&&◌, ℤ, pos, ◌+ℤ◌, ◌-ℤ◌, ◌≤ℤ◌, ◌<ℤ◌, int_le, int_lt, All, List, [], ◌∷◌, length, if◌then◌else◌}
+use Rattle.std.specs.Prelude.{◌≡◌, ◌≤◌, ◌<◌, ◌*◌, ◌⊎◌, ◌&&◌, ℤ, pos, ◌+ℤ◌, ◌-ℤ◌, ◌≤ℤ◌, ◌<ℤ◌, int_le, int_lt, All, List, [], ◌∷◌, ◌++◌, length, if◌then◌else◌}
 use Rattle.mf_geom.specs.Coordinates.{least_coordinate, greatest_coordinate, IsCoordinate}
 use Rattle.mf_geom.specs.Field.{IsInField}
 use Rattle.mf_geom.specs.Lawful.{most_points}
-use Rattle.mf_edges.specs.LawfulWeights.{greatest_weight, IsInReach, IsLawfulWeight}
+use Rattle.mf_edges.specs.LawfulWeights.{IsInReach, IsLawfulWeight}
 use Rattle.mf_edges.specs.declared.edge.Edge.{Edge}
 use Rattle.mf_edges.specs.Edges.{AreEdgesFrom, weight_in}
-use Rattle.mf_edges.specs.Merging.{IsChange}
+use Rattle.mf_edges.specs.Sums.{with_edge_in}
 use Rattle.mf_strips.specs.declared.corner.Corner.{Corner}
-use Rattle.mf_strips.specs.Strips.{EdgeStrip, weight_in_strips, AreStripsDownTo}
+use Rattle.mf_strips.specs.Strips.{EdgeStrip, last_row, weight_in_strips}
 
 -- what a corner adds to the pixel (x, y)
 unfoldable pub added_by : Corner → ℤ → ℤ → ℤ
@@ -67,10 +67,6 @@ abbrev pub AreSortedFrom : ℤ → ℤ → List Corner → Type 0
 AreSortedFrom x y [] = Unit {0}
 AreSortedFrom x y (k ∷ ks) = IsPlaced k × IsPast x y k × AreSortedFrom k.x k.y ks
 
--- what these corners add to the row below height `top` is the difference of two lawful weights
-pub record AddChanges (top : ℤ) (ks : List Corner) : Type 0 where
-  pub changes : (x : ℤ) → IsChange (added_by_all ks x (top -ℤ pos 1))
-
 -- the first corner is at this height
 abbrev pub BeginAtHeight : ℤ → List Corner → Type 0
 BeginAtHeight y [] = ⊥
@@ -81,11 +77,17 @@ abbrev pub BeginBelowField : List Corner → Type 0
 BeginBelowField [] = Unit {0}
 BeginBelowField (k ∷ ks) = k.y ≤ℤ least_coordinate
 
--- the corners at the place of corner k are split off, which weigh w together
-pub record IsSplitPlace (k : Corner) (ks : List Corner) (w : ℤ) (others : List Corner) : Type 0 where
-  pub weights : (x y : ℤ) → added_by_all (k ∷ ks) x y ≡ added_by (record { x = k.x; y = k.y; weight = w }) x y +ℤ added_by_all others x y
-  pub sorted : AreSortedFrom (k.x +ℤ pos 1) k.y others
-  pub few : length others ≤ length ks
+-- sorted edges to the left of a column, where an edge may be
+pub record AreEdgesBefore (x : ℤ) (es : List Edge) : Type 0 where
+  pub sorted : AreEdgesFrom least_coordinate es
+  pub before : All (λ e. e.x <ℤ x) es
+  pub column : IsCoordinate x
+
+-- edges with the last edge d become such edges with the last edge e, at the column of corner k, where the weights are greater by that of k
+pub record IsJoined (es : List Edge) (d : Edge) (k : Corner) (new : List Edge) (e : Edge) : Type 0 where
+  pub edges : AreEdgesBefore e.x new
+  pub column : e.x ≡ k.x
+  pub weights : (x : ℤ) → with_edge_in new e.x e.weight x ≡ with_edge_in es d.x d.weight x +ℤ (if int_le k.x x then k.weight else pos 0)
 
 -- the corners at one height are split off: they change the rows below it by these edges
 pub record IsSplitHeight (top : ℤ) (ks : List Corner) (changes : List Edge) (others : List Corner) : Type 0 where
@@ -94,14 +96,6 @@ pub record IsSplitHeight (top : ℤ) (ks : List Corner) (changes : List Edge) (o
   pub sorted : AreSortedFrom least_coordinate (top -ℤ pos 1) others
   pub fewer : length others < length ks
 
--- no weight of a row may exceed this number
-pub record IsReach (reach : ℤ) : Type 0 where
-  pub least : pos 0 ≤ℤ reach
-  pub most : reach ≤ℤ greatest_weight
-
--- strips of a reach have weights that are greater by those of changes in the rows below height `top`
-pub record AreChangedBelow (top : ℤ) (changes : List Edge) (before : List EdgeStrip) (reach : ℤ) (after : List EdgeStrip) : Type 0 where
-  pub strips : AreStripsDownTo (top -ℤ pos 1) reach after
-  pub reached : IsReach reach
-  pub below : (x y : ℤ) → y <ℤ top → weight_in_strips after x y ≡ weight_in_strips before x y +ℤ weight_in changes x
-  pub above : (x y : ℤ) → top ≤ℤ y → weight_in_strips after x y ≡ weight_in_strips before x y
+-- strips go on with such rows below height `top`: with a strip more, or with the last one where its rows are such
+abbrev pub ContinueWith : ℤ → List Edge → List EdgeStrip → List EdgeStrip → Type 0
+ContinueWith top es before after = (after ≡ before ++ record { top = top; edges = es } ∷ []) ⊎ ((es ≡ last_row before) × (after ≡ before))

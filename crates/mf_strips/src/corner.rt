@@ -1,13 +1,9 @@
 //! Corners, and the part that they make.
-ghost use Rattle.std.specs.Prelude.{◌≡◌, ◌∷◌, IfOk, IfNone, IfSome, pos, ◌-ℤ◌, ◌≤ℤ◌, ◌<ℤ◌};
-ghost use Rattle.mf_geom.specs.Coordinates.{least_coordinate, greatest_coordinate};
-ghost use Rattle.mf_edges.specs.Edges.{weight_in};
-ghost use Rattle.mf_edges.specs.Merging.{AreChanges, IsDifference};
-ghost use Rattle.mf_edges.specs.Sums.{weight_in_both, IsUnlawfulColumn};
+ghost use Rattle.std.specs.Prelude.{◌≡◌, IfOk, IfNone, IfSome, OnOk, ◌≤ℤ◌, ◌<ℤ◌};
+ghost use Rattle.mf_geom.specs.Coordinates.{least_coordinate, greatest_coordinate, IsCoordinate};
 ghost use Rattle.mf_strips.specs.Parts.{strips_in};
-ghost use Rattle.mf_strips.specs.Strips.{last_row, weight_in_strips, AreStripsDownTo};
-ghost use Rattle.mf_strips.specs.Corners.{added_by_all, AddChanges, AreChangedBelow, AreSortedFrom, AreSweptCorners};
-ghost use Rattle.mf_strips.specs.Corners.{BeginAtHeight, BeginBelowField, HaveFieldStripWeights, IsReach, IsSplitHeight, IsSplitPlace};
+ghost use Rattle.mf_strips.specs.Corners.{added_by_all, AreEdgesBefore, AreSortedFrom, AreSweptCorners, BeginAtHeight, BeginBelowField};
+ghost use Rattle.mf_strips.specs.Corners.{ContinueWith, HaveFieldStripWeights, IsJoined, IsSplitHeight};
 
 use crate::part::Part;
 use crate::writer::PartWriter;
@@ -45,9 +41,14 @@ pub fn part_of_corners(alloc: Global, corners: Vec<Corner>) -> Result<Part, OutO
     let mut left = corners.as_slice();
     while let Some(top) = next_height(left) {
         left = split_height(&mut changes, top, left)?;
-        reach = push_changed(&mut part, &mut row, top, &changes, reach)?;
+        row.clear();
+        push_sum_of_edges(&mut row, part.last_row(), &changes)?;
+        push_unless_same(&mut part, top, &row)?;
+        reach = reach.max(reach_of(&row));
     }
-    finish_field(part, reach)
+    // The part ends with the field.
+    push_unless_same(&mut part, FIELD_START, &[])?;
+    Ok(part.finish(reach))
 }
 
 /// The height of the first of these corners; `None` where it has no row of the field below it, or there is none.
@@ -63,7 +64,7 @@ fn next_height(corners: &[Corner]) -> Option<i32>
 }
 
 /// Splits off the corners at the height `top`, which the first of them has: `changes` becomes the edges by which they change the rows
-/// below it.
+/// below it. Refused where an allocation fails, or where 32 bits do not hold a sum of weights at one place, as those of 2^16 corners may be.
 fn split_height<'a>(
     changes: &mut Vec<Edge>,
     top: i32,
@@ -71,77 +72,55 @@ fn split_height<'a>(
 ) -> Result<&'a [Corner], OutOfMemory>
     requires first { BeginAtHeight top corners.now }
     requires sorted { AreSortedFrom least_coordinate top corners.now }
-    requires changes { AddChanges top corners.now }
     ensures { IfOk result (λ others. IsSplitHeight top corners.now changes.new.items others.now) }
 {
     changes.clear();
+    let mut last = Edge {
+        x: FIELD_START,
+        weight: 0,
+    };
     let mut left = corners;
     while let Some((first, rest)) = left.split_first() {
         if first.y != top {
             break;
         }
-        let (weight, others) = split_place(first, rest);
-        push_unless_zero(changes, Edge { x: first.x, weight })?;
-        left = others;
+        last = push_joined(changes, &last, first)?;
+        left = rest;
     }
+    push_unless_zero(changes, last)?;
     Ok(left)
 }
 
-/// Splits off the corners at the place of the first one: the sum of all their weights, and the others. Sums of some of them may wrap, but
-/// that of all does not.
-fn split_place<'a>(first: &Corner, rest: &'a [Corner]) -> (i32, &'a [Corner])
-    requires sorted { AreSortedFrom first.now.x first.now.y rest.now }
-    requires fits { IsDifference (added_by_all (first.now ∷ rest.now) first.now.x (first.now.y -ℤ pos 1)) }
-    ensures { IsSplitPlace first.now rest.now result.0 result.1.now }
+/// The edge of a corner after others, the last of which is not yet on the list. It joins with the last one where that is at its column, and
+/// else the last one is appended.
+fn push_joined(edges: &mut Vec<Edge>, last: &Edge, corner: &Corner) -> Result<Edge, OutOfMemory>
+    requires edges { AreEdgesBefore last.now.x edges.old.items }
+    requires order { last.now.x ≤ℤ corner.now.x }
+    requires column { IsCoordinate corner.now.x }
+    ensures { IfOk result (IsJoined edges.old.items last.now corner.now edges.new.items) }
 {
-    let mut weight = first.weight;
-    let mut left = rest;
-    while let Some((corner, others)) = left.split_first() {
-        if corner.x != first.x || corner.y != first.y {
-            break;
-        }
-        weight = weight.wrapping_add(corner.weight);
-        left = others;
+    let Edge { x, weight } = *last;
+    if x == corner.x {
+        let Some(weight) = weight.checked_add(corner.weight) else {
+            return Err(OutOfMemory);
+        };
+        return Ok(Edge { x, weight });
     }
-    (weight, left)
+    push_unless_zero(edges, *last)?;
+    Ok(Edge {
+        x: corner.x,
+        weight: corner.weight,
+    })
 }
 
-/// Appends a strip whose rows begin below the height `top`, unless nothing changes there: the sum of the row above it, and of changes.
-/// Returns the reach of all strips.
-fn push_changed(
-    part: &mut PartWriter,
-    row: &mut Vec<Edge>,
-    top: i32,
-    changes: &[Edge],
-    reach: i32,
-) -> Result<i32, OutOfMemory>
+/// Appends a strip with these edges, whose rows begin below the height `top`, unless the last strip has the same edges.
+fn push_unless_same(part: &mut PartWriter, top: i32, row: &[Edge]) -> Result<(), OutOfMemory>
     requires bottom { least_coordinate ≤ℤ top }
     requires top { top ≤ℤ greatest_coordinate }
-    requires strips { AreStripsDownTo top reach part.old }
-    requires reach { IsReach reach }
-    requires changes { AreChanges changes.now }
-    requires lawful { IsUnlawfulColumn (weight_in_both (last_row part.old) changes.now) → ⊥ }
-    ensures { IfOk result (λ reach. AreChangedBelow top changes.now part.old reach part.new) }
+    ensures { OnOk result (ContinueWith top row.now part.old part.new) }
 {
-    if changes.is_empty() {
-        return Ok(reach);
+    if row == part.last_row() {
+        return Ok(());
     }
-    row.clear();
-    push_sum_of_edges(row, part.last_row(), changes)?;
-    part.push(top, row)?;
-    Ok(reach.max(reach_of(row)))
-}
-
-/// The part of these strips: as it ends with the field, its last row is to be blank.
-fn finish_field(part: PartWriter, reach: i32) -> Result<Part, OutOfMemory>
-    requires strips { AreStripsDownTo least_coordinate reach part }
-    requires reach { IsReach reach }
-    ensures { IfOk result (λ made. HaveFieldStripWeights (weight_in_strips part) (strips_in made)) }
-{
-    let mut part = part;
-    if part.last_row().is_empty() {
-        return Ok(part.finish(reach));
-    }
-    part.push(FIELD_START, &[])?;
-    Ok(part.finish(reach))
+    part.push(top, row)
 }

@@ -1,21 +1,8 @@
-use Rattle.std.proofs.Common.{◌≡◌, ◌-◌, List, length, take, drop, true, refl, sym, ◌∙◌, inl, inr, arith}
-use Rattle.std.specs.Bool.{Decides}
-use Rattle.std.specs.Cmp.Lexicographic.{pointwise}
-use Rattle.std.proofs.lemmas.Bool.Decides.{Decides-and, Decides-int_eq, Decides-like}
+use Rattle.std.proofs.Common.{◌≡◌, ◌-◌, length, take, drop, sym, ◌∙◌, inl, inr, arith}
 use Rattle.std.proofs.lemmas.Int.{ints}
 use Rattle.std.proofs.lemmas.List.{length-drop, take_all}
-use Rattle.std.proofs.lemmas.Slice.Eq.{slice_eq-Decides}
-use Rattle.mf_edges.specs.contracts.edge.EdgePartialEq.TheImpl as edge_eq
-use Rattle.mf_edges.specs.declared.edge.Edge.{Edge}
-use Rattle.mf_strips.proofs.HeadsLemmas.{strips_push, strips_back, row_back}
+use Rattle.mf_strips.proofs.HeadsLemmas.{same_edges, strips_push, strips_back, row_back}
 use Rattle.mf_strips.proofs.writer.PartWriter.push_mapped.Goals as goal
-
--- edges compare as equal exactly where they are
-edge_decides : (d e : Edge) → Decides ((edge_eq.eq-value).it d e) (d ≡ e)
-edge_decides d e = grind (arith, ints, Decides-like, Decides-and, Decides-int_eq)
-
-same_edges : (es fs : List Edge) → true ≡ pointwise (edge_eq.eq-value).it es fs → es ≡ fs
-same_edges es fs equal = (slice_eq-Decides edge_decides es fs _ refl).0 (sym equal)
 
 pub returns-then-eq : goal.returns-then-eq
 returns-then-eq c =
