@@ -27,49 +27,38 @@ added_on : (r : Run) (x y : ℤ) → IsOnRun r x y → added_by_all (corners_of 
 unfolding corners_of added_by_all added_by
 added_on r x y on = grind (arith, ints)
 
-added_above : (r : Run) (x y : ℤ) → r.y <ℤ y → added_by_all (corners_of r) x y ≡ pos 0
-unfolding corners_of added_by_all added_by
-added_above r x y above = grind (arith, ints)
+-- two corners of opposite weights add nothing below both, where one is above the other, nor to the right of both, where they are side by side
+one_above_other : (u h w z x y : ℤ) → w +ℤ z ≡ pos 0 → y <ℤ h
+    → added_by (record { x = u; y = h +ℤ pos 1; weight = w }) x y +ℤ added_by (record { x = u; y = h; weight = z }) x y ≡ pos 0
+unfolding added_by
+one_above_other u h w z x y opposite below = by_lt_z x u (λ left. grind (arith, ints)) (λ right. grind (arith, ints))
 
-added_left : (r : Run) (x y : ℤ) → x <ℤ r.x → added_by_all (corners_of r) x y ≡ pos 0
-unfolding corners_of added_by_all added_by
-added_left r x y left = grind (arith, ints)
-
--- two corners of opposite weights, side by side, or one above the other, cancel to the right of both, or below both
-side_by_side : (u v h w z x y : ℤ) → w +ℤ z ≡ pos 0 → u ≤ℤ v → v ≤ℤ x
+side_by_side : (u v h w z x y : ℤ) → w +ℤ z ≡ pos 0 → u ≤ℤ x → v ≤ℤ x
     → added_by (record { x = u; y = h; weight = w }) x y +ℤ added_by (record { x = v; y = h; weight = z }) x y ≡ pos 0
 unfolding added_by
-side_by_side u v h w z x y opposite order right = by_lt_z y h (λ below. grind (arith, ints)) (λ above. grind (arith, ints))
-
-one_above_other : (u h g w z x y : ℤ) → w +ℤ z ≡ pos 0 → g ≤ℤ h → y <ℤ g
-    → added_by (record { x = u; y = h; weight = w }) x y +ℤ added_by (record { x = u; y = g; weight = z }) x y ≡ pos 0
-unfolding added_by
-one_above_other u h g w z x y opposite order below = by_lt_z x u (λ left. grind (arith, ints)) (λ right. grind (arith, ints))
+side_by_side u v h w z x y opposite from right = by_lt_z y h (λ below. grind (arith, ints)) (λ above. grind (arith, ints))
 
 added_off : (r : Run) (x y : ℤ) → (IsOnRun r x y → ⊥) → added_by_all (corners_of r) x y ≡ pos 0
-unfolding corners_of added_by_all
+unfolding corners_of added_by_all added_by
 added_off r x y off =
+    let end = r.x +ℤ pos r.len in
     let w = r.weight in
     let z = neg_ℤ w in
-    let end = r.x +ℤ pos r.len in
-    let top = r.y +ℤ pos 1 in
     let opposite : w +ℤ z ≡ pos 0 = omega (arith, ints) in
     let negated : z +ℤ w ≡ pos 0 = omega (arith, ints) in
-    let wide : r.x ≤ℤ end = omega (arith, ints) in
-    by_lt_z y r.y
-    (λ below. omega (arith, ints, one_above_other r.x top r.y w z x y opposite (omega (arith, ints)) below, one_above_other end top r.y z w x y negated (omega (arith, ints)) below))
-    (λ not_below. by_lt_z r.y y (added_above r x y)
-    (λ not_above. by_lt_z x r.x (added_left r x y)
-    (λ not_left. by_lt_z x end
-    (λ not_right. absurd (off (record { row = omega (arith, ints); left = not_left; right = not_right })))
-    (λ right. omega (arith, ints, side_by_side r.x end top w z x y opposite wide right, side_by_side r.x end r.y z w x y negated wide right)))))
+    by_lt_z x r.x (λ left. grind (arith, ints))
+    (λ from. by_lt_z x end
+    (λ inside. by_lt_z y r.y
+    (λ below. omega (arith, ints, one_above_other r.x r.y w z x y opposite below, one_above_other end r.y z w x y negated below))
+    (λ not_below. by_lt_z r.y y (λ above. grind (arith, ints)) (λ same. absurd (off (record { row = omega (arith, ints); left = from; right = inside })))))
+    (λ right. omega (arith, ints, side_by_side r.x end (r.y +ℤ pos 1) w z x y opposite from right, side_by_side r.x end r.y z w x y negated from right)))
 
 placed : (r : Run) → IsRun r → All IsPlaced (corners_of r)
 unfolding corners_of
 placed r run = grind (arith, ints, All-cons, All-nil)
 
-first_pixel : (r : Run) → IsRun r → IsInField r.x r.y
-first_pixel r run = grind (arith, ints)
+start_of_run : (r : Run) → IsRun r → start_of_field ≤ℤ place r.x r.y
+start_of_run r run = start_of_field-le r.x r.y (grind (arith, ints))
 
 -- ---- the picture of corners
 
@@ -78,8 +67,7 @@ lawful_built ks swept = lawful_picture_of (added_by_all ks) (λ x y inside. swep
 
 pub blank_built : picture_of_corners [] ≡ []
 unfolding added_by_all weight_at
-blank_built =
-    sym (picture_of-from_weights [] (added_by_all []) (record { dots = tt }) (λ x y inside. refl))
+blank_built = sym (picture_of-from_weights [] (added_by_all []) (record { dots = tt }) (λ x y inside. refl))
 
 pub none_built : AreBuilt [] start_of_field
 unfolding added_by_all
@@ -97,7 +85,7 @@ fits_from_end ks end r built run le = record {
 }
 
 pub end_from_fits : (ks : List Corner) (end : ℤ) (r : Run) → AreBuilt ks end → Fits (picture_of_corners ks) r → end ≤ℤ place r.x r.y
-end_from_fits ks end r built fits = built.least (place r.x r.y) (start_of_field-le r.x r.y (first_pixel r fits.run)) fits.before
+end_from_fits ks end r built fits = built.least (place r.x r.y) (start_of_run r fits.run) fits.before
 
 -- ---- a run more
 
@@ -105,19 +93,16 @@ module _ (ks : List Corner) (end : ℤ) (r : Run) (built : AreBuilt ks end) (fit
   dots : List Dot
   dots = picture_of_corners ks
 
-  added_with : (x y : ℤ) → added_by_all (ks ++ corners_of r) x y ≡ added_by_all ks x y +ℤ added_by_all (corners_of r) x y
-  added_with x y = added_by_all-append ks (corners_of r) x y
-
   in_field : (x y : ℤ) → IsOnRun r x y → IsInField x y
   in_field x y on = let run = fits.run in grind (arith, ints)
 
   with_run : (x y : ℤ) → IsOnRun r x y → added_by_all (ks ++ corners_of r) x y ≡ r.weight
   unfolding dots
   with_run x y on =
-      omega (arith, ints, added_with x y, added_on r x y on, weight_at-before_run dots r x y fits on, weight_at-picture_of (added_by_all ks) x y (in_field x y on))
+      omega (arith, ints, added_by_all-append ks (corners_of r) x y, added_on r x y on, weight_at-before_run dots r x y fits on, weight_at-picture_of (added_by_all ks) x y (in_field x y on))
 
   without_run : (x y : ℤ) → (IsOnRun r x y → ⊥) → added_by_all (ks ++ corners_of r) x y ≡ added_by_all ks x y
-  without_run x y off = omega (arith, ints, added_with x y, added_off r x y off)
+  without_run x y off = omega (arith, ints, added_by_all-append ks (corners_of r) x y, added_off r x y off)
 
   swept : AreSweptCorners (ks ++ corners_of r)
   swept = record {
@@ -130,7 +115,7 @@ module _ (ks : List Corner) (end : ℤ) (r : Run) (built : AreBuilt ks end) (fit
   picture : IsPicture (dots ++ dots_of r)
   unfolding dots
   picture = record {
-    dots = dots_from-append start_of_field (place r.x r.y) dots (dots_of r) (start_of_field-le r.x r.y (first_pixel r fits.run))
+    dots = dots_from-append start_of_field (place r.x r.y) dots (dots_of r) (start_of_run r fits.run)
         (lawful_built ks built.swept).dots fits.before (dots_from-run r fits.run);
   }
 
