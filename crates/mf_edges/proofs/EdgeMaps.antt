@@ -1,17 +1,18 @@
 -- A row of edges after each weight is mapped, edge by edge.
-use Rattle.std.proofs.Common.{◌≡◌, ℤ, pos, ◌+ℤ◌, ◌-ℤ◌, ◌<ℤ◌, FitsSigned, to_z, of_z, w32, List, [], ◌∷◌, ◌++◌, subst, sym, ap, ◌∙◌, arith}
+use Rattle.std.proofs.Common.{◌≡◌, ℤ, pos, ◌+ℤ◌, ◌-ℤ◌, ◌≤ℤ◌, ◌<ℤ◌, FitsSigned, to_z, of_z, w32, List, [], ◌∷◌, ◌++◌, subst, sym, ap, ◌∙◌, arith}
 use Rattle.std.specs.List.{All}
 use Rattle.std.proofs.lemmas.Int.{ints, by_lt_z}
-use Rattle.std.proofs.lemmas.List.Elements.{All-nil}
+use Rattle.std.proofs.lemmas.List.Elements.{All-nil, All-weaker}
 use Rattle.mf_geom.specs.Coordinates.{least_coordinate, greatest_coordinate}
 use Rattle.mf_edges.specs.declared.edge.Edge.{Edge}
 use Rattle.mf_edges.specs.declared.weight_map.WeightMap.{WeightMap}
 use Rattle.mf_edges.specs.LawfulWeights.{IsLawfulWeight}
 use Rattle.mf_edges.specs.Edges.{weight_in, AreEdgesFrom, AreEdges}
-use Rattle.mf_edges.specs.Merging.{unless_zero}
+use Rattle.mf_edges.specs.Merging.{AreEdgesBefore, unless_zero}
 use Rattle.mf_edges.specs.WeightMaps.{mapped_in, mapped_weight, AreMapped, IsWeightMap}
 use Rattle.mf_edges.proofs.EdgesAt.{ArePassed, both_weights, none_passed, one_passed, passed_after, passed_before, passed_in}
-use Rattle.mf_edges.proofs.EdgeSums.{with_edge_in-before, with_edge_in-after, weight_in-push, sorted_push, before_push, IsColumnFrom}
+use Rattle.mf_edges.proofs.EdgesLemmas.{weight_in-left, weight_in-right}
+use Rattle.mf_edges.proofs.EdgeSums.{weight_in-push, sorted_push, before_push}
 
 -- new edges, to the left of those that are left, have the mapped weights of the edges of a row that were passed
 pub record IsMappedSoFar (m : WeightMap) (es left new : List Edge) (weight image : ℤ) : Type 0 where
@@ -56,18 +57,24 @@ pub mapped_more : (m : WeightMap) (es left new : List Edge) (e : Edge) (weight i
     → IsMappedSoFar m es left (new ++ unless_zero (record { x = e.x; weight = next -ℤ image })) (weight +ℤ e.weight) next
 mapped_more m es left new e weight image next so_far next_is =
     let passed = so_far.passed in
-    let column : IsColumnFrom passed.low e.x = record { from = passed.sorted.1; column = passed.sorted.0.column } in
+    let from : passed.low ≤ℤ e.x = passed.sorted.1 in
+    let made : Edge = record { x = e.x; weight = next -ℤ image } in
+    let before : AreEdgesBefore e.x new = record {
+      sorted = so_far.sorted;
+      before = All-weaker (λ d. d.x <ℤ passed.low) (λ d. d.x <ℤ e.x) (λ d lt. omega (arith, ints)) new so_far.before;
+      column = passed.sorted.0.column;
+    } in
     record {
       passed = one_passed passed;
-      sorted = sorted_push new passed.low e.x (next -ℤ image) so_far.sorted so_far.before column;
-      before = before_push new passed.low e.x (next -ℤ image) so_far.before column.from;
+      sorted = sorted_push new made before;
+      before = before_push new made before;
       weights = λ x.
-          weight_in-push new e.x (next -ℤ image) x
+          weight_in-push new made x
           ∙ by_lt_z x e.x
-          (λ lt. with_edge_in-before new e.x (next -ℤ image) x lt ∙ so_far.weights x ∙ ap (mapped_weight m) (sym (passed_before passed x lt)))
+          (λ lt. weight_in-right made new x lt ∙ so_far.weights x ∙ ap (mapped_weight m) (sym (passed_before passed x lt)))
           (λ le.
-          let old = so_far.weights x ∙ ap (mapped_weight m) (passed.sum x (omega (arith, ints, le, column.from))) ∙ sym so_far.image_is in
-          let more = with_edge_in-after new e.x (next -ℤ image) x le in
+          let old = so_far.weights x ∙ ap (mapped_weight m) (passed.sum x (omega (arith, ints, le, from))) ∙ sym so_far.image_is in
+          let more = weight_in-left made new x le in
           rw (passed_after passed x le, ← next_is) (omega (arith, ints)));
       image_is = next_is;
     }

@@ -3,51 +3,37 @@ use Rattle.std.proofs.Common.{◌≡◌, ◌≢◌, ℕ, Bool, true, false, cond
 use Rattle.std.proofs.Common.{List, [], ◌∷◌, ◌++◌, take, drop, refl, ap, sym, ◌∙◌, arith}
 use Rattle.std.specs.List.{All}
 use Rattle.std.specs.Int.RustNames.{int_le}
-use Rattle.std.proofs.lemmas.Bool.{cond-true, cond-false, cond_both}
+use Rattle.std.proofs.lemmas.Bool.{cond_both}
 use Rattle.std.proofs.lemmas.Bool.Decides.{Decides-int_eq, not_from_Decides}
 use Rattle.std.proofs.lemmas.Int.{ints, by_lt_z}
 use Rattle.std.proofs.lemmas.List.{append-nil, append_assoc}
 use Rattle.std.proofs.lemmas.List.Elements.{All-append, All-drop, All-head, All-tail, All-nil, All-weaker, All-push}
-use Rattle.mf_geom.specs.Coordinates.{least_coordinate, IsCoordinate}
+use Rattle.mf_geom.specs.Coordinates.{least_coordinate}
 use Rattle.mf_edges.specs.declared.edge.Edge.{Edge}
 use Rattle.mf_edges.specs.LawfulWeights.{IsLawfulWeight}
 use Rattle.mf_edges.specs.Edges.{weight_in, AreEdgesFrom, AreEdges}
-use Rattle.mf_edges.specs.Merging.{IsDifference, AreChanges, AreEdgesLeft, BeginFrom, IsSplitAt, unless_zero}
-use Rattle.mf_edges.specs.Sums.{with_edge_in, weight_in_both, IsEdgeSum, HasMoreEdges}
+use Rattle.mf_edges.specs.Merging.{IsDifference, AreChanges, AreEdgesBefore, AreEdgesLeft, BeginFrom, IsSplitAt, unless_zero}
+use Rattle.mf_edges.specs.Sums.{weight_in_both, IsEdgeSum, HasMoreEdges}
 use Rattle.mf_edges.proofs.EdgesAt.{IsStep, all_steps}
 use Rattle.mf_edges.proofs.EdgesLemmas.{weight_in-append, weight_in-left, weight_in-right, weight_in-parts}
 use Rattle.mf_edges.proofs.EdgesLemmas.{edges_from-append, edges_from-drop, edges_from-take}
 
--- ---- one edge more
-
--- to the left of its column an edge changes nothing, elsewhere it adds its weight
-pub with_edge_in-before : (es : List Edge) (x w c : ℤ) → c <ℤ x → with_edge_in es x w c ≡ weight_in es c
-unfolding with_edge_in
-with_edge_in-before es x w c left = grind (arith, ints, cond-false)
-
-pub with_edge_in-after : (es : List Edge) (x w c : ℤ) → x ≤ℤ c → with_edge_in es x w c ≡ weight_in es c +ℤ w
-unfolding with_edge_in
-with_edge_in-after es x w c right = grind (arith, ints, cond-true)
-
-with_edge_in-none : (es : List Edge) (x c : ℤ) → with_edge_in es x (pos 0) c ≡ weight_in es c
-with_edge_in-none es x c = grind (arith, ints, by_lt_z, with_edge_in-before, with_edge_in-after)
-
 -- ---- the edges at a column
 
 pub split_here : (e : Edge) (others : List Edge) → AreEdgesLeft e.x (e ∷ others) → IsSplitAt (e ∷ others) e.x e.weight others
+unfolding weight_in
 split_here e others left = record {
-  weights = grind (arith, ints, by_lt_z, weight_in-right, sym, with_edge_in-before, weight_in-left, with_edge_in-after);
+  weights = record { weights = λ c. refl };
   difference = All-head (λ e. IsDifference e.weight) e others left.differences;
   rest = record { sorted = left.sorted.2; differences = All-tail (λ e. IsDifference e.weight) e others left.differences };
 }
 
-pub split_after : (es : List Edge) (x : ℤ) → AreEdgesLeft x es → BeginFrom (x +ℤ pos 1) es → IsSplitAt es x (pos 0) es
-split_after es x left from = grind (arith, ints, sym, with_edge_in-none, edges_from-drop x (x +ℤ pos 1) 0 es left.sorted from)
+-- an edge of weight 0 adds nothing
+weight_in-zero : (x c : ℤ) (es : List Edge) → weight_in (record { x = x; weight = pos 0 } ∷ es) c ≡ weight_in es c
+weight_in-zero x c es = grind (arith, ints, by_lt_z, weight_in-right, weight_in-left)
 
--- a column at which an edge may be, at or to the right of column low
-pub record IsColumnFrom (low x : ℤ) : Type 0 where
-  pub from : low ≤ℤ x
-  pub column : IsCoordinate x
+pub split_after : (es : List Edge) (x : ℤ) → AreEdgesLeft x es → BeginFrom (x +ℤ pos 1) es → IsSplitAt es x (pos 0) es
+split_after es x left from = grind (arith, ints, sym, weight_in-zero, edges_from-drop x (x +ℤ pos 1) 0 es left.sorted from)
 
 -- ---- rows of edges as changes
 
@@ -70,29 +56,24 @@ changes_left es changes = record {
 
 -- ---- an edge is pushed
 
--- one more edge at the end of the sum, unless its weight is 0
-pub by_push : (P : List Edge → Type 0) (sum : List Edge) (x w : ℤ) → (w ≡ pos 0 → P sum)
-    → (w ≢ pos 0 → P (sum ++ record { x = x; weight = w } ∷ [])) → P (sum ++ unless_zero (record { x = x; weight = w }))
-by_push P sum x w none some = grind (arith, ints, cond_both, append-nil, Decides-int_eq, not_from_Decides)
+-- one more edge at the end, unless its weight is 0
+pub by_push : (P : List Edge → Type 0) (es : List Edge) (e : Edge) → (e.weight ≡ pos 0 → P es) → (e.weight ≢ pos 0 → P (es ++ e ∷ [])) → P (es ++ unless_zero e)
+by_push P es e none some = grind (arith, ints, cond_both, append-nil, Decides-int_eq, not_from_Decides)
 
-pub weight_in-push : (sum : List Edge) (x w c : ℤ) → weight_in (sum ++ unless_zero (record { x = x; weight = w })) c ≡ with_edge_in sum x w c
-unfolding weight_in with_edge_in
-weight_in-push sum x w c = grind (arith, ints, by_push, sym, with_edge_in-none, weight_in-append)
+pub weight_in-push : (es : List Edge) (e : Edge) (c : ℤ) → weight_in (es ++ unless_zero e) c ≡ weight_in (e ∷ es) c
+unfolding weight_in
+weight_in-push es e c = grind (arith, ints, by_push, sym, weight_in-zero, weight_in-append)
 
-pub sorted_push : (sum : List Edge) (low x w : ℤ) → AreEdgesFrom least_coordinate sum → All (λ e. e.x <ℤ low) sum
-    → IsColumnFrom low x → AreEdgesFrom least_coordinate (sum ++ unless_zero (record { x = x; weight = w }))
-sorted_push sum low x w sorted before reach =
-    by_push (AreEdgesFrom least_coordinate) sum x w (λ _. sorted) (λ nonzero.
-    edges_from-append least_coordinate x sum (record { x = x; weight = w } ∷ []) reach.column.least sorted
-    (All-weaker (λ e. e.x <ℤ low) (λ e. e.x <ℤ x) (λ e lt. omega (arith, ints)) sum before)
-    (record { column = reach.column; nonzero = nonzero }, omega (arith, ints), tt))
+pub sorted_push : (es : List Edge) (e : Edge) → AreEdgesBefore e.x es → AreEdgesFrom least_coordinate (es ++ unless_zero e)
+sorted_push es e edges =
+    by_push (AreEdgesFrom least_coordinate) es e (λ _. edges.sorted) (λ nonzero.
+    edges_from-append least_coordinate e.x es (e ∷ []) edges.column.least edges.sorted edges.before
+    (record { column = edges.column; nonzero = nonzero }, omega (arith, ints), tt))
 
-pub before_push : (sum : List Edge) (low x w : ℤ) → All (λ e. e.x <ℤ low) sum → low ≤ℤ x
-    → All (λ e. e.x <ℤ (x +ℤ pos 1)) (sum ++ unless_zero (record { x = x; weight = w }))
-before_push sum low x w before le =
-    let old = All-weaker (λ e. e.x <ℤ low) (λ e. e.x <ℤ (x +ℤ pos 1)) (λ e lt. omega (arith, ints)) sum before in
-    by_push (All (λ e. e.x <ℤ (x +ℤ pos 1))) sum x w (λ _. old)
-    (λ _. All-push (λ e. e.x <ℤ (x +ℤ pos 1)) sum (record { x = x; weight = w }) old (omega (arith, ints)))
+pub before_push : (es : List Edge) (e : Edge) → AreEdgesBefore e.x es → All (λ d. d.x <ℤ (e.x +ℤ pos 1)) (es ++ unless_zero e)
+before_push es e edges =
+    let old = All-weaker (λ d. d.x <ℤ e.x) (λ d. d.x <ℤ (e.x +ℤ pos 1)) (λ d lt. omega (arith, ints)) es edges.before in
+    by_push (All (λ d. d.x <ℤ (e.x +ℤ pos 1))) es e (λ _. old) (λ _. All-push (λ d. d.x <ℤ (e.x +ℤ pos 1)) es e old (omega (arith, ints)))
 
 -- ---- the sum so far
 
@@ -117,7 +98,7 @@ sum_none es fs left right = record {
   weights = λ x. omega (arith, ints);
 }
 
-cond-sum : (test : Bool) (v w : ℤ) → cond test (v +ℤ w) (pos 0) ≡ cond test v (pos 0) +ℤ cond test w (pos 0)
+pub cond-sum : (test : Bool) (v w : ℤ) → cond test (v +ℤ w) (pos 0) ≡ cond test v (pos 0) +ℤ cond test w (pos 0)
 cond-sum true v w = refl
 cond-sum false v w = refl
 
@@ -150,22 +131,17 @@ module _ {f : ℤ → ℤ} {low : ℤ} {new es fs : List Edge} {e : Edge} (so_fa
 -- then the change joins with the edge at its column
 pub sum_more : {f : ℤ → ℤ} {new es fs others : List Edge} {e : Edge} {v : ℤ} → IsSumSoFar f e.x new es (e ∷ fs) → IsSplitAt es e.x v others
     → IsSumSoFar f (e.x +ℤ pos 1) (new ++ unless_zero (record { x = e.x; weight = v +ℤ e.weight })) others fs
-unfolding weight_in weight_in_both with_edge_in
+unfolding weight_in weight_in_both
 sum_more {new = new} {fs = fs} {e = e} {v = v} so_far split =
-    let edge = so_far.right.sorted.0 in
-    let column : IsColumnFrom e.x e.x = record { from = so_far.right.sorted.1; column = edge.column } in
+    let sum : Edge = record { x = e.x; weight = v +ℤ e.weight } in
+    let before : AreEdgesBefore e.x new = record { sorted = so_far.sorted; before = so_far.below; column = so_far.right.sorted.0.column } in
     record {
-      reach = omega (arith, ints, edge.column.least);
-      sorted = sorted_push new e.x e.x (v +ℤ e.weight) so_far.sorted so_far.below column;
-      below = before_push new e.x e.x (v +ℤ e.weight) so_far.below column.from;
+      reach = omega (arith, ints, so_far.reach);
+      sorted = sorted_push new sum before;
+      below = before_push new sum before;
       left = split.rest;
       right = record { sorted = so_far.right.sorted.2; differences = All-tail (λ e. IsDifference e.weight) e fs so_far.right.differences };
-      weights = λ x.
-          let old = so_far.weights x in
-          let pushed = weight_in-push new e.x (v +ℤ e.weight) x in
-          let here = split.weights.weights x in
-          let both = cond-sum (int_le e.x x) v e.weight in
-          omega (arith, ints);
+      weights = λ x. omega (arith, ints, so_far.weights x, weight_in-push new sum x, split.weights.weights x, cond-sum (int_le e.x x) v e.weight);
     }
 
 -- where no change is left, all other edges of the left row join

@@ -10,7 +10,7 @@ use Rattle.mf_edges.specs.LawfulWeights.{IsInReach, IsLawfulWeight}
 use Rattle.mf_edges.specs.Edges.{weight_in, AreEdges}
 use Rattle.mf_edges.specs.Merging.{AreChanges}
 use Rattle.mf_edges.specs.Reaches.{IsLeastReach, StaysInReach}
-use Rattle.mf_edges.specs.Sums.{IsEdgeSum, IsUnlawfulColumn, weight_in_both}
+use Rattle.mf_edges.specs.Sums.{IsEdgeSum, weight_in_both}
 use Rattle.mf_edges.proofs.EdgesAt.{ArePassed, here, none_passed, one_passed, passed_after, passed_before, passed_in}
 use Rattle.mf_edges.proofs.EdgesLemmas.{weight_in-before}
 
@@ -94,7 +94,3 @@ module _ (es fs sum : List Edge) (is_sum : IsEdgeSum es fs sum) where
   -- which they are where they stay in reach
   pub row_in_reach : (reach : ℤ) → AreEdges es → AreChanges fs → StaysInReach reach sum → AreEdges sum
   row_in_reach reach left right stays = grind (arith, ints, sum_is_row)
-
-  -- and where no column is unlawful
-  pub row_unless_unlawful : AreEdges es → AreChanges fs → (IsUnlawfulColumn (weight_in_both es fs) → ⊥) → AreEdges sum
-  row_unless_unlawful left right none = grind (arith, ints, by_lt_z, sum_is_row)

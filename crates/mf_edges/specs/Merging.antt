@@ -1,11 +1,11 @@
 -- What is left of the edges of two rows while their sum is made.
-use Rattle.std.specs.Prelude.{◌≡◌, ℤ, pos, ◌+ℤ◌, ◌-ℤ◌, ◌≤ℤ◌, All, List, [], ◌∷◌, if◌then◌else◌}
+use Rattle.std.specs.Prelude.{◌≡◌, ℤ, pos, ◌+ℤ◌, ◌-ℤ◌, ◌≤ℤ◌, ◌<ℤ◌, All, List, [], ◌∷◌, if◌then◌else◌}
 use Rattle.std.specs.Ordering.{int_eq}
-use Rattle.mf_geom.specs.Coordinates.{least_coordinate, greatest_coordinate}
+use Rattle.mf_geom.specs.Coordinates.{least_coordinate, greatest_coordinate, IsCoordinate}
 use Rattle.mf_edges.specs.declared.edge.Edge.{Edge}
 use Rattle.mf_edges.specs.Edges.{AreEdgesFrom, weight_in}
 use Rattle.mf_edges.specs.LawfulWeights.{greatest_weight, least_weight, IsInReach}
-use Rattle.mf_edges.specs.Sums.{HaveWeights, with_edge_in}
+use Rattle.mf_edges.specs.Sums.{HaveWeights}
 
 -- the greatest difference of two lawful weights
 abbrev pub greatest_change : ℤ
@@ -42,9 +42,15 @@ BeginFrom x (e ∷ es) = x ≤ℤ e.x
 
 -- the edge at column x has weight w, or there is none and w is 0; the others are to the right of it and still to be added
 pub record IsSplitAt (es : List Edge) (x w : ℤ) (others : List Edge) : Type 0 where
-  pub weights : HaveWeights (with_edge_in others x w) es
+  pub weights : HaveWeights (weight_in (record { x = x; weight = w } ∷ others)) es
   pub difference : IsDifference w
   pub rest : AreEdgesLeft (x +ℤ pos 1) others
+
+-- sorted edges to the left of a column, where an edge may be
+pub record AreEdgesBefore (x : ℤ) (es : List Edge) : Type 0 where
+  pub sorted : AreEdgesFrom least_coordinate es
+  pub before : All (λ e. e.x <ℤ x) es
+  pub column : IsCoordinate x
 
 -- an edge, unless its weight is 0
 abbrev pub unless_zero : Edge → List Edge

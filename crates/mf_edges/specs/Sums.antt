@@ -1,5 +1,5 @@
 -- The weights of two rows together.
-use Rattle.std.specs.Prelude.{◌≡◌, ℤ, pos, ◌+ℤ◌, int_le, List, ◌++◌, if◌then◌else◌}
+use Rattle.std.specs.Prelude.{◌≡◌, ℤ, pos, ◌+ℤ◌, List, ◌++◌}
 use Rattle.mf_edges.specs.declared.edge.Edge.{Edge}
 use Rattle.mf_edges.specs.LawfulWeights.{IsLawfulWeight}
 use Rattle.mf_geom.specs.Coordinates.{least_coordinate}
@@ -17,10 +17,6 @@ pub record IsUnlawfulColumn (f : ℤ → ℤ) : Type 0 where
 -- these edges have the weight f x at each column x
 pub record HaveWeights (f : ℤ → ℤ) (es : List Edge) : Type 0 where
   pub weights : (x : ℤ) → weight_in es x ≡ f x
-
--- the weight at column c after an edge of weight w at column x is added to edges
-unfoldable pub with_edge_in : List Edge → ℤ → ℤ → ℤ → ℤ
-with_edge_in es x w c = weight_in es c +ℤ (if int_le x c then w else pos 0)
 
 -- the edges of the sum of two rows: sorted, with the weights of both together between them
 pub record IsEdgeSum (es fs sum : List Edge) : Type 0 where

@@ -15,16 +15,16 @@ use Rattle.mf_geom.specs.Coordinates.{least_coordinate, greatest_coordinate, IsC
 use Rattle.mf_edges.specs.declared.edge.Edge.{Edge}
 use Rattle.mf_edges.specs.Edges.{AreEdges, weight_in}
 use Rattle.mf_edges.specs.LawfulWeights.{greatest_weight, IsInReach}
-use Rattle.mf_edges.specs.Merging.{AreChanges, unless_zero}
+use Rattle.mf_edges.specs.Merging.{AreChanges, AreEdgesBefore, unless_zero}
 use Rattle.mf_edges.specs.Reaches.{IsLeastReach, StaysInReach}
-use Rattle.mf_edges.specs.Sums.{with_edge_in, weight_in_both, IsEdgeSum, HasEdgeSum}
-use Rattle.mf_edges.proofs.EdgeSums.{sorted_push, before_push, weight_in-push}
+use Rattle.mf_edges.specs.Sums.{weight_in_both, IsEdgeSum, HasEdgeSum}
+use Rattle.mf_edges.proofs.EdgeSums.{cond-sum, sorted_push, before_push, weight_in-push}
 use Rattle.mf_edges.proofs.ReachesLemmas.{reach_of_row, wider_reach}
 use Rattle.mf_strips.specs.Strips.{EdgeStrip, row_in, last_row, weight_in_strips, AreAbove, AreStrips, AreStripsDownTo}
 use Rattle.mf_strips.proofs.StripsLemmas.{row_in-below, row_in-pushed, row_in-kept, row_lawful, no_edges, none_reached, wider_strips}
 use Rattle.mf_strips.proofs.Written.{strips_lower, strips_more}
 use Rattle.mf_strips.specs.declared.corner.Corner.{Corner}
-use Rattle.mf_strips.specs.Corners.{added_by, added_by_all, AreCorners, AreEdgesBefore, AreSortedFrom, AreSweptCorners, BeginAtHeight, BeginBelowField}
+use Rattle.mf_strips.specs.Corners.{added_by, added_by_all, AreCorners, AreSortedFrom, AreSweptCorners, BeginAtHeight, BeginBelowField}
 use Rattle.mf_strips.specs.Corners.{ContinueWith, HaveFieldStripWeights, IsCorner, IsCornerWeight, IsJoined, IsPast, IsPlaced, IsSplitHeight}
 
 -- ---- what sorted corners add
@@ -51,39 +51,36 @@ added_before a b x y (k ∷ ks) sorted above left =
 
 -- ---- the corners at one height
 
-sum_from : (x c v w : ℤ) → (if int_le x c then (v +ℤ w) else pos 0) ≡ (if int_le x c then v else pos 0) +ℤ (if int_le x c then w else pos 0)
-sum_from x c v w = grind (arith, ints)
-
 pub joined_here : (es : List Edge) (d : Edge) (k : Corner) (w : ℤ) → AreEdgesBefore d.x es → d.x ≡ k.x → w ≡ d.weight +ℤ k.weight
     → IsJoined es d k es (record { x = d.x; weight = w })
-unfolding with_edge_in
-joined_here es d k w edges same sum = record { edges = edges; column = same; weights = λ x. rw (sum, same) (omega (arith, ints, sum_from k.x x d.weight k.weight)) }
+unfolding weight_in
+joined_here es d k w edges same sum =
+    record { edges = edges; column = same; weights = λ x. rw (sum, same) (omega (arith, ints, cond-sum (int_le k.x x) d.weight k.weight)) }
 
 pub joined_after : (es : List Edge) (d : Edge) (k : Corner) → AreEdgesBefore d.x es → d.x <ℤ k.x → IsCoordinate k.x
     → IsJoined es d k (es ++ unless_zero d) (record { x = k.x; weight = k.weight })
-unfolding with_edge_in
+unfolding weight_in
 joined_after es d k edges after column = record {
   edges = record {
-    sorted = sorted_push es d.x d.x d.weight edges.sorted edges.before (record { from = omega (arith, ints); column = edges.column });
-    before = All-weaker (λ e. e.x <ℤ (d.x +ℤ pos 1)) (λ e. e.x <ℤ k.x) (λ e lt. omega (arith, ints)) (es ++ unless_zero d)
-        (before_push es d.x d.x d.weight edges.before (omega (arith, ints)));
+    sorted = sorted_push es d edges;
+    before = All-weaker (λ e. e.x <ℤ (d.x +ℤ pos 1)) (λ e. e.x <ℤ k.x) (λ e lt. omega (arith, ints)) (es ++ unless_zero d) (before_push es d edges);
     column = column;
   };
   column = refl;
-  weights = λ x. ap (λ w. w +ℤ (if int_le k.x x then k.weight else pos 0)) (weight_in-push es d.x d.weight x);
+  weights = λ x. omega (arith, ints, weight_in-push es d x);
 }
 
 -- the corners at height `top` have been passed, except for those that are left
 pub record IsHeightSoFar (top : ℤ) (ks : List Corner) (changes : List Edge) (last : Edge) (left : List Corner) : Type 0 where
   pub edges : AreEdgesBefore last.x changes
   pub sorted : AreSortedFrom last.x top left
-  pub weights : (x y : ℤ) → y <ℤ top → added_by_all ks x y ≡ with_edge_in changes last.x last.weight x +ℤ added_by_all left x y
+  pub weights : (x y : ℤ) → y <ℤ top → added_by_all ks x y ≡ weight_in (last ∷ changes) x +ℤ added_by_all left x y
   pub few : length left ≤ length ks
   pub fewer : (BeginAtHeight top left → ⊥) → length left < length ks
 
 pub height_none : (top : ℤ) (ks : List Corner) → BeginAtHeight top ks → AreSortedFrom least_coordinate top ks
     → IsHeightSoFar top ks [] (record { x = least_coordinate; weight = pos 0 }) ks
-unfolding weight_in with_edge_in
+unfolding weight_in
 height_none top ks first sorted = record {
   edges = record { sorted = tt; before = All-nil (λ e. e.x <ℤ least_coordinate); column = record { least = omega (arith, ints); greatest = omega (arith, ints) } };
   sorted = sorted;
@@ -112,8 +109,8 @@ sorted_lower low top (k ∷ ks) sorted lower =
 pub height_all : (top : ℤ) (ks left : List Corner) (changes : List Edge) (last : Edge) → IsHeightSoFar top ks changes last left
     → (BeginAtHeight top left → ⊥) → IsSplitHeight top ks (changes ++ unless_zero last) left
 height_all top ks left changes last so_far lower = record {
-  edges = sorted_push changes last.x last.x last.weight so_far.edges.sorted so_far.edges.before (record { from = omega (arith, ints); column = so_far.edges.column });
-  weights = λ x y below. so_far.weights x y below ∙ ap (λ w. w +ℤ added_by_all left x y) (sym (weight_in-push changes last.x last.weight x));
+  edges = sorted_push changes last so_far.edges;
+  weights = λ x y below. so_far.weights x y below ∙ ap (λ w. w +ℤ added_by_all left x y) (sym (weight_in-push changes last x));
   sorted = sorted_lower last.x top left so_far.sorted lower;
   fewer = so_far.fewer lower;
 }

@@ -6,7 +6,7 @@ use Rattle.mf_geom.specs.Lawful.{most_points}
 use Rattle.mf_edges.specs.LawfulWeights.{IsInReach, IsLawfulWeight}
 use Rattle.mf_edges.specs.declared.edge.Edge.{Edge}
 use Rattle.mf_edges.specs.Edges.{AreEdgesFrom, weight_in}
-use Rattle.mf_edges.specs.Sums.{with_edge_in}
+use Rattle.mf_edges.specs.Merging.{AreEdgesBefore}
 use Rattle.mf_strips.specs.declared.corner.Corner.{Corner}
 use Rattle.mf_strips.specs.Strips.{EdgeStrip, last_row, weight_in_strips}
 
@@ -77,17 +77,11 @@ abbrev pub BeginBelowField : List Corner → Type 0
 BeginBelowField [] = Unit {0}
 BeginBelowField (k ∷ ks) = k.y ≤ℤ least_coordinate
 
--- sorted edges to the left of a column, where an edge may be
-pub record AreEdgesBefore (x : ℤ) (es : List Edge) : Type 0 where
-  pub sorted : AreEdgesFrom least_coordinate es
-  pub before : All (λ e. e.x <ℤ x) es
-  pub column : IsCoordinate x
-
 -- edges with the last edge d become such edges with the last edge e, at the column of corner k, where the weights are greater by that of k
 pub record IsJoined (es : List Edge) (d : Edge) (k : Corner) (new : List Edge) (e : Edge) : Type 0 where
   pub edges : AreEdgesBefore e.x new
   pub column : e.x ≡ k.x
-  pub weights : (x : ℤ) → with_edge_in new e.x e.weight x ≡ with_edge_in es d.x d.weight x +ℤ (if int_le k.x x then k.weight else pos 0)
+  pub weights : (x : ℤ) → weight_in (e ∷ new) x ≡ weight_in (d ∷ es) x +ℤ (if int_le k.x x then k.weight else pos 0)
 
 -- the corners at one height are split off: they change the rows below it by these edges
 pub record IsSplitHeight (top : ℤ) (ks : List Corner) (changes : List Edge) (others : List Corner) : Type 0 where

@@ -1,8 +1,9 @@
 //! Corners, and the part that they make.
 ghost use Rattle.std.specs.Prelude.{◌≡◌, IfOk, IfNone, IfSome, OnOk, ◌≤ℤ◌, ◌<ℤ◌};
 ghost use Rattle.mf_geom.specs.Coordinates.{least_coordinate, greatest_coordinate, IsCoordinate};
+ghost use Rattle.mf_edges.specs.Merging.{AreEdgesBefore};
 ghost use Rattle.mf_strips.specs.Parts.{strips_in};
-ghost use Rattle.mf_strips.specs.Corners.{added_by_all, AreEdgesBefore, AreSortedFrom, AreSweptCorners, BeginAtHeight, BeginBelowField};
+ghost use Rattle.mf_strips.specs.Corners.{added_by_all, AreSortedFrom, AreSweptCorners, BeginAtHeight, BeginBelowField};
 ghost use Rattle.mf_strips.specs.Corners.{ContinueWith, HaveFieldStripWeights, IsJoined, IsSplitHeight};
 
 use crate::part::Part;
