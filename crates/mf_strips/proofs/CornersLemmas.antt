@@ -20,8 +20,9 @@ use Rattle.mf_edges.specs.Sums.{with_edge_in, weight_in_both, IsEdgeSum, HasEdge
 use Rattle.mf_edges.proofs.EdgesLemmas.{weight_in-left}
 use Rattle.mf_edges.proofs.EdgeSums.{sorted_push, before_push, weight_in-push}
 use Rattle.mf_edges.proofs.ReachesLemmas.{row_unless_unlawful, reach_of_row}
-use Rattle.mf_strips.specs.Strips.{EdgeStrip, row_in, last_row, weight_in_strips, AreAbove, AreStrips, AreStripsDownTo}
-use Rattle.mf_strips.proofs.StripsLemmas.{row_in-below, row_in-pushed, row_in-kept, row_lawful, no_edges, none_reached, strips_push, wider_strip, wider_strips}
+use Rattle.mf_strips.specs.Strips.{EdgeStrip, row_in, last_row, weight_in_strips, AreStrips, AreStripsDownTo}
+use Rattle.mf_strips.proofs.StripsLemmas.{row_in-lowest, row_in-pushed, row_in-kept, no_edges, none_reached, strips_push, wider_strip, wider_strips}
+pub use Rattle.mf_strips.proofs.Written.{weight_below, last_lawful}
 use Rattle.mf_strips.proofs.Written.{strips_lower, strips_more}
 use Rattle.mf_strips.specs.declared.corner.Corner.{Corner}
 use Rattle.mf_strips.specs.Corners.{added_by, added_by_all, IsPlaced, IsPast, AreSortedFrom, AddChanges, AreChangedBelow, AreCorners, HaveFieldStripWeights, AreSweptCorners, BeginAtHeight, BeginBelowField, IsCorner, IsCornerWeight, IsReach, IsSplitPlace, IsSplitHeight}
@@ -165,27 +166,6 @@ module _ (top : ℤ) (k : Corner) (ks rest : List Corner) (changes : List Edge) 
 
 pub sum_alone : (es fs sum : List Edge) → HasEdgeSum [] es fs sum → IsEdgeSum es fs sum
 sum_alone es fs sum has = rw has.all has.sum
-
--- below all strips, the row is that of the last one
-row_in-last : (above : List Edge) (s : EdgeStrip) (ss : List EdgeStrip) (y : ℤ) → AreAbove y (s ∷ ss) → row_in above (s ∷ ss) y ≡ last_row (s ∷ ss)
-unfolding row_in
-row_in-last above s [] y higher = row_in-below above s [] y (All-head (λ s. y <ℤ s.top) s [] higher)
-row_in-last above s (t ∷ ss) y higher =
-    row_in-below above s (t ∷ ss) y (All-head (λ s. y <ℤ s.top) s (t ∷ ss) higher) ∙ row_in-last s.edges t ss y (All-tail (λ s. y <ℤ s.top) s (t ∷ ss) higher)
-
-pub row_in-lowest : (ss : List EdgeStrip) (y : ℤ) → AreAbove y ss → row_in [] ss y ≡ last_row ss
-unfolding row_in
-row_in-lowest [] y higher = refl
-row_in-lowest (s ∷ ss) y higher = row_in-last [] s ss y higher
-
-module _ (low reach : ℤ) (ss : List EdgeStrip) (strips : AreStripsDownTo low reach ss) where
-  pub weight_below : (x y : ℤ) → y ≤ℤ low → weight_in_strips ss x y ≡ weight_in (last_row ss) x
-  unfolding weight_in_strips
-  weight_below x y below =
-      ap (λ es. weight_in es x) (row_in-lowest ss y (All-weaker (λ s. low <ℤ s.top) (λ s. y <ℤ s.top) (λ s lt. omega (arith, ints)) ss strips.above))
-
-  pub last_lawful : AreEdges (last_row ss)
-  last_lawful = rw (← row_in-lowest ss low strips.above) (row_lawful greatest_coordinate reach [] ss low no_edges strips.strips)
 
 pub changed_none : (top reach : ℤ) (ss : List EdgeStrip) → AreStripsDownTo top reach ss → IsReach reach → AreChangedBelow top [] ss reach ss
 unfolding weight_in
