@@ -6,14 +6,12 @@ use Rattle.std.specs.declared.alloc.Global.{Global}
 use Rattle.std.specs.declared.sync.Arc.{Arc}
 use Rattle.std.proofs.lemmas.Int.{ints, by_lt_z}
 use Rattle.std.proofs.lemmas.List.Elements.{All-head, All-tail}
-use Rattle.mf_geom.specs.Coordinates.{least_coordinate, greatest_coordinate, last_in_field}
+use Rattle.mf_geom.specs.Coordinates.{greatest_coordinate}
 use Rattle.mf_geom.specs.Field.{IsInField}
-use Rattle.mf_edges.specs.declared.edge.Edge.{Edge}
 use Rattle.mf_edges.specs.Edges.{AreEdges, weight_in}
 use Rattle.mf_edges.specs.LawfulWeights.{IsLawfulWeight}
 use Rattle.mf_edges.specs.Axes.{PlaceStaysInside}
 use Rattle.mf_edges.specs.declared.stretch.Stretch.{Stretch}
-use Rattle.mf_edges.proofs.EdgesLemmas.{weight_in-outside}
 use Rattle.mf_edges.proofs.ReachesLemmas.{wider_reach}
 use Rattle.mf_strips.specs.declared.part.Part.{Part}
 use Rattle.mf_strips.specs.declared.pile.Pile.{Pile}
@@ -23,10 +21,11 @@ use Rattle.mf_strips.specs.Changes.{negated_weight_in}
 use Rattle.mf_strips.specs.Moves.{StripsStayInside}
 use Rattle.mf_strips.specs.Parts.{strips_in, weight_in_part, weight_in_parts}
 use Rattle.mf_strips.specs.PileWeights.{weight_in_pile, weight_with_part, HasPileWeights}
-use Rattle.mf_strips.specs.Strips.{EdgeStrip, row_in, weight_in_strips, AreStripsFrom, HaveStripWeights}
-use Rattle.mf_strips.specs.Sums.{IsFrom}
+use Rattle.mf_strips.specs.Strips.{row_in, weight_in_strips, HaveStripWeights}
+pub use Rattle.mf_strips.proofs.PartsLemmas.{by_field}
+use Rattle.mf_strips.proofs.PartsLemmas.{strips_outside}
 pub use Rattle.mf_strips.proofs.PilesLemmas.{unlawful_as}
-use Rattle.mf_strips.proofs.StripsLemmas.{row_in-from, row_in-below, row_lawful, no_edges, no_weight}
+use Rattle.mf_strips.proofs.StripsLemmas.{row_lawful, no_edges, no_weight}
 use Rattle.mf_rows.specs.Dots.{Dot, IsPicture, weight_at}
 use Rattle.mf_rows.specs.Corners.{added_by_all, with_corners_at}
 use Rattle.mf_rows.specs.Moves.{PixelsStayInside}
@@ -40,35 +39,10 @@ use Rattle.mf_rows.proofs.WeightsLemmas.{lawful_picture_of, same_pictures, weigh
 
 -- ---- outside the field
 
-rows_below_field : (top reach : ℤ) (above : List Edge) (ss : List EdgeStrip) (y z : ℤ) → AreStripsFrom top reach ss → y <ℤ least_coordinate → z <ℤ least_coordinate
-    → row_in above ss y ≡ row_in above ss z
-unfolding row_in
-rows_below_field top reach above [] y z strips low_y low_z = refl
-rows_below_field top reach above (s ∷ ss) y z strips low_y low_z =
-    grind (arith, ints, row_in-below, rows_below_field (s.top -ℤ pos 1) reach s.edges ss y z strips.2 low_y low_z)
-
-from_top : (top reach : ℤ) (ss : List EdgeStrip) (y : ℤ) → AreStripsFrom top reach ss → top ≤ℤ y → IsFrom ss y
-from_top top reach [] y strips le = tt
-from_top top reach (s ∷ ss) y strips le = let start : s.top ≤ℤ top = strips.1 in omega (arith, ints)
-
-part_outside : (p : Part) (x y : ℤ) → (IsInField x y → ⊥) → weight_in_part p x y ≡ pos 0
-unfolding weight_in_strips
-part_outside p x y outside =
-    let ss = strips_in p in
-    let strips = p.lawful.strips in
-    by_lt_z last_in_field y (λ gt. grind (arith, ints, row_in-from, from_top greatest_coordinate p.reach ss y strips (omega (arith, ints)), no_weight))
-    (λ le. by_lt_z y least_coordinate
-    (λ lt. grind (arith, ints, rows_below_field greatest_coordinate p.reach [] ss y (least_coordinate -ℤ pos 1) strips lt (omega (arith, ints)), no_weight))
-    (λ ge. weight_in-outside (row_in [] ss y) x (row_lawful greatest_coordinate p.reach [] ss y no_edges strips) (λ left right. outside (grind (arith, ints)))))
-
 pub parts_outside : (ps : List (Arc Part Global)) (x y : ℤ) → (IsInField x y → ⊥) → weight_in_parts ps x y ≡ pos 0
 unfolding weight_in_parts
 parts_outside [] x y outside = refl
-parts_outside (p ∷ ps) x y outside = omega (arith, ints, part_outside (arc_value p) x y outside, parts_outside ps x y outside)
-
--- either a pixel lies in the field, or it does not
-pub by_field : {P : Type 0} (x y : ℤ) → (IsInField x y → P) → ((IsInField x y → ⊥) → P) → P
-by_field x y inside outside = grind (arith, ints, by_lt_z)
+parts_outside (p ∷ ps) x y outside = omega (arith, ints, strips_outside (arc_value p).reach (strips_in (arc_value p)) x y (arc_value p).lawful outside, parts_outside ps x y outside)
 
 -- ---- the picture of a pile
 

@@ -21,11 +21,11 @@ use Rattle.mf_edges.specs.Sums.{weight_in_both, IsEdgeSum, HasEdgeSum}
 use Rattle.mf_edges.proofs.EdgeSums.{cond-sum, sorted_push, before_push, weight_in-push}
 use Rattle.mf_edges.proofs.ReachesLemmas.{reach_of_row, wider_reach}
 use Rattle.mf_strips.specs.Strips.{EdgeStrip, row_in, last_row, weight_in_strips, AreAbove, AreStrips, AreStripsDownTo}
-use Rattle.mf_strips.proofs.StripsLemmas.{row_in-below, row_in-pushed, row_in-kept, row_lawful, no_edges, none_reached, wider_strips}
-use Rattle.mf_strips.proofs.Written.{strips_lower, strips_more}
+use Rattle.mf_strips.proofs.StripsLemmas.{no_edges, no_weight, none_reached, wider_strips}
+use Rattle.mf_strips.proofs.Written.{GoOn, go_on, go_on_with, last_lawful, strips_closed, weight_below}
 use Rattle.mf_strips.specs.declared.corner.Corner.{Corner}
 use Rattle.mf_strips.specs.Corners.{added_by, added_by_all, AreCorners, AreSortedFrom, AreSweptCorners, BeginAtHeight, BeginBelowField}
-use Rattle.mf_strips.specs.Corners.{ContinueWith, HaveFieldStripWeights, IsCorner, IsCornerWeight, IsJoined, IsPast, IsPlaced, IsSplitHeight}
+use Rattle.mf_strips.specs.Corners.{ContinueWith, HaveFieldStripWeights, IsCorner, IsCornerWeight, IsJoined, IsPast, IsPlaced, IsReach, IsSplitHeight}
 
 -- ---- what sorted corners add
 
@@ -120,44 +120,11 @@ height_all top ks left changes last so_far lower = record {
 pub sum_alone : (es fs sum : List Edge) → HasEdgeSum [] es fs sum → IsEdgeSum es fs sum
 sum_alone es fs sum has = rw has.all has.sum
 
--- below all strips, the row is that of the last one
-row_in-last : (above : List Edge) (s : EdgeStrip) (ss : List EdgeStrip) (y : ℤ) → AreAbove y (s ∷ ss) → row_in above (s ∷ ss) y ≡ last_row (s ∷ ss)
-unfolding row_in
-row_in-last above s [] y higher = row_in-below above s [] y (All-head (λ s. y <ℤ s.top) s [] higher)
-row_in-last above s (t ∷ ss) y higher =
-    row_in-below above s (t ∷ ss) y (All-head (λ s. y <ℤ s.top) s (t ∷ ss) higher) ∙ row_in-last s.edges t ss y (All-tail (λ s. y <ℤ s.top) s (t ∷ ss) higher)
-
-pub row_in-lowest : (ss : List EdgeStrip) (y : ℤ) → AreAbove y ss → row_in [] ss y ≡ last_row ss
-unfolding row_in
-row_in-lowest [] y higher = refl
-row_in-lowest (s ∷ ss) y higher = row_in-last [] s ss y higher
-
-pub weight_below : (low reach : ℤ) (ss : List EdgeStrip) → AreStripsDownTo low reach ss → (x y : ℤ) → y ≤ℤ low
-    → weight_in_strips ss x y ≡ weight_in (last_row ss) x
-unfolding weight_in_strips
-weight_below low reach ss strips x y below = ap (λ es. weight_in es x) (row_in-lowest ss y (strips_lower low reach ss strips y below).above)
-
--- the rows below height `top` have these edges, and those above it stay
-record HasRowsBelow (top reach : ℤ) (es : List Edge) (out new : List EdgeStrip) : Type 0 where
-  strips : AreStripsDownTo (top -ℤ pos 1) reach new
-  below : (y : ℤ) → y <ℤ top → row_in [] new y ≡ es
-  above : (y : ℤ) → top ≤ℤ y → row_in [] new y ≡ row_in [] out y
-
-rows_below : (top reach : ℤ) (es : List Edge) (out new : List EdgeStrip) → AreStripsDownTo top reach out → IsCoordinate top → AreEdges es
-    → StaysInReach reach es → ContinueWith top es out new → HasRowsBelow top reach es out new
-rows_below top reach es out new strips height edges reached (inl more) =
-    let s : EdgeStrip = record { top = top; edges = es } in
-    rw more (record {
-      strips = strips_more reach out s strips height.greatest (record { bottom = height.least; edges = edges; reached = reached });
-      below = λ y lt. row_in-pushed [] out s y strips.above lt;
-      above = λ y ge. row_in-kept [] out s y ge;
-    })
-rows_below top reach es out new strips height edges reached (inr same) =
-    rw same.1 (record {
-      strips = strips_lower top reach out strips (top -ℤ pos 1) (omega (arith, ints));
-      below = λ y lt. row_in-lowest out y (strips_lower top reach out strips y (omega (arith, ints))).above ∙ sym same.0;
-      above = λ y ge. refl;
-    })
+goes_on : (low top reach : ℤ) (es : List Edge) (out new : List EdgeStrip) → AreStripsDownTo low reach out → top ≤ℤ low → IsCoordinate top
+    → AreEdges es → StaysInReach reach es → ContinueWith top es out new → GoOn top reach es out new
+goes_on low top reach es out new strips le height edges reached (inl more) =
+    rw more (go_on_with low top reach es out strips le height.greatest (record { bottom = height.least; edges = edges; reached = reached }))
+goes_on low top reach es out new strips le height edges reached (inr same) = rw same.1 (go_on low top reach es out strips le same.0)
 
 -- ---- the sweep
 
@@ -167,8 +134,7 @@ pub record IsSwept (all left : List Corner) (reach : ℤ) (out : List EdgeStrip)
   pub bottom : least_coordinate ≤ℤ low
   pub sorted : AreSortedFrom least_coordinate low left
   pub strips : AreStripsDownTo low reach out
-  pub least : pos 0 ≤ℤ reach
-  pub most : reach ≤ℤ greatest_weight
+  pub reached : IsReach reach
   pub weights : (x y : ℤ) → weight_in_strips out x y +ℤ added_by_all left x y ≡ added_by_all all x y
 
 pub swept_none : (all left : List Corner) → AreSortedFrom least_coordinate greatest_coordinate left
@@ -179,8 +145,7 @@ swept_none all left sorted same = record {
   bottom = omega (arith, ints);
   sorted = sorted;
   strips = record { strips = tt; above = All-nil (λ s. greatest_coordinate <ℤ s.top) };
-  least = omega (arith, ints);
-  most = omega (arith, ints);
+  reached = record { least = omega (arith, ints); most = omega (arith, ints) };
   weights = λ x y. omega (arith, ints, same x y);
 }
 
@@ -199,26 +164,22 @@ added_above : (top : ℤ) (ks : List Corner) (x y : ℤ) → AreSortedFrom least
 added_above top ks x y sorted above = added_before least_coordinate top x y ks sorted (omega (arith, ints)) (λ same. absurd (omega (arith, ints)))
 
 pub row_above : {all left : List Corner} {reach : ℤ} {out : List EdgeStrip} → IsSwept all left reach out → AreEdges (last_row out)
-row_above {reach = reach} {out = out} so_far =
-    rw (← row_in-lowest out so_far.low so_far.strips.above) (row_lawful greatest_coordinate reach [] out so_far.low no_edges so_far.strips.strips)
+row_above {reach = reach} {out = out} so_far = last_lawful so_far.low reach out so_far.strips
 
 module _ {all left : List Corner} {reach : ℤ} {out : List EdgeStrip} {top : ℤ} (so_far : IsSwept all left reach out) (here : BeginAtHeight top left) where
   pub sorted_at : (top ≤ℤ so_far.low) × (top ≤ℤ greatest_coordinate) × AreSortedFrom least_coordinate top left
   sorted_at = sorted_here so_far.low top left so_far.sorted here
 
-  strips_at_top : AreStripsDownTo top reach out
-  strips_at_top = strips_lower so_far.low reach out so_far.strips top sorted_at.0
-
   module _ {changes : List Edge} {others : List Corner} (given : AreSweptCorners all) (split : IsSplitHeight top left changes others) where
     -- the weights of the last row, and of the row below height `top`
     row_is : (x : ℤ) → weight_in (last_row out) x ≡ added_by_all all x top
     row_is x =
-        omega (arith, ints, weight_below top reach out strips_at_top x top (omega (arith, ints)), so_far.weights x top, added_above top left x top sorted_at.2 (omega (arith, ints)))
+        omega (arith, ints, weight_below so_far.low reach out so_far.strips x top sorted_at.0, so_far.weights x top, added_above top left x top sorted_at.2 (omega (arith, ints)))
 
     next_is : (x : ℤ) → weight_in (last_row out) x +ℤ weight_in changes x ≡ added_by_all all x (top -ℤ pos 1)
     next_is x =
         let y = top -ℤ pos 1 in
-        let last = weight_below top reach out strips_at_top x y (omega (arith, ints)) in
+        let last = weight_below so_far.low reach out so_far.strips x y (omega (arith, ints, sorted_at.0)) in
         omega (arith, ints, last, so_far.weights x y, split.weights x y (omega (arith, ints)), added_above y others x y split.sorted (omega (arith, ints)))
 
     pub changes_are : AreChanges changes
@@ -245,29 +206,27 @@ module _ {all left : List Corner} {reach : ℤ} {out : List EdgeStrip} {top : �
 
       pub swept_more : (r next : ℤ) (new : List EdgeStrip) → least_coordinate <ℤ top → IsLeastReach r row → next ≡ int_max reach r
           → ContinueWith top row out new → IsSwept all others next new
-      unfolding weight_in_strips weight_in_both
-      swept_more r next new inside least greater goes_on =
+      unfolding weight_in_both
+      swept_more r next new inside least greater ends =
           let own = reach_of_row r row row_below least in
-          let most : next ≤ℤ greatest_weight = omega (arith, ints, clamps, own.most, so_far.most) in
-          let old = wider_strips greatest_coordinate reach next out (omega (arith, ints, clamps)) most strips_at_top.strips in
-          let rows = rows_below top next row out new (record { strips = old; above = strips_at_top.above })
+          let most : next ≤ℤ greatest_weight = omega (arith, ints, clamps, own.most, so_far.reached) in
+          let old = wider_strips greatest_coordinate reach next out (omega (arith, ints, clamps)) most so_far.strips.strips in
+          let goes = goes_on so_far.low top next row out new (record { strips = old; above = so_far.strips.above }) sorted_at.0
           (record { least = omega (arith, ints); greatest = sorted_at.1 }) row_below
-          (record { most = most; within = λ x. wider_reach (omega (arith, ints, clamps)) (own.within x) }) goes_on in
+          (record { most = most; within = λ x. wider_reach (omega (arith, ints, clamps)) (own.within x) }) ends in
           record {
             low = top -ℤ pos 1;
             bottom = omega (arith, ints);
             sorted = split.sorted;
-            strips = rows.strips;
-            least = omega (arith, ints, clamps, so_far.least);
-            most = most;
+            strips = goes.strips;
+            reached = record { least = omega (arith, ints, clamps, so_far.reached); most = most };
             weights = λ x y. by_lt_z y top
                 (λ lt.
-                let last = weight_below top reach out strips_at_top x y (omega (arith, ints)) in
-                let both = sum.weights.weights x in
-                omega (arith, ints, ap (λ es. weight_in es x) (rows.below y lt), last, so_far.weights x y, split.weights x y lt))
+                let last = weight_below so_far.low reach out so_far.strips x y (omega (arith, ints, sorted_at.0)) in
+                omega (arith, ints, goes.below x y lt, last, sum.weights.weights x, so_far.weights x y, split.weights x y lt))
                 (λ ge.
                 let none_left = added_above (top -ℤ pos 1) others x y split.sorted (omega (arith, ints)) in
-                omega (arith, ints, ap (λ es. weight_in es x) (rows.above y ge), so_far.weights x y, added_above top left x y sorted_at.2 ge));
+                omega (arith, ints, goes.above x y ge, so_far.weights x y, added_above top left x y sorted_at.2 ge));
           }
 
 -- no row of the field is below the corners that are left
@@ -281,21 +240,16 @@ added_below_field x y low (k ∷ ks) inside sorted below =
 -- the part ends with the field
 pub swept_all : (all left : List Corner) (reach : ℤ) (out new : List EdgeStrip) → IsSwept all left reach out → BeginBelowField left
     → ContinueWith least_coordinate [] out new → AreStrips reach new × HaveFieldStripWeights (added_by_all all) new
-unfolding weight_in_strips
 swept_all all left reach out new so_far below ends =
-    let old = strips_lower so_far.low reach out so_far.strips least_coordinate so_far.bottom in
     let height : IsCoordinate least_coordinate = record { least = omega (arith, ints); greatest = omega (arith, ints) } in
-    let rows = rows_below least_coordinate reach [] out new old height no_edges (none_reached reach so_far.least so_far.most) ends in (
-      record {
-        strips = rows.strips.strips;
-        closed = rows.below (least_coordinate -ℤ pos 1) (omega (arith, ints));
-        least = so_far.least;
-        most = so_far.most;
-      },
+    let blank = none_reached reach so_far.reached.least so_far.reached.most in
+    let goes = goes_on so_far.low least_coordinate reach [] out new so_far.strips so_far.bottom height no_edges blank ends in
+    let under : (x : ℤ) → weight_in_strips new x (least_coordinate -ℤ pos 1) ≡ pos 0 = λ x. goes.below x (least_coordinate -ℤ pos 1) (omega (arith, ints)) ∙ no_weight x in (
+      strips_closed reach (weight_in_strips new) (least_coordinate -ℤ pos 1) new goes.strips (record { weights = λ x y. refl }) under so_far.reached.least so_far.reached.most,
       record {
         weights = λ x y inside.
             let none = added_below_field x y so_far.low left inside.bottom so_far.sorted below in
-            omega (arith, ints, ap (λ es. weight_in es x) (rows.above y inside.bottom), so_far.weights x y);
+            omega (arith, ints, goes.above x y inside.bottom, so_far.weights x y);
       },
     )
 

@@ -3,9 +3,9 @@ use Rattle.std.proofs.Common.{◌≡◌, ℕ, zero, suc, ◌<◌, ℤ, pos, ◌-
 use Rattle.std.proofs.Common.{unwrap_or, length, take, drop, get_or, sym, ap, subst, ◌∙◌, arith}
 use Rattle.std.specs.List.{All}
 use Rattle.std.specs.List.Sorted.{IsPartitionedBy}
-use Rattle.std.proofs.lemmas.Int.{ints, by_lt_z}
+use Rattle.std.proofs.lemmas.Int.{ints}
 use Rattle.std.proofs.lemmas.List.{take-map}
-use Rattle.std.proofs.lemmas.List.Elements.{All-nil, All-cons, All-head, All-tail, All-map, All-weaker}
+use Rattle.std.proofs.lemmas.List.Elements.{All-nil, All-cons, All-map, All-weaker}
 use Rattle.mf_geom.specs.Coordinates.{least_coordinate, greatest_coordinate}
 use Rattle.mf_geom.specs.Field.{IsColumnOrRow}
 use Rattle.mf_edges.specs.declared.edge.Edge.{Edge}
@@ -16,7 +16,7 @@ use Rattle.mf_strips.specs.Heads.{strip_at, strips_at}
 use Rattle.mf_strips.specs.Parts.{first_top}
 use Rattle.mf_strips.specs.Strips.{EdgeStrip, AreStripsFrom, AreStrips, AreAbove, last_row, row_in}
 use Rattle.mf_strips.specs.Sums.{IsFrom}
-use Rattle.mf_strips.proofs.StripsLemmas.{row_in-from, row_in-below}
+use Rattle.mf_strips.proofs.StripsLemmas.{row_in-front, row_in-lowest}
 
 -- ---- the tops fall
 
@@ -37,26 +37,6 @@ begins_above y h = int_lt y h.top
 pub IsPartitionedBy-begins_above : (y reach : ℤ) (es : List Edge) (hs : List Head) → AreStrips reach (strips_at es hs) → IsPartitionedBy (begins_above y) hs
 IsPartitionedBy-begins_above y reach es hs strips =
     IsPartitionedBy-falls (λ h. h.top) (begins_above y) (λ a b le above. grind (arith, ints)) hs (tops_fall greatest_coordinate reach es hs strips.strips)
-
--- ---- the last strip that begins above a row has it
-
--- strips that begin at a row or below it do not change the row
-row_in-front : (above : List Edge) (fs gs : List EdgeStrip) (v : ℤ) → IsFrom gs v → row_in above (fs ++ gs) v ≡ row_in above fs v
-row_in-front above [] gs v from = row_in-from above gs v from ∙ sym (row_in-from above [] v tt)
-row_in-front above (f ∷ fs) gs v from =
-    by_lt_z v f.top
-    (λ lt. row_in-below above f (fs ++ gs) v lt ∙ row_in-front f.edges fs gs v from ∙ sym (row_in-below above f fs v lt))
-    (λ le. row_in-from above (f ∷ fs ++ gs) v le ∙ sym (row_in-from above (f ∷ fs) v le))
-
--- a row below the tops of strips is that of the last one
-row_in-last : (above : List Edge) (f : EdgeStrip) (fs : List EdgeStrip) (v : ℤ) → AreAbove v (f ∷ fs) → row_in above (f ∷ fs) v ≡ last_row (f ∷ fs)
-row_in-last above f [] v lower = row_in-below above f [] v (All-head (λ s. v <ℤ s.top) f [] lower) ∙ row_in-from f.edges [] v tt
-row_in-last above f (g ∷ fs) v lower =
-    row_in-below above f (g ∷ fs) v (All-head (λ s. v <ℤ s.top) f (g ∷ fs) lower) ∙ row_in-last f.edges g fs v (All-tail (λ s. v <ℤ s.top) f (g ∷ fs) lower)
-
-row_in-all : (fs : List EdgeStrip) (v : ℤ) → AreAbove v fs → row_in [] fs v ≡ last_row fs
-row_in-all [] v lower = row_in-from [] [] v tt
-row_in-all (f ∷ fs) v lower = row_in-last [] f fs v lower
 
 -- the first n strips begin above row y where their heads do
 pub first_above : (y : ℤ) (es : List Edge) (hs : List Head) (n : ℕ) → All (λ h. begins_above y h ≡ true) (take n hs) → AreAbove y (take n (strips_at es hs))
@@ -101,7 +81,7 @@ module _ (y reach bottom : ℤ) (ss fs gs : List EdgeStrip) (all : ss ≡ fs ++ 
   found_at : (v : ℤ) → v ≤ℤ y → IsFrom gs v → row_in [] ss v ≡ last_row fs
   found_at v le from_v =
       ap (λ ss. row_in [] ss v) all ∙ row_in-front [] fs gs v from_v
-      ∙ row_in-all fs v (All-weaker (λ s. y <ℤ s.top) (λ s. v <ℤ s.top) (λ s lt. omega (arith, ints)) fs above)
+      ∙ row_in-lowest fs v (All-weaker (λ s. y <ℤ s.top) (λ s. v <ℤ s.top) (λ s lt. omega (arith, ints)) fs above)
 
   pub found_row : last_row fs ≡ row_in [] ss y
   found_row = sym (found_at y (omega (arith, ints)) from)

@@ -9,7 +9,6 @@ pub mod StripsLemmas
 pub mod PilesLemmas
 pub mod CornersLemmas
 pub mod TurnsLemmas
-pub mod SidesLemmas
 pub mod SumsLemmas
 pub mod Written
 pub mod StripMaps

@@ -13,7 +13,7 @@ use Rattle.mf_strips.specs.declared.part.Part.{Part}
 use Rattle.mf_strips.specs.declared.strips.Head.{Head}
 use Rattle.mf_strips.specs.Heads.{strips_at, AreHeads}
 use Rattle.mf_strips.specs.Strips.{EdgeStrip, AreStrips, AreStripsFrom, HaveStripWeights, row_in, weight_in_strips}
-use Rattle.mf_strips.specs.Sums.{IsFrom}
+pub use Rattle.mf_strips.proofs.StripsLemmas.{starts_from}
 use Rattle.mf_strips.proofs.StripsLemmas.{none_reached, no_edges, row_in-below, row_in-from, row_lawful, row_reached}
 
 -- these edges and heads are those of a part of the reach of part p, with the weights f
@@ -50,10 +50,6 @@ pub row_in-with_rows : (g : List Edge → List Edge) (above : List Edge) (ss : L
 unfolding row_in
 row_in-with_rows g above [] y = refl
 row_in-with_rows g above (s ∷ ss) y = grind (arith, ints, by_lt_z, row_in-below, row_in-from, row_in-with_rows g s.edges ss y)
-
-pub starts_from : (top reach : ℤ) (ss : List EdgeStrip) (y : ℤ) → AreStripsFrom top reach ss → top ≤ℤ y → IsFrom ss y
-starts_from top reach [] y strips le = tt
-starts_from top reach (s ∷ ss) y strips le = let start : s.top ≤ℤ top = strips.1 in omega (arith, ints)
 
 -- the heights of strips are coordinates
 tops_in_range : (es : List Edge) (top reach : ℤ) (hs : List Head) → AreStripsFrom top reach (strips_at es hs) → top ≤ℤ greatest_coordinate

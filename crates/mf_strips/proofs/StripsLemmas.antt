@@ -1,5 +1,5 @@
 -- The rows of strips.
-use Rattle.std.proofs.Common.{◌≡◌, ℤ, pos, ◌-ℤ◌, ◌≤ℤ◌, ◌<ℤ◌, List, [], ◌∷◌, ◌++◌, refl, arith}
+use Rattle.std.proofs.Common.{◌≡◌, ℤ, pos, ◌-ℤ◌, ◌≤ℤ◌, ◌<ℤ◌, List, [], ◌∷◌, ◌++◌, refl, ◌∙◌, arith}
 use Rattle.std.specs.Int.RustNames.{int_lt}
 use Rattle.std.proofs.lemmas.Bool.{cond_both, cond-true, cond-false}
 use Rattle.std.proofs.lemmas.Int.{ints, by_lt_z}
@@ -11,7 +11,7 @@ use Rattle.mf_edges.specs.LawfulWeights.{greatest_weight}
 use Rattle.mf_edges.specs.Reaches.{StaysInReach}
 use Rattle.mf_edges.proofs.EdgesLemmas.{weight_in-left, weight_in-before}
 use Rattle.mf_edges.proofs.ReachesLemmas.{wider_reach}
-use Rattle.mf_strips.specs.Strips.{EdgeStrip, row_in, IsStrip, AreStripsFrom, AreAbove}
+use Rattle.mf_strips.specs.Strips.{EdgeStrip, last_row, row_in, IsStrip, AreStripsFrom, AreAbove}
 use Rattle.mf_strips.specs.Sums.{IsFrom}
 
 -- ---- rows
@@ -21,6 +21,10 @@ pub row_in-from : (above : List Edge) (ss : List EdgeStrip) (y : ℤ) → IsFrom
 unfolding row_in
 row_in-from above [] y from = refl
 row_in-from above (s ∷ ss) y from = grind (arith, ints, cond-false)
+
+pub starts_from : (top reach : ℤ) (ss : List EdgeStrip) (y : ℤ) → AreStripsFrom top reach ss → top ≤ℤ y → IsFrom ss y
+starts_from top reach [] y strips le = tt
+starts_from top reach (s ∷ ss) y strips le = let start : s.top ≤ℤ top = strips.1 in omega (arith, ints)
 
 pub row_in-below : (above : List Edge) (s : EdgeStrip) (ss : List EdgeStrip) (y : ℤ) → y <ℤ s.top → row_in above (s ∷ ss) y ≡ row_in s.edges ss y
 unfolding row_in
@@ -33,11 +37,27 @@ row_in-pushed above [] s y lower below = grind (arith, ints, cond-true)
 row_in-pushed above (t ∷ ts) s y lower below =
     grind (arith, ints, cond-true, All-head, row_in-pushed t.edges ts s y (All-tail (λ t. s.top <ℤ t.top) t ts lower) below)
 
--- and no others
-pub row_in-kept : (above : List Edge) (ss : List EdgeStrip) (s : EdgeStrip) (y : ℤ) → s.top ≤ℤ y → row_in above (ss ++ s ∷ []) y ≡ row_in above ss y
+-- strips that begin at a row or below it do not change the row
+pub row_in-front : (above : List Edge) (ss ts : List EdgeStrip) (y : ℤ) → IsFrom ts y → row_in above (ss ++ ts) y ≡ row_in above ss y
 unfolding row_in
-row_in-kept above [] s y from = grind (arith, ints, cond-false)
-row_in-kept above (t ∷ ts) s y from = grind (arith, ints, cond-true, cond-false, by_lt_z, row_in-kept t.edges ts s y from)
+row_in-front above [] ts y from = row_in-from above ts y from
+row_in-front above (s ∷ ss) ts y from = grind (arith, ints, cond-true, cond-false, by_lt_z, row_in-front s.edges ss ts y from)
+
+-- as one that is appended
+pub row_in-kept : (above : List Edge) (ss : List EdgeStrip) (s : EdgeStrip) (y : ℤ) → s.top ≤ℤ y → row_in above (ss ++ s ∷ []) y ≡ row_in above ss y
+row_in-kept above ss s y from = row_in-front above ss (s ∷ []) y from
+
+-- below all strips, the row is that of the last one
+row_in-last : (above : List Edge) (s : EdgeStrip) (ss : List EdgeStrip) (y : ℤ) → AreAbove y (s ∷ ss) → row_in above (s ∷ ss) y ≡ last_row (s ∷ ss)
+unfolding row_in
+row_in-last above s [] y higher = row_in-below above s [] y (All-head (λ s. y <ℤ s.top) s [] higher)
+row_in-last above s (t ∷ ss) y higher =
+    row_in-below above s (t ∷ ss) y (All-head (λ s. y <ℤ s.top) s (t ∷ ss) higher) ∙ row_in-last s.edges t ss y (All-tail (λ s. y <ℤ s.top) s (t ∷ ss) higher)
+
+pub row_in-lowest : (ss : List EdgeStrip) (y : ℤ) → AreAbove y ss → row_in [] ss y ≡ last_row ss
+unfolding row_in
+row_in-lowest [] y higher = refl
+row_in-lowest (s ∷ ss) y higher = row_in-last [] s ss y higher
 
 -- ---- lawful strips
 

@@ -1,14 +1,13 @@
--- What was written of a list of strips.
-use Rattle.std.proofs.Common.{◌≡◌, ℤ, pos, ◌-ℤ◌, ◌≤ℤ◌, ◌<ℤ◌, List, [], ◌∷◌, ◌++◌, ap, ◌∙◌, arith}
-use Rattle.std.proofs.lemmas.Int.{ints, by_lt_z}
+-- Strips that are written, or passed, from the top down.
+use Rattle.std.proofs.Common.{◌≡◌, ℤ, pos, ◌-ℤ◌, ◌≤ℤ◌, ◌<ℤ◌, List, [], ◌∷◌, ◌++◌, refl, ap, sym, append_assoc, append-nil, ◌∙◌, arith}
+use Rattle.std.proofs.lemmas.Int.{ints}
 use Rattle.std.proofs.lemmas.List.Elements.{All-nil, All-weaker, All-push}
 use Rattle.mf_geom.specs.Coordinates.{least_coordinate, greatest_coordinate}
 use Rattle.mf_edges.specs.declared.edge.Edge.{Edge}
-use Rattle.mf_edges.specs.Edges.{weight_in}
+use Rattle.mf_edges.specs.Edges.{weight_in, AreEdges}
 use Rattle.mf_edges.specs.LawfulWeights.{greatest_weight}
-use Rattle.mf_strips.specs.Strips.{EdgeStrip, row_in, weight_in_strips, IsStrip, AreStrips, AreStripsDownTo, HaveStripWeights}
-use Rattle.mf_strips.specs.Sums.{AreWritten}
-use Rattle.mf_strips.proofs.StripsLemmas.{row_in-pushed, row_in-kept, strips_push, wider_strips, row_lawful, no_edges, blank_row}
+use Rattle.mf_strips.specs.Strips.{EdgeStrip, last_row, row_in, weight_in_strips, IsStrip, AreStrips, AreStripsDownTo, AreStripsFrom, HaveStripWeights}
+use Rattle.mf_strips.proofs.StripsLemmas.{row_in-lowest, row_in-pushed, row_in-kept, strips_push, row_lawful, no_edges, blank_row}
 
 -- the strips above a height are those above a lower one
 pub strips_lower : (low reach : ℤ) (ss : List EdgeStrip) → AreStripsDownTo low reach ss → (next : ℤ) → next ≤ℤ low → AreStripsDownTo next reach ss
@@ -22,52 +21,77 @@ strips_more reach ss s strips high strip = record {
   above = All-push (λ t. (s.top -ℤ pos 1) <ℤ t.top) ss s (strips_lower s.top reach ss strips (s.top -ℤ pos 1) (omega (arith, ints))).above (omega (arith, ints));
 }
 
--- nothing was written yet
-pub written_none : (f rest : ℤ → ℤ → ℤ) (From : ℤ → Type 0) (reach : ℤ) → ((x y : ℤ) → From y → pos 0 ≡ f x y) → ((x y : ℤ) → rest x y ≡ f x y)
-    → AreWritten f rest From greatest_coordinate reach []
-unfolding weight_in_strips row_in weight_in
-written_none f rest From reach above below = record {
-  out = record { strips = tt; above = All-nil (λ s. greatest_coordinate <ℤ s.top) };
-  high = omega (arith, ints);
-  above = above;
-  below = λ x y _. below x y;
-}
+-- below all strips, the row is that of the last one, which is lawful
+module _ (low reach : ℤ) (ss : List EdgeStrip) (strips : AreStripsDownTo low reach ss) where
+  pub weight_below : (x y : ℤ) → y ≤ℤ low → weight_in_strips ss x y ≡ weight_in (last_row ss) x
+  unfolding weight_in_strips
+  weight_below x y below =
+      ap (λ es. weight_in es x) (row_in-lowest ss y (All-weaker (λ s. low <ℤ s.top) (λ s. y <ℤ s.top) (λ s lt. omega (arith, ints)) ss strips.above))
 
--- a strip is written, whose rows go down to those that are still to come
-pub written_push : (f rest rest' : ℤ → ℤ → ℤ) (From From' : ℤ → Type 0) (low reach top : ℤ) (es : List Edge) (out : List EdgeStrip)
-    → AreWritten f rest From low reach out → top ≤ℤ low → IsStrip reach (record { top = top; edges = es })
-    → ((y : ℤ) → top ≤ℤ y → From y)
-    → ((x y : ℤ) → y <ℤ top → rest' x y ≡ rest x y)
-    → ((x y : ℤ) → y <ℤ top → From' y → weight_in es x ≡ rest' x y)
-    → AreWritten f rest' From' (top -ℤ pos 1) reach (out ++ record { top = top; edges = es } ∷ [])
-unfolding weight_in_strips
-written_push f rest rest' From From' low reach top es out written le strip from same rows =
-    let s : EdgeStrip = record { top = top; edges = es } in
-    let high : top ≤ℤ greatest_coordinate = omega (arith, ints, le, written.high) in
-    let lower = strips_lower low reach out written.out top le in
-    record {
-      out = strips_more reach out s lower high strip;
-      high = omega (arith, ints);
-      above = λ x y fr. by_lt_z y top
-          (λ lt. ap (λ es. weight_in es x) (row_in-pushed [] out s y lower.above lt) ∙ rows x y lt fr ∙ same x y lt ∙ written.below x y (omega (arith, ints)))
-          (λ ge. ap (λ es. weight_in es x) (row_in-kept [] out s y ge) ∙ written.above x y (from y ge));
-      below = λ x y lt. same x y (omega (arith, ints)) ∙ written.below x y (omega (arith, ints));
-    }
+  pub last_lawful : AreEdges (last_row ss)
+  last_lawful = rw (← row_in-lowest ss low strips.above) (row_lawful greatest_coordinate reach [] ss low no_edges strips.strips)
 
--- with a greater reach
-pub written_wider : (f rest : ℤ → ℤ → ℤ) (From : ℤ → Type 0) (low reach next : ℤ) (out : List EdgeStrip) → reach ≤ℤ next → next ≤ℤ greatest_weight
-    → AreWritten f rest From low reach out → AreWritten f rest From low next out
-written_wider f rest From low reach next out le most written = record {
-  out = record { strips = wider_strips greatest_coordinate reach next out le most written.out.strips; above = written.out.above };
-  high = written.high;
-  above = written.above;
-  below = written.below;
-}
+-- ---- strips go on
 
--- nothing is still to come
-pub written_all : (f rest : ℤ → ℤ → ℤ) (From : ℤ → Type 0) (low reach : ℤ) (out : List EdgeStrip) → AreWritten f rest From low reach out
-    → ((y : ℤ) → From y) → HaveStripWeights f out
-written_all f rest From low reach out written from = record { weights = λ x y. written.above x y (from y) }
+-- strips have the weights of a row below height `top`, and above it those that they had
+pub record GoOn (top reach : ℤ) (es : List Edge) (old new : List EdgeStrip) : Type 0 where
+  pub strips : AreStripsDownTo (top -ℤ pos 1) reach new
+  pub below : (x y : ℤ) → y <ℤ top → weight_in_strips new x y ≡ weight_in es x
+  pub above : (x y : ℤ) → top ≤ℤ y → weight_in_strips new x y ≡ weight_in_strips old x y
+
+module _ (low top reach : ℤ) (es : List Edge) (old : List EdgeStrip) (strips : AreStripsDownTo low reach old) (le : top ≤ℤ low) where
+  -- a strip with these edges is appended
+  pub go_on_with : top ≤ℤ greatest_coordinate → IsStrip reach (record { top = top; edges = es }) → GoOn top reach es old (old ++ record { top = top; edges = es } ∷ [])
+  unfolding weight_in_strips
+  go_on_with high strip =
+      let s : EdgeStrip = record { top = top; edges = es } in
+      let lower = strips_lower low reach old strips top le in
+      record {
+        strips = strips_more reach old s lower high strip;
+        below = λ x y lt. ap (λ es. weight_in es x) (row_in-pushed [] old s y lower.above lt);
+        above = λ x y ge. ap (λ es. weight_in es x) (row_in-kept [] old s y ge);
+      }
+
+  -- or the last strip has them
+  pub go_on : es ≡ last_row old → GoOn top reach es old old
+  go_on same = record {
+    strips = strips_lower low reach old strips (top -ℤ pos 1) (omega (arith, ints));
+    below = λ x y lt. weight_below low reach old strips x y (omega (arith, ints)) ∙ ap (λ es. weight_in es x) (sym same);
+    above = λ x y ge. refl;
+  }
+
+-- ---- strips are passed
+
+-- the strips of a list that begin above height `low` were passed, and the others are left
+pub record ArePassed (low reach : ℤ) (ss passed left : List EdgeStrip) : Type 0 where
+  pub all : ss ≡ passed ++ left
+  pub high : low ≤ℤ greatest_coordinate
+  pub above : AreStripsDownTo low reach passed
+  pub below : AreStripsFrom low reach left
+
+pub strips_none : (reach : ℤ) → AreStripsDownTo greatest_coordinate reach []
+strips_none reach = record { strips = tt; above = All-nil (λ s. greatest_coordinate <ℤ s.top) }
+
+pub none_passed : (reach : ℤ) (ss : List EdgeStrip) → AreStrips reach ss → ArePassed greatest_coordinate reach ss [] ss
+none_passed reach ss strips = record { all = refl; high = omega (arith, ints); above = strips_none reach; below = strips.strips }
+
+module _ {low reach : ℤ} {ss passed left : List EdgeStrip} {s : EdgeStrip} (so_far : ArePassed low reach ss passed (s ∷ left)) where
+  high : s.top ≤ℤ greatest_coordinate
+  high = omega (arith, ints, so_far.below.1, so_far.high)
+
+  pub passes : GoOn s.top reach s.edges passed (passed ++ s ∷ [])
+  passes = go_on_with low s.top reach s.edges passed so_far.above so_far.below.1 high so_far.below.0
+
+  pub one_passed : ArePassed (s.top -ℤ pos 1) reach ss (passed ++ s ∷ []) left
+  one_passed = record {
+    all = so_far.all ∙ sym (append_assoc passed (s ∷ []) left);
+    high = omega (arith, ints, high);
+    above = passes.strips;
+    below = so_far.below.2;
+  }
+
+pub all_passed : {low reach : ℤ} {ss passed left : List EdgeStrip} → ArePassed low reach ss passed left → left ≡ [] → passed ≡ ss
+all_passed {passed = passed} so_far none = sym (so_far.all ∙ ap (λ left. passed ++ left) none ∙ append-nil passed)
 
 -- strips without weights below the field
 pub strips_closed : (reach : ℤ) (f : ℤ → ℤ → ℤ) (low : ℤ) (out : List EdgeStrip) → AreStripsDownTo low reach out → HaveStripWeights f out

@@ -3,7 +3,7 @@ use Rattle.std.specs.Prelude.{◌≡◌, ◌≤◌, ◌<◌, ◌*◌, ◌⊎◌,
 use Rattle.mf_geom.specs.Coordinates.{least_coordinate, greatest_coordinate, IsCoordinate}
 use Rattle.mf_geom.specs.Field.{IsInField}
 use Rattle.mf_geom.specs.Lawful.{most_points}
-use Rattle.mf_edges.specs.LawfulWeights.{IsInReach, IsLawfulWeight}
+use Rattle.mf_edges.specs.LawfulWeights.{greatest_weight, IsInReach, IsLawfulWeight}
 use Rattle.mf_edges.specs.declared.edge.Edge.{Edge}
 use Rattle.mf_edges.specs.Edges.{AreEdgesFrom, weight_in}
 use Rattle.mf_edges.specs.Merging.{AreEdgesBefore}
@@ -89,6 +89,11 @@ pub record IsSplitHeight (top : ℤ) (ks : List Corner) (changes : List Edge) (o
   pub weights : (x y : ℤ) → y <ℤ top → added_by_all ks x y ≡ weight_in changes x +ℤ added_by_all others x y
   pub sorted : AreSortedFrom least_coordinate (top -ℤ pos 1) others
   pub fewer : length others < length ks
+
+-- no weight of a row may exceed this number
+pub record IsReach (reach : ℤ) : Type 0 where
+  pub least : pos 0 ≤ℤ reach
+  pub most : reach ≤ℤ greatest_weight
 
 -- strips go on with such rows below height `top`: with a strip more, or with the last one where its rows are such
 abbrev pub ContinueWith : ℤ → List Edge → List EdgeStrip → List EdgeStrip → Type 0

@@ -4,6 +4,8 @@ use mf_edges::Edge;
 
 mod passing;
 
+pub(crate) use passing::pass_height;
+
 /// The strips of a list that are still to be passed, and the row above them.
 #[derive(Clone, Copy, Debug)]
 pub(crate) struct Side<'a> {

@@ -1,6 +1,7 @@
 //! Passing strips from the top down.
-ghost use Rattle.std.specs.Prelude.{◌≡◌, ◌<◌, ◌≤◌, [], ℤ, pos, ◌-ℤ◌, ◌<ℤ◌, Some, length};
-ghost use Rattle.mf_strips.specs.Parts.{first_top, side_row, strips_of, IsSide};
+ghost use Rattle.std.specs.Prelude.{◌≡◌, [], IfNone, IfSome};
+ghost use Rattle.mf_strips.specs.Parts.{strips_of, HasPassed, HavePassed};
+ghost use Rattle.mf_strips.specs.Sums.{IsFrom};
 
 use super::Side;
 use crate::strips::Strips;
@@ -14,19 +15,10 @@ impl<'a> Side<'a> {
         Side { row: &[], strips }
     }
 
-    /// The height of the next strip.
-    pub(crate) fn top(&self) -> Option<i32>
-        ensures { result ≡ first_top (strips_of self.now.strips) }
-    {
-        self.strips.top()
-    }
-
-    /// Passes the strip that begins at this height, where there is one.
-    pub(crate) fn pass(&mut self, top: i32)
-        ensures rows { (y : ℤ) → y <ℤ top → side_row self.new y ≡ side_row self.old y }
-        ensures passed { first_top (strips_of self.old.strips) ≡ Some top → length (strips_of self.new.strips) < length (strips_of self.old.strips) }
-        ensures kept { length (strips_of self.new.strips) ≤ length (strips_of self.old.strips) }
-        ensures side { (reach : ℤ) → IsSide top reach self.old → IsSide (top -ℤ pos 1) reach self.new }
+    /// Passes the strip that begins at this height, where there is one. Requires that none begins above it.
+    fn pass(&mut self, top: i32)
+        requires { IsFrom (strips_of self.old.strips) top }
+        ensures { HasPassed top self.old self.new }
     {
         let Some((strip, strips)) = self.strips.split_first() else {
             return;
@@ -36,4 +28,15 @@ impl<'a> Side<'a> {
             self.strips = strips;
         }
     }
+}
+
+/// Passes the strips of two lists that begin at the next height, and answers that; `None` where no strip is left.
+pub(crate) fn pass_height(left: &mut Side<'_>, right: &mut Side<'_>) -> Option<i32>
+    ensures some { IfSome result (λ top. HavePassed top left.old left.new right.old right.new) }
+    ensures none { IfNone result ((strips_of left.old.strips ≡ []) × (strips_of right.old.strips ≡ [])) }
+{
+    let top = left.strips.top().max(right.strips.top())?;
+    left.pass(top);
+    right.pass(top);
+    Some(top)
 }

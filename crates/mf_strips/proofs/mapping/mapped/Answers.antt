@@ -1,4 +1,4 @@
-use Rattle.std.proofs.Common.{◌≡◌, ◌≤ℤ◌, to_z, of_z, w32, arith}
+use Rattle.std.proofs.Common.{◌≡◌, to_z, of_z, w32, arith}
 use Rattle.std.proofs.lemmas.Int.{ints}
 use Rattle.mf_strips.specs.Parts.{edge_strip}
 use Rattle.mf_strips.proofs.MappedStrips.{mapped_none, mapped_next, mapped_all}
@@ -8,12 +8,6 @@ pub loop-strip-init : goal.loop-strip-init
 loop-strip-init c =
     let same : to_z w32 (of_z w32 c.reach_of_map-reach.result) ≡ c.reach_of_map-reach.result = omega (arith, ints) in
     rw (c.in_ok-new.ensures, c.strips-rest.ensures, same) (mapped_none _ _ _ _ c.args.part.now.lawful c.requires c.reach_of_map-reach.ensures)
-
-pub push_mapped-requires-clause-top : goal.push_mapped-requires-clause-top
-push_mapped-requires-clause-top c =
-    let so_far = rw c.in-Some.ensures.some at c.loop-strip.invariant in
-    let low : (edge_strip c.in-Some.strip).top ≤ℤ so_far.low = so_far.strips.1 in
-    omega (arith, ints, low, so_far.high)
 
 pub loop-strip-preserved : goal.loop-strip-preserved
 loop-strip-preserved c =
