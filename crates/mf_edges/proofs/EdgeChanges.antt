@@ -33,11 +33,7 @@ move_row source f x = f (source x)
 
 row_moved : (source : ℤ → ℤ) (reach : ℤ) (es new : List Edge) → AreEdges es → StaysInReach reach es → AreEdgesFrom least_coordinate new
     → ((x : ℤ) → weight_in new x ≡ weight_in es (source x)) → weight_in new greatest_coordinate ≡ pos 0 → RowBecomes (move_row source) reach es new
-row_moved source reach es new edges reached sorted weights closed = record {
-  edges = record { sorted = sorted; lawful = λ x. subst IsLawfulWeight (sym (weights x)) (edges.lawful (source x)); closed = closed };
-  reached = record { most = reached.most; within = λ x. subst (IsInReach reach) (sym (weights x)) (reached.within (source x)) };
-  weights = record { weights = weights };
-}
+row_moved source reach es new edges reached sorted weights closed = grind (arith, ints, subst, sym)
 
 -- what the images of edges add at column x, with what the edges add at column a, is what the edges add at column b
 weight_in-images : (g : Edge → Edge) (x a b : ℤ) (es : List Edge) → All (λ e. weight_in (g e ∷ []) x +ℤ weight_in (e ∷ []) a ≡ weight_in (e ∷ []) b) es

@@ -24,13 +24,7 @@ pub record IsMappedSoFar (m : WeightMap) (es left new : List Edge) (weight image
 
 pub mapped_none : (m : WeightMap) (es : List Edge) → AreEdges es → IsWeightMap m → IsMappedSoFar m es es [] (pos 0) (pos 0)
 unfolding weight_in
-mapped_none m es row map = record {
-  passed = none_passed es row.sorted;
-  sorted = tt;
-  before = All-nil (λ e. e.x <ℤ least_coordinate);
-  weights = λ x. sym map.zero ∙ ap (mapped_weight m) (omega (arith, ints));
-  image_is = sym map.zero;
-}
+mapped_none m es row map = grind (arith, ints, All-nil, none_passed, sym, ap)
 
 -- what the code computes at an edge: 32 bits hold all of it
 pub record IsNext (m : WeightMap) (weight change image next : ℤ) : Type 0 where
@@ -83,11 +77,4 @@ pub mapped_all : (m : WeightMap) (es new : List Edge) (weight image : ℤ) → A
 unfolding mapped_in weight_in
 mapped_all m es new weight image row map so_far =
     let weights : (x : ℤ) → weight_in new x ≡ mapped_weight m (weight_in es x) = λ x. so_far.weights x ∙ ap (mapped_weight m) (omega (arith, ints)) in
-    record {
-      edges = record {
-        sorted = so_far.sorted;
-        lawful = λ x. subst IsLawfulWeight (sym (weights x)) (map.lawful _ (row.lawful x));
-        closed = weights greatest_coordinate ∙ ap (mapped_weight m) row.closed ∙ map.zero;
-      };
-      weights = record { weights = weights };
-    }
+    grind (arith, ints, sym)

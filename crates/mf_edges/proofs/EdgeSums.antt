@@ -89,14 +89,7 @@ pub record IsSumSoFar (f : ℤ → ℤ) (low : ℤ) (new es fs : List Edge) : Ty
 
 pub sum_none : (es fs : List Edge) → AreEdges es → AreChanges fs → IsSumSoFar (weight_in_both es fs) least_coordinate [] es fs
 unfolding weight_in
-sum_none es fs left right = record {
-  reach = omega (arith, ints);
-  sorted = tt;
-  below = All-nil (λ e. e.x <ℤ least_coordinate);
-  left = changes_left es (changes_of_edges es left);
-  right = changes_left fs right;
-  weights = λ x. omega (arith, ints);
-}
+sum_none es fs left right = grind (arith, ints, All-nil, changes_left, changes_of_edges)
 
 pub cond-sum : (test : Bool) (v w : ℤ) → cond test (v +ℤ w) (pos 0) ≡ cond test v (pos 0) +ℤ cond test w (pos 0)
 cond-sum true v w = refl

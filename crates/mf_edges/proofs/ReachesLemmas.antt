@@ -76,7 +76,7 @@ reach_is reach es stays = omega (arith, ints, stays.within (pos 0), stays.most)
 
 -- the least reach of a row is one
 pub reach_of_row : (reach : ℤ) (es : List Edge) → AreEdges es → IsLeastReach reach es → StaysInReach reach es
-reach_of_row reach es edges least = record { most = omega (arith, ints, edges.lawful least.x, least.here); within = least.within }
+reach_of_row reach es edges least = grind (arith, ints)
 
 -- ---- the sum of two rows
 

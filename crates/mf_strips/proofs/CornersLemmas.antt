@@ -60,15 +60,9 @@ joined_here es d k w edges same sum =
 pub joined_after : (es : List Edge) (d : Edge) (k : Corner) → AreEdgesBefore d.x es → d.x <ℤ k.x → IsCoordinate k.x
     → IsJoined es d k (es ++ unless_zero d) (record { x = k.x; weight = k.weight })
 unfolding weight_in
-joined_after es d k edges after column = record {
-  edges = record {
-    sorted = sorted_push es d edges;
-    before = All-weaker (λ e. e.x <ℤ (d.x +ℤ pos 1)) (λ e. e.x <ℤ k.x) (λ e lt. omega (arith, ints)) (es ++ unless_zero d) (before_push es d edges);
-    column = column;
-  };
-  column = refl;
-  weights = λ x. omega (arith, ints, weight_in-push es d x);
-}
+joined_after es d k edges after column =
+    let before = All-weaker (λ e. e.x <ℤ (d.x +ℤ pos 1)) (λ e. e.x <ℤ k.x) (λ e lt. omega (arith, ints)) (es ++ unless_zero d) (before_push es d edges) in
+    grind (arith, ints, sorted_push, weight_in-push)
 
 -- the corners at height `top` have been passed, except for those that are left
 pub record IsHeightSoFar (top : ℤ) (ks : List Corner) (changes : List Edge) (last : Edge) (left : List Corner) : Type 0 where
@@ -81,13 +75,7 @@ pub record IsHeightSoFar (top : ℤ) (ks : List Corner) (changes : List Edge) (l
 pub height_none : (top : ℤ) (ks : List Corner) → BeginAtHeight top ks → AreSortedFrom least_coordinate top ks
     → IsHeightSoFar top ks [] (record { x = least_coordinate; weight = pos 0 }) ks
 unfolding weight_in
-height_none top ks first sorted = record {
-  edges = record { sorted = tt; before = All-nil (λ e. e.x <ℤ least_coordinate); column = record { least = omega (arith, ints); greatest = omega (arith, ints) } };
-  sorted = sorted;
-  weights = λ x y below. grind (arith, ints);
-  few = omega arith;
-  fewer = λ none. absurd (none first);
-}
+height_none top ks first sorted = grind (arith, ints, All-nil)
 
 pub height_more : (top : ℤ) (k : Corner) (ks others : List Corner) (changes new : List Edge) (last next : Edge)
     → IsHeightSoFar top ks changes last (k ∷ others) → k.y ≡ top → IsJoined changes last k new next → IsHeightSoFar top ks new next others
@@ -108,12 +96,7 @@ sorted_lower low top (k ∷ ks) sorted lower =
 
 pub height_all : (top : ℤ) (ks left : List Corner) (changes : List Edge) (last : Edge) → IsHeightSoFar top ks changes last left
     → (BeginAtHeight top left → ⊥) → IsSplitHeight top ks (changes ++ unless_zero last) left
-height_all top ks left changes last so_far lower = record {
-  edges = sorted_push changes last so_far.edges;
-  weights = λ x y below. so_far.weights x y below ∙ ap (λ w. w +ℤ added_by_all left x y) (sym (weight_in-push changes last x));
-  sorted = sorted_lower last.x top left so_far.sorted lower;
-  fewer = so_far.fewer lower;
-}
+height_all top ks left changes last so_far lower = grind (arith, ints, sorted_push, sorted_lower, weight_in-push, sym)
 
 -- ---- strips go on with a row
 
@@ -306,11 +289,11 @@ part_within k x y corner = grind (arith, ints)
 
 added_within : (ks : List Corner) (x y : ℤ) → All IsCorner ks → IsInReach (pos (3 * length ks)) (added_by_all ks x y)
 unfolding added_by_all
-added_within [] x y corners = record { least = omega (arith, ints); greatest = omega (arith, ints) }
+added_within [] x y corners = grind (arith, ints)
 added_within (k ∷ ks) x y corners =
     let first = part_within k x y (All-head IsCorner k ks corners) in
     let rest = added_within ks x y (All-tail IsCorner k ks corners) in
-    record { least = omega (arith, ints, first, rest); greatest = omega (arith, ints, first, rest) }
+    grind (arith, ints)
 
 pub corners_are_swept : (ks : List Corner) → AreCorners ks → AreSweptCorners ks
 corners_are_swept ks corners = record {
