@@ -10,7 +10,6 @@ use Rattle.mf_edges.specs.declared.edge.Edge.{Edge}
 use Rattle.mf_edges.specs.declared.stretch.Stretch.{Stretch}
 use Rattle.mf_edges.specs.Edges.{weight_in, IsEdge, AreEdgesFrom, AreEdges}
 use Rattle.mf_edges.specs.Axes.{opposite, target_of, source_of, IsStretch}
-use Rattle.mf_edges.specs.LawfulWeights.{IsInReach, IsLawfulWeight}
 use Rattle.mf_edges.specs.Reaches.{StaysInReach}
 use Rattle.mf_edges.specs.Sums.{HaveWeights}
 use Rattle.mf_edges.proofs.EdgesAt.{edges_from-at}
