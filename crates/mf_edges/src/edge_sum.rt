@@ -50,7 +50,7 @@ pub fn push_sum_of_edges(
 /// Appends edges to a list of edges. Refused with `OutOfMemory` where an allocation fails; the list is then unchanged. Where two
 /// rows have many edges there is mostly one between two changes, or none, and a push costs less than a copy of a slice.
 #[inline(always)]
-pub fn push_edges(edges: &mut Vec<Edge>, others: &[Edge]) -> Result<(), OutOfMemory>
+fn push_edges(edges: &mut Vec<Edge>, others: &[Edge]) -> Result<(), OutOfMemory>
     ensures pushed { OnOk result (edges.new.items ≡ edges.old.items ++ others.now) }
     ensures unchanged { OnErr result (edges.new.items ≡ edges.old.items) }
 {

@@ -9,7 +9,7 @@ mod stretch;
 mod weight_map;
 
 pub use edge::{Edge, push_unless_zero, reach_of, total_of_edges, weight_at_column};
-pub use edge_sum::{push_edges, push_sum_of_edges};
+pub use edge_sum::push_sum_of_edges;
 pub use field::{FIELD_END, FIELD_START, MAX_WEIGHT, is_lawful_weight};
 pub use stretch::Stretch;
 pub use weight_map::{WeightMap, push_mapped_edges};
