@@ -17,6 +17,3 @@ loop-strip-preserved c =
 
 pub finish-requires : goal.finish-requires
 finish-requires c = (mapped_all _ _ _ _ _ _ c.loop-strip.invariant c.in_default.ensures.none c.requires).0
-
-pub returns : goal.returns
-returns c = rw c.finish.ensures.strips (mapped_all _ _ _ _ _ _ c.loop-strip.invariant c.in_default.ensures.none c.requires).1

@@ -46,7 +46,3 @@ loop-top-preserved c =
 
 pub finish-requires : goal.finish-requires
 finish-requires c = (sum_all c.loop-top.invariant c.in_default.ensures.none).1
-
-pub returns-clause-weights : goal.returns-clause-weights
-returns-clause-weights c =
-    rw c.finish.ensures.strips (sum_all c.loop-top.invariant c.in_default.ensures.none).0
