@@ -21,14 +21,6 @@ wider_reach wider within = record { least = omega (arith, ints, within); greates
 by_greater : (P : ℤ → Type 0) (a b : ℤ) → (b ≤ℤ a → P a) → (a ≤ℤ b → P b) → P (ord_max int_cmp a b)
 by_greater P a b first second = grind (arith, ints, by_ranked, int_ranked, sym)
 
-pub record IsGreater (a b greater bound : ℤ) : Type 0 where
-  pub left : a ≤ℤ greater
-  pub right : b ≤ℤ greater
-  pub most : greater ≤ℤ bound
-
-pub ord_max_is : (a b most : ℤ) → a ≤ℤ most → b ≤ℤ most → IsGreater a b (ord_max int_cmp a b) most
-ord_max_is a b most below_a below_b = grind (arith, ints, by_greater)
-
 -- ---- the least reach of edges, edge by edge
 
 -- no weight that the edges that were passed give exceeds a reach in absolute value, and a weight of all edges has it

@@ -1,6 +1,6 @@
 -- Corners from the top down, and the strips that they make.
 use Rattle.std.proofs.Common.{◌≡◌, suc, ◌+◌, ◌*◌, ◌<◌, ◌≤◌, inl, inr, ℤ, pos, ◌+ℤ◌, ◌-ℤ◌, ◌≤ℤ◌, ◌<ℤ◌}
-use Rattle.std.proofs.Common.{int_le, Bool, false, List, [], ◌∷◌, ◌++◌, length, refl, sym, ap, ◌∙◌, arith, if◌then◌else◌}
+use Rattle.std.proofs.Common.{int_le, Bool, false, List, [], ◌∷◌, ◌++◌, length, refl, sym, ◌∙◌, arith, if◌then◌else◌}
 use Rattle.std.specs.Int.{int_max}
 use Rattle.std.proofs.lemmas.Int.{ints, clamps, by_lt_z}
 use Rattle.std.specs.List.{All, sum_by}
@@ -20,7 +20,7 @@ use Rattle.mf_edges.specs.Reaches.{IsLeastReach, StaysInReach}
 use Rattle.mf_edges.specs.Sums.{weight_in_both, IsEdgeSum, HasEdgeSum}
 use Rattle.mf_edges.proofs.EdgeSums.{cond-sum, sorted_push, before_push, weight_in-push}
 use Rattle.mf_edges.proofs.ReachesLemmas.{reach_of_row, wider_reach}
-use Rattle.mf_strips.specs.Strips.{EdgeStrip, row_in, last_row, weight_in_strips, AreAbove, AreStrips, AreStripsDownTo}
+use Rattle.mf_strips.specs.Strips.{EdgeStrip, row_in, last_row, weight_in_strips, AreStrips, AreStripsDownTo}
 use Rattle.mf_strips.proofs.StripsLemmas.{no_edges, no_weight, none_reached, wider_strips}
 use Rattle.mf_strips.proofs.Written.{GoOn, go_on, go_on_with, last_lawful, strips_closed, weight_below}
 use Rattle.mf_strips.specs.declared.corner.Corner.{Corner}

@@ -1,10 +1,9 @@
 -- Strips whose weights are mapped, one after another.
-use Rattle.std.proofs.Common.{◌≡◌, ℤ, ◌≤ℤ◌, inl, inr, List, [], ◌∷◌, sym, ap, subst, ◌∙◌, arith}
+use Rattle.std.proofs.Common.{◌≡◌, ℤ, ◌≤ℤ◌, inl, inr, List, [], ◌∷◌, sym, ap, ◌∙◌, arith}
 use Rattle.std.proofs.lemmas.Int.{ints, by_lt_z}
 use Rattle.mf_geom.specs.Coordinates.{greatest_coordinate}
 use Rattle.mf_edges.specs.declared.weight_map.WeightMap.{WeightMap}
 use Rattle.mf_edges.specs.Edges.{weight_in}
-use Rattle.mf_edges.specs.LawfulWeights.{IsInReach, IsLawfulWeight}
 use Rattle.mf_edges.specs.WeightMaps.{mapped_in, mapped_weight, IsWeightMap}
 use Rattle.mf_strips.specs.Changes.{mapped_weights, HasMappedStrip, IsReachOfMap}
 use Rattle.mf_strips.specs.Strips.{EdgeStrip, AreStrips, AreStripsDownTo, HaveStripWeights, IsStrip, row_in, weight_in_strips}
@@ -37,14 +36,7 @@ unfolding mapped_in
 mapped_next m before reach whole left out s mapped new has =
     let weights = has.mapped.weights.weights in
     let le : s.top ≤ℤ mapped.low = mapped.so_far.below.1 in
-    let strip : IsStrip reach (record { top = s.top; edges = has.edges }) = record {
-      bottom = mapped.so_far.below.0.bottom;
-      edges = has.mapped.edges;
-      reached = record {
-        most = mapped.after.most;
-        within = λ x. subst (IsInReach reach) (sym (weights x)) (mapped.after.within (weight_in s.edges x) (subst IsLawfulWeight (weights x) (has.mapped.edges.lawful x)));
-      };
-    } in
+    let strip : IsStrip reach (record { top = s.top; edges = has.edges }) = grind (arith, ints) in
     let goes : GoOn s.top reach has.edges out new = elim has.strips as (λ _. GoOn s.top reach has.edges out new) [
       | inl more ↦ rw more (go_on_with mapped.low s.top reach has.edges out mapped.written le (omega (arith, ints, le, mapped.so_far.high)) strip)
       | inr same ↦ rw same.1 (go_on mapped.low s.top reach has.edges out mapped.written le same.0)
@@ -56,18 +48,14 @@ mapped_next m before reach whole left out s mapped new has =
       passed = _;
       so_far = one_passed mapped.so_far;
       written = goes.strips;
-      weights = record {
-        weights = λ x y. by_lt_z y s.top
-            (λ lt. goes.below x y lt ∙ weights x ∙ ap (mapped_weight m) (sym (passed.below x y lt)))
-            (λ ge. goes.above x y ge ∙ mapped.weights.weights x y ∙ ap (mapped_weight m) (sym (passed.above x y ge)));
-      };
+      weights = record { weights = λ x y. grind (arith, ints, by_lt_z) };
     }
 
 -- when no strip is left, all are mapped
 pub mapped_all : (m : WeightMap) (before reach : ℤ) (whole left out : List EdgeStrip) → IsMappedSoFar m before reach whole left out → left ≡ []
-    → AreStrips before whole → IsWeightMap m → AreStrips reach out × HaveStripWeights (mapped_weights m (weight_in_strips whole)) out
+    → IsWeightMap m → AreStrips reach out × HaveStripWeights (mapped_weights m (weight_in_strips whole)) out
 unfolding weight_in_strips weight_in
-mapped_all m before reach whole left out mapped end strips lawful =
+mapped_all m before reach whole left out mapped end lawful =
     let weights = rw (all_passed mapped.so_far end) at mapped.weights in
-    let blank = λ (x : ℤ). ap (λ es. mapped_weight m (weight_in es x)) strips.closed ∙ lawful.zero in
+    let blank = λ (x : ℤ). ap (λ es. mapped_weight m (weight_in es x)) mapped.so_far.whole.closed ∙ lawful.zero in
     (strips_closed reach _ mapped.low out mapped.written weights blank mapped.after.least mapped.after.most, weights)

@@ -5,7 +5,7 @@ use Rattle.mf_geom.specs.Coordinates.{least_coordinate, greatest_coordinate, las
 use Rattle.mf_geom.specs.Field.{IsInField}
 use Rattle.mf_edges.specs.declared.edge.Edge.{Edge}
 use Rattle.mf_edges.specs.Edges.{AreEdges, weight_in}
-use Rattle.mf_edges.specs.LawfulWeights.{greatest_weight, IsLawfulWeight}
+use Rattle.mf_edges.specs.LawfulWeights.{IsLawfulWeight}
 use Rattle.mf_edges.proofs.EdgesLemmas.{weight_in-outside}
 use Rattle.mf_strips.specs.declared.part.Part.{Part}
 use Rattle.mf_strips.specs.EqualRows.{AreLawfulStrips}
@@ -14,12 +14,7 @@ use Rattle.mf_strips.specs.Strips.{EdgeStrip, AreStrips, AreStripsFrom, row_in, 
 use Rattle.mf_strips.proofs.StripsLemmas.{no_edges, no_weight, row_in-below, row_in-from, row_lawful, starts_from, wider_strips}
 
 lawful_strips : (reach : ℤ) (ss : List EdgeStrip) → AreStrips reach ss → AreLawfulStrips ss
-lawful_strips reach ss strips = record {
-  strips = wider_strips greatest_coordinate reach greatest_weight ss strips.most (omega (arith, ints)) strips.strips;
-  closed = strips.closed;
-  least = omega (arith, ints);
-  most = omega (arith, ints);
-}
+lawful_strips reach ss strips = grind (arith, ints, wider_strips)
 
 pub part_lawful : (p : Part) (ss : List EdgeStrip) → ss ≡ strips_in p → AreLawfulStrips ss
 part_lawful p ss is = subst AreLawfulStrips (sym is) (lawful_strips p.reach (strips_in p) p.lawful)

@@ -4,7 +4,6 @@ use Rattle.std.specs.Int.RustNames.{int_lt}
 use Rattle.std.proofs.lemmas.Bool.{cond_both, cond-true, cond-false}
 use Rattle.std.proofs.lemmas.Int.{ints, by_lt_z}
 use Rattle.std.proofs.lemmas.List.Elements.{All-head, All-tail}
-use Rattle.mf_geom.specs.Coordinates.{greatest_coordinate}
 use Rattle.mf_edges.specs.declared.edge.Edge.{Edge}
 use Rattle.mf_edges.specs.Edges.{weight_in, AreEdges, AreEdgesFrom}
 use Rattle.mf_edges.specs.LawfulWeights.{greatest_weight}
@@ -65,15 +64,10 @@ pub strips_push : (top reach : ℤ) (ss : List EdgeStrip) (s : EdgeStrip) → Ar
     → AreStripsFrom top reach (ss ++ s ∷ [])
 strips_push top reach [] s strips lower le strip = (strip, le, tt)
 strips_push top reach (t ∷ ts) s strips lower le strip =
-    let higher : s.top <ℤ t.top = All-head (λ t. s.top <ℤ t.top) t ts lower in
-    (strips.0, strips.1, strips_push (t.top -ℤ pos 1) reach ts s strips.2 (All-tail (λ t. s.top <ℤ t.top) t ts lower) (omega (arith, ints)) strip)
+    grind (arith, ints, All-head, strips_push (t.top -ℤ pos 1) reach ts s strips.2 (All-tail (λ t. s.top <ℤ t.top) t ts lower))
 
 pub wider_strip : (reach next : ℤ) (s : EdgeStrip) → reach ≤ℤ next → next ≤ℤ greatest_weight → IsStrip reach s → IsStrip next s
-wider_strip reach next s le most strip = record {
-  bottom = strip.bottom;
-  edges = strip.edges;
-  reached = record { most = most; within = λ x. wider_reach le (strip.reached.within x) };
-}
+wider_strip reach next s le most strip = grind (arith, ints, wider_reach)
 
 pub wider_strips : (top reach next : ℤ) (ss : List EdgeStrip) → reach ≤ℤ next → next ≤ℤ greatest_weight → AreStripsFrom top reach ss → AreStripsFrom top next ss
 wider_strips top reach next [] le most strips = tt
@@ -102,11 +96,7 @@ unfolding weight_in
 no_weight x = refl
 
 pub no_edges : AreEdges []
-no_edges = record {
-  sorted = tt;
-  lawful = λ x. rw (no_weight x) (record { least = omega (arith, ints); greatest = omega (arith, ints) });
-  closed = no_weight greatest_coordinate;
-}
+no_edges = grind (arith, ints, no_weight)
 
 pub none_reached : (reach : ℤ) → pos 0 ≤ℤ reach → reach ≤ℤ greatest_weight → StaysInReach reach []
 none_reached reach least most = record { most = most; within = λ x. rw (no_weight x) (record { least = omega (arith, ints); greatest = omega (arith, ints) }) }

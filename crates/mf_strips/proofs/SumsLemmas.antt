@@ -1,5 +1,5 @@
 -- The sum of two lists of strips, which is made from the top down.
-use Rattle.std.proofs.Common.{◌≡◌, inl, inr, ℤ, to_z, of_z, w32, pos, ◌+ℤ◌, ◌-ℤ◌, ◌≤ℤ◌, List, [], ◌∷◌, ◌++◌, length, ap, sym, subst, ◌∙◌, arith}
+use Rattle.std.proofs.Common.{◌≡◌, inl, inr, ℤ, to_z, of_z, w32, pos, ◌+ℤ◌, ◌-ℤ◌, ◌≤ℤ◌, List, [], ◌∷◌, ◌++◌, refl, ap, sym, subst, ◌∙◌, arith}
 use Rattle.std.proofs.lemmas.Int.{ints, by_lt_z}
 use Rattle.mf_geom.specs.Coordinates.{least_coordinate, greatest_coordinate}
 use Rattle.mf_edges.specs.declared.edge.Edge.{Edge}
@@ -13,8 +13,8 @@ use Rattle.mf_edges.proofs.ReachesLemmas.{row_in_reach, sum_is_changes}
 use Rattle.mf_strips.specs.declared.side.Side.{Side}
 use Rattle.mf_strips.specs.Corners.{IsReach}
 use Rattle.mf_strips.specs.Parts.{strips_of, HasPassed, HavePassed}
-use Rattle.mf_strips.specs.Strips.{EdgeStrip, last_row, row_in, weight_in_strips, AreStrips, AreStripsDownTo, AreStripsFrom, HaveStripWeights, IsUnlawfulSomewhere}
-use Rattle.mf_strips.specs.Sums.{sum_in_strips, HasSumStrip, IsFrom, IsWithin}
+use Rattle.mf_strips.specs.Strips.{EdgeStrip, last_row, row_in, weight_in_strips, AreStrips, AreStripsDownTo, HaveStripWeights, IsUnlawfulSomewhere}
+use Rattle.mf_strips.specs.Sums.{sum_in_strips, HasSumStrip, IsWithin}
 use Rattle.mf_strips.proofs.HeadsLemmas.{last_row-push}
 use Rattle.mf_strips.proofs.PartsLemmas.{by_field, strips_outside}
 use Rattle.mf_strips.proofs.StripMaps.{rows_lawful}
@@ -32,28 +32,19 @@ pub record IsSide (low reach : ℤ) (ss : List EdgeStrip) (s : Side) : Type 0 wh
 -- which is the row below that height
 module _ {low reach : ℤ} {ss : List EdgeStrip} {s : Side} (side : IsSide low reach ss s) where
   side_row : row_in [] ss low ≡ s.row.now
-  side_row =
-      let left = strips_of s.strips in
-      ap (λ ss. row_in [] ss low) side.so_far.all
-      ∙ row_in-front [] side.passed left low (starts_from low reach left low side.so_far.below (omega (arith, ints)))
-      ∙ row_in-lowest side.passed low side.so_far.above.above
-      ∙ sym side.row
+  side_row = grind (arith, ints, row_in-front, starts_from, row_in-lowest)
 
   pub side_weight : (x : ℤ) → weight_in_strips ss x low ≡ weight_in s.row.now x
   unfolding weight_in_strips
   side_weight x = ap (λ es. weight_in es x) side_row
 
-  pub side_lawful : AreStrips reach ss → AreEdges s.row.now × StaysInReach reach s.row.now
-  side_lawful strips = subst (λ es. AreEdges es × StaysInReach reach es) side_row (rows_lawful reach ss strips low)
+  pub side_lawful : AreEdges s.row.now × StaysInReach reach s.row.now
+  side_lawful = subst (λ es. AreEdges es × StaysInReach reach es) side_row (rows_lawful reach ss side.so_far.whole low)
 
 -- the strip at a height was passed, where there is one
 record SidePasses (top reach : ℤ) (ss before : List EdgeStrip) (s : Side) : Type 0 where
   side : IsSide (top -ℤ pos 1) reach ss s
   goes : GoOn top reach s.row.now before side.passed
-
-strips_below : (low reach y : ℤ) (ss : List EdgeStrip) → AreStripsFrom low reach ss → IsFrom ss y → AreStripsFrom y reach ss
-strips_below low reach y [] strips from = tt
-strips_below low reach y (s ∷ ss) strips from = (strips.0, from, strips.2)
 
 side_next : {low reach : ℤ} {ss : List EdgeStrip} {s : Side} (side : IsSide low reach ss s) (top : ℤ) (t : Side) → top ≤ℤ low → HasPassed top s t
     → SidePasses top reach ss side.passed t
@@ -64,20 +55,14 @@ side_next side top t le (inl is) =
 side_next {low = low} {reach = reach} {s = s} side top t le (inr (same, from)) =
     let so_far = side.so_far in
     let goes = go_on low top reach s.row.now side.passed so_far.above le side.row in
-    let high : (top -ℤ pos 1) ≤ℤ greatest_coordinate = omega (arith, ints, le, so_far.high) in
     rw same (record {
       side = record {
         passed = side.passed;
-        so_far = record { all = so_far.all; high = high; above = goes.strips; below = strips_below low reach (top -ℤ pos 1) (strips_of s.strips) so_far.below from };
+        so_far = grind (arith, ints);
         row = side.row;
       };
       goes = goes;
     })
-
--- a height at which a strip is passed
-some_top : (low reach top : ℤ) (ss ts : List EdgeStrip) (es : List Edge) → AreStripsFrom low reach ss → ss ≡ record { top = top; edges = es } ∷ ts
-    → (top ≤ℤ low) × (least_coordinate ≤ℤ top)
-some_top low reach top ss ts es strips is = let first = rw is at strips in (first.1, first.0.bottom)
 
 -- ---- the sum so far
 
@@ -102,27 +87,22 @@ sum_none ss ts l r left right none_l none_r is_l is_r on_l on_r = record {
   reached = record { least = omega (arith, ints); most = omega (arith, ints) };
 }
 
-pub sum_all : (ss ts : List EdgeStrip) (l r reach : ℤ) (left right : Side) (out : List EdgeStrip) → IsSumSoFar ss ts l r reach left right out
-    → AreStrips l ss → AreStrips r ts → (strips_of left.strips ≡ []) × (strips_of right.strips ≡ [])
-    → HaveStripWeights (sum_in_strips ss ts) out × AreStrips reach out
+pub sum_all : {ss ts : List EdgeStrip} {l r reach : ℤ} {left right : Side} {out : List EdgeStrip} → IsSumSoFar ss ts l r reach left right out
+    → (strips_of left.strips ≡ []) × (strips_of right.strips ≡ []) → HaveStripWeights (sum_in_strips ss ts) out × AreStrips reach out
 unfolding sum_in_strips weight_in_strips
-sum_all ss ts l r reach left right out so_far on_l on_r over =
-    let weights = rw (all_passed so_far.on_left.so_far over.0, all_passed so_far.on_right.so_far over.1) at so_far.weights in
-    let blank : (x : ℤ) → sum_in_strips ss ts x (least_coordinate -ℤ pos 1) ≡ pos 0 = λ x. rw (on_l.closed, on_r.closed, no_weight x) (omega (arith, ints)) in
-    (weights, strips_closed reach (sum_in_strips ss ts) so_far.low out so_far.written weights blank so_far.reached.least so_far.reached.most)
+sum_all so_far over =
+    let weights = rw (all_passed so_far.on_left.so_far over.0, all_passed so_far.on_right.so_far over.1) at so_far.weights in (
+      weights,
+      strips_closed _ _ so_far.low _ so_far.written weights (λ x. rw (so_far.on_left.so_far.whole.closed, so_far.on_right.so_far.whole.closed, no_weight x) refl)
+          so_far.reached.least so_far.reached.most,
+    )
 
 -- ---- the strips at the next height were passed
 
 module _ {ss ts : List EdgeStrip} {l r reach top : ℤ} {left left' right right' : Side} {out : List EdgeStrip} (so_far : IsSumSoFar ss ts l r reach left right out)
-    (on_l : AreStrips l ss) (on_r : AreStrips r ts) (passed : HavePassed top left left' right right') where
+    (passed : HavePassed top left left' right right') where
   pub bounds : (top ≤ℤ so_far.low) × (least_coordinate ≤ℤ top)
-  bounds = elim passed.left [
-    | inl is ↦ some_top so_far.low l top _ _ _ so_far.on_left.so_far.below is
-    | inr same ↦ elim passed.right [
-      | inl is ↦ some_top so_far.low r top _ _ _ so_far.on_right.so_far.below is
-      | inr both ↦ absurd (omega (arith, passed.fewer, ap (λ (s : Side). length (strips_of s.strips)) same.0, ap (λ (s : Side). length (strips_of s.strips)) both.0))
-    ]
-  ]
+  bounds = grind (arith, ints)
 
   pub high : top ≤ℤ greatest_coordinate
   high = omega (arith, ints, bounds.0, so_far.on_left.so_far.high)
@@ -134,10 +114,10 @@ module _ {ss ts : List EdgeStrip} {l r reach top : ℤ} {left left' right right'
   on_right = side_next so_far.on_right top right' bounds.0 passed.right
 
   pub left_lawful : AreEdges left'.row.now × StaysInReach l left'.row.now
-  left_lawful = side_lawful on_left.side on_l
+  left_lawful = side_lawful on_left.side
 
   pub right_lawful : AreEdges right'.row.now × StaysInReach r right'.row.now
-  right_lawful = side_lawful on_right.side on_r
+  right_lawful = side_lawful on_right.side
 
   module _ (after : List EdgeStrip) (pushed : HasSumStrip out top left'.row.now right'.row.now after) where
     pub row_changes : AreChanges (last_row after)
@@ -147,9 +127,10 @@ module _ {ss ts : List EdgeStrip} {l r reach top : ℤ} {left left' right right'
     unfolding weight_in_both
     row_within = record {
       within = λ x.
-          let a = left_lawful.1.within x in
-          let b = right_lawful.1.within x in
-          record { least = omega (arith, ints, pushed.sum.weights.weights x); greatest = omega (arith, ints, pushed.sum.weights.weights x) };
+          let sum = pushed.sum.weights.weights x in
+          let left = left_lawful.1.within x in
+          let right = right_lawful.1.within x in
+          record { least = omega (arith, ints); greatest = omega (arith, ints) };
     }
 
     -- where a weight is unlawful, so is that of the strips, in the row below the height
@@ -165,8 +146,8 @@ module _ {ss ts : List EdgeStrip} {l r reach top : ℤ} {left left' right right'
           x = x;
           y = y;
           in_field = by_field x y (λ inside. inside) (λ outside.
-              let a = strips_outside l ss x y on_l outside in
-              let b = strips_outside r ts x y on_r outside in
+              let a = strips_outside l ss x y so_far.on_left.so_far.whole outside in
+              let b = strips_outside r ts x y so_far.on_right.so_far.whole outside in
               absurd (unlawful (record { least = omega (arith, ints); greatest = omega (arith, ints) })));
           unlawful = unlawful;
         }

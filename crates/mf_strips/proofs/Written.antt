@@ -64,6 +64,7 @@ module _ (low top reach : ℤ) (es : List Edge) (old : List EdgeStrip) (strips :
 
 -- the strips of a list that begin above height `low` were passed, and the others are left
 pub record ArePassed (low reach : ℤ) (ss passed left : List EdgeStrip) : Type 0 where
+  pub whole : AreStrips reach ss
   pub all : ss ≡ passed ++ left
   pub high : low ≤ℤ greatest_coordinate
   pub above : AreStripsDownTo low reach passed
@@ -73,7 +74,7 @@ pub strips_none : (reach : ℤ) → AreStripsDownTo greatest_coordinate reach []
 strips_none reach = record { strips = tt; above = All-nil (λ s. greatest_coordinate <ℤ s.top) }
 
 pub none_passed : (reach : ℤ) (ss : List EdgeStrip) → AreStrips reach ss → ArePassed greatest_coordinate reach ss [] ss
-none_passed reach ss strips = record { all = refl; high = omega (arith, ints); above = strips_none reach; below = strips.strips }
+none_passed reach ss strips = record { whole = strips; all = refl; high = omega (arith, ints); above = strips_none reach; below = strips.strips }
 
 module _ {low reach : ℤ} {ss passed left : List EdgeStrip} {s : EdgeStrip} (so_far : ArePassed low reach ss passed (s ∷ left)) where
   high : s.top ≤ℤ greatest_coordinate
@@ -83,12 +84,7 @@ module _ {low reach : ℤ} {ss passed left : List EdgeStrip} {s : EdgeStrip} (so
   passes = go_on_with low s.top reach s.edges passed so_far.above so_far.below.1 high so_far.below.0
 
   pub one_passed : ArePassed (s.top -ℤ pos 1) reach ss (passed ++ s ∷ []) left
-  one_passed = record {
-    all = so_far.all ∙ sym (append_assoc passed (s ∷ []) left);
-    high = omega (arith, ints, high);
-    above = passes.strips;
-    below = so_far.below.2;
-  }
+  one_passed = let goes = passes.strips in grind (arith, ints, append_assoc)
 
 pub all_passed : {low reach : ℤ} {ss passed left : List EdgeStrip} → ArePassed low reach ss passed left → left ≡ [] → passed ≡ ss
 all_passed {passed = passed} so_far none = sym (so_far.all ∙ ap (λ left. passed ++ left) none ∙ append-nil passed)

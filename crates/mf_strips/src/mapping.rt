@@ -13,6 +13,7 @@ use std::alloc::Global;
 
 /// The part after each weight is mapped. Refused with `OutOfMemory` where an allocation fails. Requires a map under which 0 stays 0 and
 /// weights in -32767..=32767 become such weights.
+#[tactic(auto, using(crate::proofs::MappedStrips::mapped_all))]
 pub fn mapped(alloc: Global, part: &Part, map: &WeightMap) -> Result<Part, OutOfMemory>
     requires { IsWeightMap map.now }
     ensures { IfOk result (λ new. HaveStripWeights (mapped_weights map.now (weight_in_part part.now)) (strips_in new)) }

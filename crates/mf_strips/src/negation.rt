@@ -10,6 +10,7 @@ use mf_edges::Edge;
 use std::alloc::Global;
 
 /// The part with negated weights. Refused with `OutOfMemory` where an allocation fails.
+#[tactic(auto, using(crate::proofs::Negations::lists_negated))]
 pub fn negated(alloc: Global, part: &Part) -> Result<Part, OutOfMemory>
     ensures weights { IfOk result (λ new. HaveStripWeights (negated_weight_in (strips_in part.now)) (strips_in new)) }
     ensures reach { IfOk result (λ new. new.reach ≡ part.now.reach) }

@@ -19,6 +19,7 @@ use std::alloc::Global;
 /// The part in which each pixel has the sum of its weights in both. Where their reaches together are within the limit, the reach of the sum
 /// is at most that; otherwise it is the least one. Refused with `WeightTooLarge` where a weight would exceed 32767 in absolute value,
 /// and with `OutOfMemory` where an allocation fails.
+#[tactic(auto, using(crate::proofs::SumsLemmas::sum_all))]
 pub fn sum_of_parts(alloc: Global, left: &Part, right: &Part) -> Result<Part, AddFault>
     ensures weights { IfOk result (λ part. HaveStripWeights (sum_in_strips (strips_in left.now) (strips_in right.now)) (strips_in part)) }
     ensures too_large { IfErr result (λ fault. fault ≢ AddFault.OutOfMemory

@@ -118,6 +118,7 @@ impl PartWriter {
     }
 
     /// The edges of the last strip, none where there is no strip.
+    #[tactic(auto, using(crate::proofs::HeadsLemmas::last_row_is))]
     pub(crate) fn last_row(&self) -> &[Edge]
         ensures { result.now ≡ last_row self.now }
     {

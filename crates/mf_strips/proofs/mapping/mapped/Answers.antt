@@ -16,7 +16,4 @@ loop-strip-preserved c =
     mapped_next _ _ _ _ _ _ (edge_strip c.in-Some.strip) so_far _ (rw top at c.in_ok-push_mapped.ensures)
 
 pub finish-requires : goal.finish-requires
-finish-requires c = (mapped_all _ _ _ _ _ _ c.loop-strip.invariant c.in_default.ensures.none c.args.part.now.lawful c.requires).0
-
-pub returns : goal.returns
-returns c = rw c.finish.ensures.strips (mapped_all _ _ _ _ _ _ c.loop-strip.invariant c.in_default.ensures.none c.args.part.now.lawful c.requires).1
+finish-requires c = (mapped_all _ _ _ _ _ _ c.loop-strip.invariant c.in_default.ensures.none c.requires).0
