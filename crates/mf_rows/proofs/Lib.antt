@@ -9,6 +9,7 @@ pub mod LeastBoxes
 pub mod MaximalRuns
 pub mod PassedPixels
 pub mod PassedRuns
+pub mod PassedTotals
 pub mod PicturePiles
 pub mod PlacesLemmas
 pub mod RemainingLemmas

@@ -15,13 +15,17 @@ use Rattle.mf_rows.specs.Reading.{IsReading, AreBlankBelow}
 use Rattle.mf_rows.specs.Remaining.{remaining_runs, dots_from, HasPassed, IsAtStart}
 use Rattle.mf_rows.specs.Runs.{runs_of}
 use Rattle.mf_rows.specs.Weights.{picture_of}
-use Rattle.mf_rows.proofs.PicturePiles.{parts_outside}
+use Rattle.mf_rows.proofs.PicturePiles.{parts_outside, pile_lawful}
 use Rattle.mf_rows.proofs.RemainingLemmas.{dots_from-blank, dots_from-run, dots_from-start}
 
 -- there are no weights outside the field
 pub outside : (r : RowEdges) (x y : ℤ) → (IsInField x y → ⊥) → weights_of r x y ≡ pos 0
 unfolding weights_of
 outside r x y out = parts_outside r.pile.now.parts.items x y out
+
+pub lawful_weight : (r : RowEdges) (x y : ℤ) → IsLawfulWeight (weights_of r x y)
+unfolding weights_of
+lawful_weight r x y = pile_lawful r.pile.now x y
 
 pub left_of_field : (r : RowEdges) (x y : ℤ) → x <ℤ least_coordinate → weights_of r x y ≡ pos 0
 left_of_field r x y lt = outside r x y (λ inside. omega (arith, ints, inside.left))

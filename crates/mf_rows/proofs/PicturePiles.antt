@@ -46,7 +46,7 @@ parts_outside (p ∷ ps) x y outside = omega (arith, ints, strips_outside (arc_v
 
 -- ---- the picture of a pile
 
-pile_lawful : (p : Pile) (x y : ℤ) → IsLawfulWeight (weight_in_pile p x y)
+pub pile_lawful : (p : Pile) (x y : ℤ) → IsLawfulWeight (weight_in_pile p x y)
 pile_lawful p x y = wider_reach p.lawful.most (p.lawful.within x y)
 
 pub lawful_pile : (p : Pile) → IsPicture (picture_of (weight_in_pile p))

@@ -8,6 +8,7 @@ pub mod Order
 pub mod Remaining
 pub mod Runs
 pub mod Sums
+pub mod Totals
 pub mod WeightMaps
 pub mod Weights
 pub use Rattle.mf_geom.specs.Coordinates

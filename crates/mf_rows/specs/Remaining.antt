@@ -30,3 +30,9 @@ pub record IsAtStart (f : ℤ → ℤ → ℤ) (w : Walk) : Type 0 where
   pub weights : weights_of w.edges ≡ f
   pub column : w.x <ℤ least_coordinate
   pub row : w.y ≡ last_in_field
+
+-- pixels of the same row were passed
+pub record HasPassedRow (s t : Walk) : Type 0 where
+  pub weights : weights_of t.edges ≡ weights_of s.edges
+  pub row : t.y ≡ s.y
+  pub bottom : t.bottom ≡ s.bottom

@@ -92,12 +92,13 @@ impl Picture {
     }
 
     /// The sum of all weights, at most 2,197,882,568,700 in absolute value. METAFONT's `totalweight` is this number, scaled (mf.web:
-    /// `total_weight`). It passes all edges once.
+    /// `total_weight`). It passes equal rows once.
     pub fn total(&self) -> i64
         ensures value { result ≡ total_of self.now }
         ensures lawful { IsPicture self.now }
     {
-        self.pile.total()
+        let mut walk = Walk::of(&self.pile);
+        walk.total()
     }
 
     /// The least box of the pixels of nonzero weight, `None` where the picture is blank. It passes equal rows once.

@@ -28,7 +28,10 @@ pub struct Walk<'a> {
 
 impl<'a> Walk<'a> {
     ghost use Rattle.mf_rows.specs.Bounds.{AreBounds, AreBoundsWithin, IsPassed, among};
-    ghost use Rattle.mf_rows.specs.Remaining.{remaining_runs, HasPassed, IsAtStart};
+    ghost use Rattle.mf_rows.specs.Remaining.{remaining_runs, HasPassed, HasPassedRow, IsAtStart};
+    ghost use Rattle.mf_rows.specs.Dots.{total_of};
+    ghost use Rattle.mf_rows.specs.Totals.{row_total};
+    ghost use Rattle.mf_rows.specs.Weights.{picture_of};
     ghost use Rattle.mf_strips.specs.PileWeights.{weight_in_pile};
 
     /// The walk over the picture of a pile.
@@ -58,6 +61,37 @@ impl<'a> Walk<'a> {
             bounds = self.widen(bounds, pixels);
         }
         bounds
+    }
+
+    /// The sum of all weights. Requires a walk that is at its start. Equal rows are passed once.
+    pub(crate) fn total(&mut self) -> i64
+        requires { IsAtStart (weights_of self.old.edges) self.old }
+        ensures { result ≡ total_of (picture_of (weights_of self.old.edges)) }
+    {
+        let mut total = 0i64;
+        loop {
+            let height = self.y + 1 - self.bottom;
+            total += i64::from(self.row_total()) * i64::from(height);
+            if self.bottom == FIELD_START {
+                return total;
+            }
+            self.enter_row(self.bottom - 1);
+        }
+    }
+
+    /// The sum of the weights of the row. Requires that none of its pixels was passed yet.
+    fn row_total(&mut self) -> i32
+        requires { self.old.x <ℤ least_coordinate }
+        ensures total { result ≡ row_total (weights_of self.old.edges) self.old.y greatest_coordinate }
+        ensures passed { HasPassedRow self.old self.new }
+    {
+        let mut total = 0;
+        while self.x < FIELD_END {
+            let (x, weight) = (self.x, self.weight);
+            self.pass_equal();
+            total += weight * (self.x - x);
+        }
+        total
     }
 
     /// The least box round a box and these pixels of the rest of the row, and of the rows that are equal to it.

@@ -1,0 +1,17 @@
+-- Sums of the weights of a row, and of rows.
+use Rattle.std.specs.Prelude.{ℤ, pos, ◌+ℤ◌, ◌-ℤ◌}
+use Rattle.std.specs.Int.RustNames.{unsigned_abs}
+use Rattle.mf_geom.specs.Coordinates.{least_coordinate, greatest_coordinate}
+use Rattle.mf_geom.specs.Sum.{sum_below}
+
+-- the sum of the numbers f z, where z goes from `low` up to the one before `high`
+unfoldable pub sum_from : ℤ → ℤ → (ℤ → ℤ) → ℤ
+sum_from low high f = sum_below (unsigned_abs (high -ℤ low)) (λ i. f (low +ℤ pos i))
+
+-- the sum of the weights of row y to the left of column x, with the column to the left of the field
+unfoldable pub row_total : (ℤ → ℤ → ℤ) → ℤ → ℤ → ℤ
+row_total f y x = sum_from (least_coordinate -ℤ pos 1) x (λ z. f z y)
+
+-- the sum of the weights of the rows of the field below height h
+unfoldable pub rows_total : (ℤ → ℤ → ℤ) → ℤ → ℤ
+rows_total f h = sum_from least_coordinate h (λ y. row_total f y greatest_coordinate)
