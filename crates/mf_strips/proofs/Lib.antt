@@ -2,9 +2,7 @@ pub mod Finding
 pub mod HeadsLemmas
 pub mod PartsLemmas
 pub mod PileReads
-pub mod PileTotals
 pub mod RestsLemmas
-pub mod StripTotals
 pub mod StripsLemmas
 pub mod PilesLemmas
 pub mod CornersLemmas

@@ -15,7 +15,6 @@ mod row_edges;
 mod side;
 mod strips;
 mod sum;
-mod total;
 mod turn;
 mod writer;
 

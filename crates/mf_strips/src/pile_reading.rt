@@ -1,6 +1,5 @@
 //! What is read off a pile of parts, whose weights are added up.
 ghost use Rattle.std.specs.Prelude.{◌≡◌, ◌≤◌, length};
-ghost use Rattle.mf_geom.specs.Field.{sum_over_field};
 ghost use Rattle.mf_strips.specs.Piles.{most_parts};
 ghost use Rattle.mf_strips.specs.Parts.{weight_in_parts};
 
@@ -17,16 +16,4 @@ pub(crate) fn weight_in_pile(parts: &[Arc<Part>], x: i32, y: i32) -> i32
         weight += part.weight(x, y);
     }
     weight
-}
-
-/// The sum of the weights of all pixels of a pile of parts.
-pub(crate) fn total_of_pile(parts: &[Arc<Part>]) -> i64
-    requires { length parts.now ≤ most_parts }
-    ensures { result ≡ sum_over_field (weight_in_parts parts.now) }
-{
-    let mut total = 0i64;
-    for part in parts {
-        total += part.total();
-    }
-    total
 }

@@ -1,10 +1,9 @@
 //! What is read off a pile.
 ghost use Rattle.std.specs.Prelude.{◌≡◌, ◌↔◌, [], IsTrue};
-ghost use Rattle.mf_geom.specs.Field.{sum_over_field};
 ghost use Rattle.mf_strips.specs.PileWeights.{weight_in_pile};
 
 use super::Pile;
-use crate::pile_reading::{total_of_pile, weight_in_pile};
+use crate::pile_reading::weight_in_pile;
 
 impl Pile {
     /// Whether it has no parts. Weights of parts may cancel, so a pile with parts may be blank, too.
@@ -19,12 +18,5 @@ impl Pile {
         ensures { result ≡ weight_in_pile self.now x y }
     {
         weight_in_pile(&self.parts, x, y)
-    }
-
-    /// The sum of the weights of all pixels.
-    pub fn total(&self) -> i64
-        ensures { result ≡ sum_over_field (weight_in_pile self.now) }
-    {
-        total_of_pile(&self.parts)
     }
 }
