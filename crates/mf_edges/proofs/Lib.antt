@@ -1,4 +1,3 @@
-pub mod ColumnTotals
 pub mod EdgeChanges
 pub mod EdgeMaps
 pub mod EdgesAt

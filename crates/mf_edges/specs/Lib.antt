@@ -4,5 +4,4 @@ pub mod LawfulWeights
 pub mod Merging
 pub mod Reaches
 pub mod Sums
-pub mod Totals
 pub mod WeightMaps

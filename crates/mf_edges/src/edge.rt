@@ -4,9 +4,7 @@ ghost use Rattle.std.specs.Vec.{vec_len, vec_capacity};
 ghost use Rattle.mf_edges.specs.Edges.{AreEdges, weight_in};
 ghost use Rattle.mf_edges.specs.Merging.{unless_zero, AreChanges};
 ghost use Rattle.mf_edges.specs.Reaches.{IsLeastReach};
-ghost use Rattle.mf_edges.specs.Totals.{edges_total};
 
-use crate::field::FIELD_END;
 use mf_base::OutOfMemory;
 
 /// An edge of a row: the weights of the row's pixels at and to the right of its column are greater by its weight
@@ -34,19 +32,6 @@ pub fn weight_at_column(edges: &[Edge], x: i32) -> i32
         weight += edge.weight;
     }
     weight
-}
-
-/// The sum of the weights of all pixels of a row with these edges: each edge adds its weight to the columns from its own to the last.
-/// Requires the edges of a row, as `weight_at_column` does.
-pub fn total_of_edges(edges: &[Edge]) -> i64
-    requires { AreEdges edges.now }
-    ensures { result ≡ edges_total edges.now }
-{
-    let mut total = 0i64;
-    for edge in edges {
-        total += i64::from(edge.weight) * i64::from(FIELD_END - edge.x);
-    }
-    total
 }
 
 /// The least reach of edges: the greatest absolute value of the weights between them, 0 where there are no edges. Requires edges as

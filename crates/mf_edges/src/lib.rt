@@ -4,11 +4,10 @@
 mod edge;
 mod edge_sum;
 mod field;
-pub mod laws;
 mod stretch;
 mod weight_map;
 
-pub use edge::{Edge, push_unless_zero, reach_of, total_of_edges, weight_at_column};
+pub use edge::{Edge, push_unless_zero, reach_of, weight_at_column};
 pub use edge_sum::push_sum_of_edges;
 pub use field::{FIELD_END, FIELD_START, MAX_WEIGHT, is_lawful_weight};
 pub use stretch::Stretch;
