@@ -1,5 +1,5 @@
 -- What a walk over pixels has left after it passed some of them.
-use Rattle.std.proofs.Common.{◌≡◌, ◌≢◌, ℤ, pos, ◌+ℤ◌, ◌-ℤ◌, ◌≤ℤ◌, ◌<ℤ◌, ◌∷◌, FitsSigned, to_z, of_z, w32, sym, ap, ◌∙◌, arith}
+use Rattle.std.proofs.Common.{◌≡◌, ◌≢◌, ℤ, pos, ◌+ℤ◌, ◌-ℤ◌, ◌≤ℤ◌, ◌<ℤ◌, ◌∷◌, FitsSigned, to_z, of_z, w32, refl, sym, ap, ◌∙◌, arith}
 use Rattle.std.specs.Int.RustNames.{unsigned_abs}
 use Rattle.std.proofs.lemmas.Int.{ints, by_lt_z}
 use Rattle.mf_geom.specs.Coordinates.{least_coordinate, greatest_coordinate, last_in_field}
@@ -12,7 +12,7 @@ use Rattle.mf_strips.specs.Rests.{IsNextEdge}
 use Rattle.mf_strips.specs.RowEdges.{AreSameRows, weights_of}
 use Rattle.mf_rows.specs.declared.walk.Walk.{Walk}
 use Rattle.mf_rows.specs.Reading.{IsReading, AreBlankBelow}
-use Rattle.mf_rows.specs.Remaining.{remaining_runs, dots_from, HasPassed, IsAtStart}
+use Rattle.mf_rows.specs.Remaining.{remaining_runs, dots_from, HasPassed, HasPassedRow, IsAtStart}
 use Rattle.mf_rows.specs.Runs.{runs_of}
 use Rattle.mf_rows.specs.Weights.{picture_of}
 use Rattle.mf_rows.proofs.PicturePiles.{parts_outside, pile_lawful}
@@ -113,6 +113,14 @@ entered f g y bottom top lawful all blank rows = record {
   after = λ z _. omega (arith, ints, all z);
   rows = rows;
 }
+
+-- ---- a row
+
+pub no_pixels : (r : Walk) → HasPassedRow r r
+no_pixels r = record { weights = refl; row = refl; bottom = refl }
+
+pub more_pixels : (r s t : Walk) → HasPassedRow r s → HasPassed s t → HasPassedRow r t
+more_pixels r s t row passed = record { weights = passed.weights ∙ row.weights; row = passed.row ∙ row.row; bottom = passed.bottom ∙ row.bottom }
 
 -- ---- what is left
 

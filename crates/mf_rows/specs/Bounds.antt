@@ -1,6 +1,7 @@
 -- The least box of a picture.
-use Rattle.std.specs.Prelude.{◌≡◌, ◌≤ℤ◌, ◌<ℤ◌, ℤ, pos, Bool, true, false, not, int_lt, All, Any, List, Option, None, Some}
+use Rattle.std.specs.Prelude.{◌≡◌, ◌≤ℤ◌, ◌<ℤ◌, ℤ, pos, Bool, true, false, not, int_lt, All, Any, List, Option, None, Some, if◌then◌else◌}
 use Rattle.std.specs.Ordering.{int_eq}
+use Rattle.mf_geom.specs.Coordinates.{greatest_coordinate}
 use Rattle.mf_rows.specs.declared.bounds.Box4.{Box4}
 use Rattle.mf_rows.specs.declared.bounds.Pixels.{Pixels}
 use Rattle.mf_rows.specs.declared.bounds.Pixels.TheVariants.{Nonzero, Black}
@@ -34,28 +35,20 @@ pub record IsBoxRound (f : ℤ → ℤ → Bool) (b : Box4) : Type 0 where
   pub bottom : (x : ℤ) × (f x b.min_y ≡ true)
   pub top : (x : ℤ) × (f x b.max_y ≡ true)
 
--- the least box round those pixels at which f is true of which P says so, with pixels at its sides of which it need not
-pub record IsBoxWithin (P : ℤ → ℤ → Type 0) (f : ℤ → ℤ → Bool) (b : Box4) : Type 0 where
-  pub within : (x y : ℤ) → P x y → f x y ≡ true → IsIn b x y
-  pub left : (y : ℤ) × (f b.min_x y ≡ true)
-  pub right : (y : ℤ) × (f b.max_x y ≡ true)
-  pub bottom : (x : ℤ) × (f x b.min_y ≡ true)
-  pub top : (x : ℤ) × (f x b.max_y ≡ true)
-
--- such a box, or none where there are no such pixels
-abbrev pub AreBoundsWithin : (ℤ → ℤ → Type 0) → (ℤ → ℤ → Bool) → Option Box4 → Type 0
-AreBoundsWithin P f None = (x y : ℤ) → P x y → f x y ≡ true → ⊥
-AreBoundsWithin P f (Some b) = IsBoxWithin P f b
-
--- a walk that is at column x of row y, which is equal to the rows down to row `bottom`, has passed the pixel (u, v)
-pub record IsPassed (x bottom y u v : ℤ) : Type 0 where
-  pub low : bottom ≤ℤ v
-  pub left : v ≤ℤ y → u <ℤ x
-
 -- the least box round the pixels at which f is true, or none where there are none
 abbrev pub AreBounds : (ℤ → ℤ → Bool) → Option Box4 → Type 0
 AreBounds f None = (x y : ℤ) → f x y ≡ false
 AreBounds f (Some b) = IsBoxRound f b
+
+-- the pixel (x, y) is one at which f is true, and its row is row h or above it
+unfoldable pub from_row : ℤ → (ℤ → ℤ → Bool) → ℤ → ℤ → Bool
+from_row h f x y = if int_lt y h then false else f x y
+
+-- `first` and `last` are the first and the last column to the left of column x at which f is true in row y; there is none where `first` is
+-- not a column of the field
+pub record AreColumns (f : ℤ → ℤ → Bool) (y x first last : ℤ) : Type 0 where
+  pub within : (z : ℤ) → z <ℤ x → f z y ≡ true → (first ≤ℤ z) × (z ≤ℤ last)
+  pub ends : first <ℤ greatest_coordinate → (f first y ≡ true) × (f last y ≡ true)
 
 -- the weight of the pixel (x, y) is positive
 unfoldable pub is_positive_at : List Dot → ℤ → ℤ → Bool

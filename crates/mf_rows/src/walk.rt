@@ -1,5 +1,5 @@
 //! The walk over the pixels of a picture, which meets its runs one after another.
-ghost use Rattle.std.specs.Prelude.{◌≡◌, ◌≢◌, [], ◌∷◌, ℤ, IsTrue, IsFalse, pos, ◌≤ℤ◌, ◌<ℤ◌};
+ghost use Rattle.std.specs.Prelude.{◌≡◌, ◌≢◌, [], ◌∷◌, ℤ, IsTrue, IsFalse, pos, ◌+ℤ◌, ◌≤ℤ◌, ◌<ℤ◌};
 ghost use Rattle.mf_geom.specs.Coordinates.{least_coordinate, greatest_coordinate};
 ghost use Rattle.mf_geom.specs.Field.{IsColumnOrRow};
 ghost use Rattle.mf_rows.specs.Reading.{AreBlankBelow, IsReading, IsReading-prop};
@@ -27,7 +27,7 @@ pub struct Walk<'a> {
 }
 
 impl<'a> Walk<'a> {
-    ghost use Rattle.mf_rows.specs.Bounds.{AreBounds, AreBoundsWithin, IsPassed, among};
+    ghost use Rattle.mf_rows.specs.Bounds.{AreBounds, AreColumns, among, from_row};
     ghost use Rattle.mf_rows.specs.Remaining.{remaining_runs, HasPassed, HasPassedRow, IsAtStart};
     ghost use Rattle.mf_rows.specs.Dots.{total_of};
     ghost use Rattle.mf_rows.specs.Totals.{row_total};
@@ -55,12 +55,53 @@ impl<'a> Walk<'a> {
         requires { IsAtStart (weights_of self.old.edges) self.old }
         ensures { AreBounds (among pixels (weights_of self.old.edges)) result }
     {
-        let mut bounds = self.widen(None, pixels);
-        while self.bottom > FIELD_START {
-            self.enter_row(self.bottom - 1);
+        let mut bounds = None;
+        loop {
             bounds = self.widen(bounds, pixels);
+            if self.bottom <= FIELD_START {
+                return bounds;
+            }
+            self.enter_row(self.bottom - 1);
         }
-        bounds
+    }
+
+    /// The least box round that of these pixels in the rows above, and those of the row and of the rows that are equal to it.
+    fn widen(&mut self, bounds: Option<Box4>, pixels: Pixels) -> Option<Box4>
+        requires column { self.old.x <ℤ least_coordinate }
+        requires bounds { AreBounds (from_row (self.old.y +ℤ pos 1) (among pixels (weights_of self.old.edges))) bounds }
+        ensures bounds { AreBounds (from_row self.old.bottom (among pixels (weights_of self.old.edges))) result }
+        ensures passed { HasPassedRow self.old self.new }
+    {
+        let (first, last) = self.columns(pixels);
+        if first >= FIELD_END {
+            return bounds;
+        }
+        let own = Box4 {
+            min_x: first,
+            max_x: last,
+            min_y: self.bottom,
+            max_y: self.y,
+        };
+        Some(own.with(bounds))
+    }
+
+    /// The first and the last column of the row that have these pixels; the first is the end of the field where there are none. Requires
+    /// that no pixel of the row was passed yet.
+    fn columns(&mut self, pixels: Pixels) -> (i32, i32)
+        requires { self.old.x <ℤ least_coordinate }
+        ensures columns { AreColumns (among pixels (weights_of self.old.edges)) self.old.y greatest_coordinate result.0 result.1 }
+        ensures passed { HasPassedRow self.old self.new }
+    {
+        let (mut first, mut last) = (FIELD_END, FIELD_END);
+        while self.x < FIELD_END {
+            let (x, weight) = (self.x, self.weight);
+            self.pass_equal();
+            if pixels.has(weight) {
+                first = first.min(x);
+                last = self.x - 1;
+            }
+        }
+        (first, last)
     }
 
     /// The sum of all weights. Requires a walk that is at its start. Equal rows are passed once.
@@ -72,7 +113,7 @@ impl<'a> Walk<'a> {
         loop {
             let height = self.y + 1 - self.bottom;
             total += i64::from(self.row_total()) * i64::from(height);
-            if self.bottom == FIELD_START {
+            if self.bottom <= FIELD_START {
                 return total;
             }
             self.enter_row(self.bottom - 1);
@@ -92,30 +133,6 @@ impl<'a> Walk<'a> {
             total += weight * (self.x - x);
         }
         total
-    }
-
-    /// The least box round a box and these pixels of the rest of the row, and of the rows that are equal to it.
-    fn widen(&mut self, bounds: Option<Box4>, pixels: Pixels) -> Option<Box4>
-        requires { AreBoundsWithin (IsPassed self.old.x self.old.bottom self.old.y) (among pixels (weights_of self.old.edges)) bounds }
-        ensures bounds { AreBoundsWithin (IsPassed greatest_coordinate self.new.bottom self.new.y) (among pixels (weights_of self.old.edges)) result }
-        ensures weights { weights_of self.new.edges ≡ weights_of self.old.edges }
-        ensures row { self.new.y ≡ self.old.y }
-    {
-        let mut bounds = bounds;
-        while self.x < FIELD_END {
-            let (x, weight) = (self.x, self.weight);
-            self.pass_equal();
-            if pixels.has(weight) {
-                let own = Box4 {
-                    min_x: x,
-                    max_x: self.x - 1,
-                    min_y: self.bottom,
-                    max_y: self.y,
-                };
-                bounds = Some(own.with(bounds));
-            }
-        }
-        bounds
     }
 
     /// Moves on to the next run, past pixels of weight 0. Answers whether there is one.

@@ -1,14 +1,15 @@
-use Rattle.std.proofs.Common.{◌≡◌, ◌-ℤ◌}
+use Rattle.std.proofs.Common.{◌≡◌, pos, ◌+ℤ◌, ◌-ℤ◌, ◌<ℤ◌}
 use Rattle.std.specs.Int.RustNames.{unsigned_abs}
-use Rattle.mf_geom.specs.Coordinates.{least_coordinate, greatest_coordinate}
+use Rattle.mf_geom.specs.Coordinates.{least_coordinate}
 use Rattle.mf_strips.specs.RowEdges.{weights_of}
-use Rattle.mf_rows.specs.Bounds.{AreBoundsWithin, IsPassed, among}
+use Rattle.mf_rows.specs.Bounds.{AreBounds, among, from_row}
 use Rattle.mf_rows.proofs.walk.Walk.bounds.Given as goal
 
 abbrev pub invariant-loop-self : goal.invariant-loop-self
 invariant-loop-self l = record {
-  bounds : AreBoundsWithin (IsPassed greatest_coordinate l.self.bottom l.self.y) (among l.pixels (weights_of l.fn.self.edges)) l.bounds;
+  bounds : AreBounds (from_row (l.self.y +ℤ pos 1) (among l.pixels (weights_of l.fn.self.edges))) l.bounds;
   weights : weights_of l.self.edges ≡ weights_of l.fn.self.edges;
+  column : l.self.x <ℤ least_coordinate;
 }
 
 abbrev pub decreases-loop-self : goal.decreases-loop-self

@@ -37,9 +37,9 @@ loop-self-preserved c =
       column = c.enter_row.ensures.column;
     }
 
-pub returns-then-self : goal.returns-then-self
-returns-then-self c =
-    let is = step (goal.at.returns-then-self c).After-from-in-loop-self in
-    let last : c.loop-self.self.bottom ≡ least_coordinate = omega (arith, ints, c.if-self.true, c.row_total.ensures.passed.bottom) in
+pub returns-then-self-le-FIELD_START : goal.returns-then-self-le-FIELD_START
+returns-then-self-le-FIELD_START c =
+    let is = step (goal.at.returns-then-self-le-FIELD_START c).After-from-in-loop-self in
+    let last : c.loop-self.self.bottom ≡ least_coordinate = omega (arith, ints, c.if-self-le-FIELD_START.true, c.row_total.ensures.passed.bottom, c.loop-self.self.reading.rows.low) in
     let all = rw (last, no_rows, c.loop-self.invariant.weights) at is.sum in
     rw (is.product, to_z-of_z is.product_fits, to_z-of_z is.sum_fits, total_of-picture_of) (omega (arith, ints, all))
