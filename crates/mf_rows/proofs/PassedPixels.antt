@@ -9,9 +9,9 @@ use Rattle.mf_edges.specs.LawfulWeights.{IsLawfulWeight}
 use Rattle.mf_edges.specs.Merging.{IsDifference}
 use Rattle.mf_strips.specs.declared.row_edges.RowEdges.{RowEdges}
 use Rattle.mf_strips.specs.Rests.{IsNextEdge}
-use Rattle.mf_strips.specs.RowEdges.{AreSameRows, weights_of}
+use Rattle.mf_strips.specs.RowEdges.{AreSameRows, weight_left, weights_of}
 use Rattle.mf_rows.specs.declared.walk.Walk.{Walk}
-use Rattle.mf_rows.specs.Reading.{IsReading, AreBlankBelow}
+use Rattle.mf_rows.specs.Reading.{IsReading}
 use Rattle.mf_rows.specs.Remaining.{remaining_runs, dots_from, HasPassed, HasPassedRow, IsAtStart}
 use Rattle.mf_rows.specs.Runs.{runs_of}
 use Rattle.mf_rows.specs.Weights.{picture_of}
@@ -32,83 +32,81 @@ left_of_field r x y lt = outside r x y (λ inside. omega (arith, ints, inside.le
 
 -- ---- the next edge
 
-module _ (f : ℤ → ℤ → ℤ) (g : ℤ → ℤ) (x y w bottom : ℤ) (reading : IsReading f g x y w bottom) where
-  -- the weight is one of the row
-  pub weight_here : f x y ≡ w
-  weight_here = omega (arith, ints, reading.after x (omega (arith, ints)), reading.before x (omega (arith, ints)))
-
-  pub differences : (z : ℤ) → IsDifference (g z)
-  differences z =
-      let here = reading.lawful x in
-      let there = reading.lawful z in
-      by_lt_z z x
-      (λ lt. let none = reading.before z (omega (arith, ints)) in record { least = omega (arith, ints); greatest = omega (arith, ints) })
-      (λ le.
-      let is = reading.after z le in
-      record {
-        least = omega (arith, ints, weight_here, here.greatest, there.least);
-        greatest = omega (arith, ints, weight_here, here.least, there.greatest);
-      })
-
-  module _ (h : ℤ → ℤ) (e : Edge) (next : IsNextEdge g h e) where
-    -- its weight is that of all edges at its column
-    own : g e.x ≡ e.weight
-    own = omega (arith, ints, next.right e.x (omega (arith, ints)), next.passed e.x (omega (arith, ints)))
-
-    pub further : x <ℤ greatest_coordinate → x <ℤ e.x
-    further more =
-        by_lt_z x e.x (λ lt. lt)
-        (λ le. absurd (next.nonzero (omega (arith, ints)) (sym own ∙ reading.before e.x le)))
-
-    pub order : x ≤ℤ e.x
-    order = by_lt_z x greatest_coordinate (λ lt. omega (arith, ints, further lt))
-        (λ end. by_lt_z e.x greatest_coordinate (λ lt. absurd (next.nonzero lt (sym own ∙ reading.before e.x (omega (arith, ints))))) (λ le. omega (arith, ints, reading.right)))
-
-    pub passed_same : (z : ℤ) → x ≤ℤ z → z <ℤ e.x → f z y ≡ w
-    passed_same z left right = omega (arith, ints, reading.after z left, next.left z right)
-
-    pub passed_edge : IsReading f h e.x y (w +ℤ e.weight) bottom
-    passed_edge = record {
-      left = omega (arith, ints, reading.left, order);
-      right = next.within;
-      top = reading.top;
-      lawful = reading.lawful;
-      before = next.passed;
-      after = λ z le. omega (arith, ints, reading.after z (omega (arith, ints, order)), next.right z le);
-      rows = reading.rows;
-    }
-
 -- an edge that is passed, as the code adds its weight
-pub record IsStep (x w : ℤ) (e : Edge) : Type 0 where
+pub record IsStep (w : ℤ) (e : Edge) : Type 0 where
   pub before : to_z w32 (of_z w32 w) ≡ w
   pub column : to_z w32 (of_z w32 e.x) ≡ e.x
   pub change : to_z w32 (of_z w32 e.weight) ≡ e.weight
   pub fits : FitsSigned w32 (w +ℤ e.weight)
   pub sum : to_z w32 (of_z w32 (w +ℤ e.weight)) ≡ w +ℤ e.weight
 
-pub step : (f : ℤ → ℤ → ℤ) (g h : ℤ → ℤ) (x y w bottom : ℤ) (e : Edge) → IsReading f g x y w bottom → IsNextEdge g h e → IsStep x w e
-step f g h x y w bottom e reading next =
-    let here = reading.lawful x in
-    let there = reading.lawful e.x in
-    let at = weight_here f g x y w bottom reading in
-    let after = weight_here f h e.x y (w +ℤ e.weight) bottom (passed_edge f g x y w bottom reading h e next) in
-    let le = order f g x y w bottom reading h e next in
-    record {
-      before = omega (arith, ints);
-      column = omega (arith, ints, reading.left, next.within);
-      change = omega (arith, ints);
-      fits = omega (arith, ints);
-      sum = omega (arith, ints);
+module _ (s : Walk) where
+  -- the weight is one of the row
+  pub weight_here : weights_of s.edges s.x s.y ≡ s.weight
+  weight_here = omega (arith, ints, s.reading.after s.x (omega (arith, ints)), s.reading.before s.x (omega (arith, ints)))
+
+  pub differences : (z : ℤ) → IsDifference (weight_left s.edges z)
+  differences z =
+      let here = lawful_weight s.edges s.x s.y in
+      let there = lawful_weight s.edges z s.y in
+      by_lt_z z s.x
+      (λ lt. let none = s.reading.before z (omega (arith, ints)) in record { least = omega (arith, ints); greatest = omega (arith, ints) })
+      (λ le.
+      let is = s.reading.after z le in
+      record {
+        least = omega (arith, ints, weight_here, here.greatest, there.least);
+        greatest = omega (arith, ints, weight_here, here.least, there.greatest);
+      })
+
+  module _ (h : ℤ → ℤ) (e : Edge) (next : IsNextEdge (weight_left s.edges) h e) where
+    -- its weight is that of all edges at its column
+    own : weight_left s.edges e.x ≡ e.weight
+    own = omega (arith, ints, next.right e.x (omega (arith, ints)), next.passed e.x (omega (arith, ints)))
+
+    pub further : s.x <ℤ greatest_coordinate → s.x <ℤ e.x
+    further more =
+        by_lt_z s.x e.x (λ lt. lt)
+        (λ le. absurd (next.nonzero (omega (arith, ints)) (sym own ∙ s.reading.before e.x le)))
+
+    pub order : s.x ≤ℤ e.x
+    order = by_lt_z s.x greatest_coordinate (λ lt. omega (arith, ints, further lt))
+        (λ end. by_lt_z e.x greatest_coordinate (λ lt. absurd (next.nonzero lt (sym own ∙ s.reading.before e.x (omega (arith, ints))))) (λ le. omega (arith, ints, s.reading.right)))
+
+    pub passed_same : (z : ℤ) → s.x ≤ℤ z → z <ℤ e.x → weights_of s.edges z s.y ≡ s.weight
+    passed_same z left right = omega (arith, ints, s.reading.after z left, next.left z right)
+
+    pub passed_edge : IsReading (weights_of s.edges) h e.x s.y (s.weight +ℤ e.weight) s.bottom
+    passed_edge = record {
+      left = omega (arith, ints, s.reading.left, order);
+      right = next.within;
+      top = s.reading.top;
+      before = next.passed;
+      after = λ z le. omega (arith, ints, s.reading.after z (omega (arith, ints, order)), next.right z le);
+      rows = s.reading.rows;
     }
 
+    pub step : IsStep s.weight e
+    step =
+        let here = lawful_weight s.edges s.x s.y in
+        let there = lawful_weight s.edges e.x s.y in
+        let at = weight_here in
+        let after = s.reading.after e.x order in
+        let change = own in
+        record {
+          before = omega (arith, ints);
+          column = omega (arith, ints, s.reading.left, next.within, order);
+          change = omega (arith, ints);
+          fits = omega (arith, ints);
+          sum = omega (arith, ints);
+        }
+
 -- at the left end of a row
-pub entered : (f : ℤ → ℤ → ℤ) (g : ℤ → ℤ) (y bottom : ℤ) → y ≤ℤ last_in_field → ((z : ℤ) → IsLawfulWeight (f z y)) → ((z : ℤ) → g z ≡ f z y)
+pub entered : (f : ℤ → ℤ → ℤ) (g : ℤ → ℤ) (y bottom : ℤ) → y ≤ℤ last_in_field → ((z : ℤ) → g z ≡ f z y)
     → ((z : ℤ) → z <ℤ least_coordinate → f z y ≡ pos 0) → AreSameRows f bottom y → IsReading f g (least_coordinate -ℤ pos 1) y (pos 0) bottom
-entered f g y bottom top lawful all blank rows = record {
+entered f g y bottom top all blank rows = record {
   left = omega (arith, ints);
   right = omega (arith, ints);
   top = top;
-  lawful = lawful;
   before = λ z le. all z ∙ blank z (omega (arith, ints));
   after = λ z _. omega (arith, ints, all z);
   rows = rows;
@@ -145,19 +143,10 @@ blank_passed s t passed blank =
 pub run_passed : (s t : Walk) → HasPassed s t → (s.x <ℤ greatest_coordinate → s.x <ℤ t.x) → (t.x <ℤ greatest_coordinate → t.weight ≢ s.weight) → s.weight ≢ pos 0
     → remaining_runs s ≡ record { y = t.y; x = s.x; len = unsigned_abs (t.x -ℤ s.x); weight = s.weight } ∷ remaining_runs t
 run_passed s t passed further next nonzero =
-    let here = weight_here (weights_of s.edges) _ s.x s.y s.weight s.bottom s.reading in
-    let there = weight_here (weights_of t.edges) _ t.x t.y t.weight t.bottom t.reading in
+    let here = weight_here s in
+    let there = weight_here t in
     let inside : s.x <ℤ greatest_coordinate =
     by_lt_z s.x greatest_coordinate (λ lt. lt) (λ end. absurd (nonzero (sym here ∙ outside s.edges s.x s.y (λ within. omega (arith, ints, within.right))))) in
     rw (passed.weights, passed.row)
     (dots_from-run (weights_of s.edges) s.x t.x s.y s.weight nonzero (further inside) t.reading.right passed.same
     (λ left same. next left (sym (rw (passed.weights, passed.row) at there) ∙ same)))
-
--- a row that is blank as a whole is so down to the lowest one that is equal to it
-pub blank_rows : (f : ℤ → ℤ → ℤ) (g : ℤ → ℤ) (x y w bottom start : ℤ) → IsReading f g x y w bottom → start <ℤ least_coordinate
-    → ((z : ℤ) → start ≤ℤ z → z <ℤ greatest_coordinate → f z y ≡ pos 0) → AreBlankBelow f bottom y
-blank_rows f g x y w bottom start reading left blank = record {
-  low = reading.rows.low;
-  order = reading.rows.order;
-  blank = λ z v low high from below. reading.rows.same z v from (omega (arith, ints)) ∙ blank z (omega (arith, ints)) high;
-}

@@ -115,7 +115,7 @@ pub row_step : (s t : Walk) → HasPassed s t → IsRowStep s t
 row_step s t passed =
     let here = s.reading in
     let lawful = lawful_weight s.edges s.x s.y in
-    let weight = weight_here _ _ s.x s.y s.weight s.bottom here in
+    let weight = weight_here s in
     let w : to_z w32 (of_z w32 s.weight) ≡ s.weight = omega (arith, ints) in
     let start : to_z w32 (of_z w32 s.x) ≡ s.x = omega (arith, ints, here.left, here.right) in
     let end : to_z w32 (of_z w32 t.x) ≡ t.x = omega (arith, ints, t.reading.left, t.reading.right) in

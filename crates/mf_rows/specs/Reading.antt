@@ -2,7 +2,6 @@
 use Rattle.std.specs.Prelude.{◌≡◌, ℤ, pos, ◌+ℤ◌, ◌-ℤ◌, ◌≤ℤ◌, ◌<ℤ◌}
 use Rattle.std.proofs.Props.{props}
 use Rattle.mf_geom.specs.Coordinates.{least_coordinate, greatest_coordinate, last_in_field}
-use Rattle.mf_edges.specs.LawfulWeights.{IsLawfulWeight}
 use Rattle.mf_strips.specs.RowEdges.{AreSameRows}
 
 -- in row y, whose weights are those of f, weight w begins at column x, and the edges to the right of it make the weights g; the rows down to
@@ -11,7 +10,6 @@ pub record IsReading (f : ℤ → ℤ → ℤ) (g : ℤ → ℤ) (x y w bottom :
   pub left : (least_coordinate -ℤ pos 1) ≤ℤ x
   pub right : x ≤ℤ greatest_coordinate
   pub top : y ≤ℤ last_in_field
-  pub lawful : (z : ℤ) → IsLawfulWeight (f z y)
   pub before : (z : ℤ) → z ≤ℤ x → g z ≡ pos 0
   pub after : (z : ℤ) → x ≤ℤ z → f z y ≡ w +ℤ g z
   pub rows : AreSameRows f bottom y

@@ -1,7 +1,6 @@
 //! Entering rows, and passing their edges.
 ghost use Rattle.std.specs.Prelude.{◌≡◌, ℤ, length};
 ghost use Rattle.mf_geom.specs.Field.{IsColumnOrRow};
-ghost use Rattle.mf_edges.specs.LawfulWeights.{IsLawfulWeight};
 ghost use Rattle.mf_edges.specs.Merging.{IsDifference};
 ghost use Rattle.mf_strips.specs.PileWeights.{weight_in_pile};
 ghost use Rattle.mf_strips.specs.Rests.{HasPassedColumn, IsFirstColumn, IsNextEdge, weight_in_all};
@@ -28,7 +27,6 @@ impl<'a> RowEdges<'a> {
     pub fn enter(&mut self, y: i32) -> i32
         requires { IsColumnOrRow y }
         ensures row { (x : ℤ) → weight_left self.new x ≡ weights_of self.old x y }
-        ensures lawful { (x : ℤ) → IsLawfulWeight (weights_of self.old x y) }
         ensures rows { AreSameRows (weights_of self.old) result y }
         ensures same { weights_of self.new ≡ weights_of self.old }
     {

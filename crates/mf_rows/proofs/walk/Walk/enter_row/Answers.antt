@@ -10,6 +10,6 @@ invariant_of-self c =
     let y = to_z-of_z c.ranges.y in
     let entered_at = rw y at enter.ensures in
     record {
-      reading = rw (enter.ensures.same, bottom, y) (entered _ _ _ _ (omega (arith, ints, c.requires.greatest)) entered_at.lawful entered_at.row
+      reading = rw (enter.ensures.same, bottom, y) (entered _ _ _ _ (omega (arith, ints, c.requires.greatest)) entered_at.row
           (λ z lt. left_of_field c.args.self.now.edges z _ lt) entered_at.rows);
     }

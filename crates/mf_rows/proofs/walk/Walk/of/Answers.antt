@@ -8,7 +8,7 @@ invariant_of-result c =
     let enter = c.enter-bottom in
     let bottom : to_z w32 (of_z w32 enter.result) ≡ enter.result = omega (arith, ints) in
     record {
-      reading = rw (enter.ensures.same, bottom) (entered _ _ _ _ (omega (arith, ints)) enter.ensures.lawful enter.ensures.row
+      reading = rw (enter.ensures.same, bottom) (entered _ _ _ _ (omega (arith, ints)) enter.ensures.row
           (λ z lt. left_of_field c.of-edges.result z _ lt) enter.ensures.rows);
     }
 

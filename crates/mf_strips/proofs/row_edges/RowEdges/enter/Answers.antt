@@ -5,7 +5,6 @@ use Rattle.std.proofs.lemmas.Bool.{cond_both}
 use Rattle.std.proofs.lemmas.Int.{ints}
 use Rattle.std.proofs.lemmas.List.{length-set, map_more, map_push, take_all, take_more_set}
 use Rattle.std.proofs.lemmas.List.Elements.{All-nil}
-use Rattle.mf_edges.proofs.ReachesLemmas.{wider_reach}
 use Rattle.mf_strips.specs.declared.rest.Rest.{Rest}
 use Rattle.mf_strips.specs.EqualRows.{AreEqualRows}
 use Rattle.mf_strips.specs.Parts.{strips_in, strips_of}
@@ -76,12 +75,6 @@ returns-clause-row c = λ x.
     let end : c.loop-i.i ≡ vec_len c.args.self.now.pile.now.parts = omega (arith, c.loop-i.auto.i-end, c.loop-i-test.false, c.deref.ensures.len) in
     ap (λ n. weight_in_all (rests_of (take n c.loop-i.rests)) x) (sym end) ∙ ap (λ all. weight_in_all all x) edges
     ∙ weight_of_rows c.args.self.now.pile.now.parts.items x c.args.y
-
-pub returns-clause-lawful : goal.returns-clause-lawful
-unfolding weights_of
-returns-clause-lawful c = λ x.
-    let pile = c.args.self.now.pile.now in
-    wider_reach pile.lawful.most (pile.lawful.within x c.args.y)
 
 pub returns-clause-rows : goal.returns-clause-rows
 unfolding weights_of
