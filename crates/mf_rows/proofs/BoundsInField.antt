@@ -1,34 +1,34 @@
 -- The least box of a picture lies in the field.
-use Rattle.std.proofs.Common.{◌≡◌, ℤ, List}
+use Rattle.std.proofs.Common.{◌≡◌, List, arith}
 use Rattle.std.specs.List.{All, Any}
+use Rattle.std.proofs.lemmas.Int.{ints}
 use Rattle.std.proofs.lemmas.List.Elements.{All-contains}
 use Rattle.mf_geom.specs.Field.{IsInField}
-use Rattle.mf_rows.specs.Bounds.{IsLeastBox}
+use Rattle.mf_rows.specs.Bounds.{IsDotIn, IsLeastBox}
+use Rattle.mf_rows.specs.Boxes.{IsBoxOfField}
 use Rattle.mf_rows.specs.declared.bounds.Box4.{Box4}
 use Rattle.mf_rows.specs.Dots.{Dot, IsDot, IsPicture, start_of_field}
 use Rattle.mf_rows.proofs.DotsLemmas.{dots_from-lawful}
 
--- the dot at a side of the box
-dot_at_side : (f : Dot → ℤ) (ds : List Dot) (side : ℤ) → All IsDot ds → Any (λ d. f d ≡ side) ds → (d : Dot) × IsDot d × (f d ≡ side)
-dot_at_side f ds side dots at = (at.1, All-contains IsDot ds at.1 dots (at.0, at.2, at.3), at.4)
+-- what holds for all dots holds for the one that some property finds
+pub All-Any : (P Q : Dot → Type 0) (ds : List Dot) (some : Any P ds) → All Q ds → Q some.1
+All-Any P Q ds some all = All-contains Q ds some.1 all (some.0, some.2, some.3)
+
+pub least_box_of_field : (ds : List Dot) (b : Box4) → IsPicture ds → IsLeastBox ds b → IsBoxOfField b
+least_box_of_field ds b picture box =
+    let dots = dots_from-lawful start_of_field ds picture.dots in
+    let at_left = (All-Any (λ d. d.x ≡ b.min_x) IsDot ds box.left dots).in_field in
+    let at_right = (All-Any (λ d. d.x ≡ b.max_x) IsDot ds box.right dots).in_field in
+    let at_bottom = (All-Any (λ d. d.y ≡ b.min_y) IsDot ds box.bottom dots).in_field in
+    let at_top = (All-Any (λ d. d.y ≡ b.max_y) IsDot ds box.top dots).in_field in
+    record {
+      left = omega (arith, ints, at_left.left, box.left.4);
+      right = omega (arith, ints, at_right.right, box.right.4);
+      bottom = omega (arith, ints, at_bottom.bottom, box.bottom.4);
+      top = omega (arith, ints, at_top.top, box.top.4);
+      columns = omega (arith, ints, (All-Any (λ d. d.x ≡ b.min_x) (IsDotIn b) ds box.left box.within).right, box.left.4);
+      rows = omega (arith, ints, (All-Any (λ d. d.y ≡ b.min_y) (IsDotIn b) ds box.bottom box.within).top, box.bottom.4);
+    }
 
 pub bounds_in_field : (ds : List Dot) (b : Box4) → IsPicture ds → IsLeastBox ds b → IsInField b.min_x b.min_y × IsInField b.max_x b.max_y
-bounds_in_field ds b picture box =
-    let dots = dots_from-lawful start_of_field ds picture.dots in
-    let left = dot_at_side (λ d. d.x) ds b.min_x dots box.left in
-    let right = dot_at_side (λ d. d.x) ds b.max_x dots box.right in
-    let bottom = dot_at_side (λ d. d.y) ds b.min_y dots box.bottom in
-    let top = dot_at_side (λ d. d.y) ds b.max_y dots box.top in (
-      record {
-        left = rw (← left.2) left.1.in_field.left;
-        right = rw (← left.2) left.1.in_field.right;
-        bottom = rw (← bottom.2) bottom.1.in_field.bottom;
-        top = rw (← bottom.2) bottom.1.in_field.top;
-      },
-      record {
-        left = rw (← right.2) right.1.in_field.left;
-        right = rw (← right.2) right.1.in_field.right;
-        bottom = rw (← top.2) top.1.in_field.bottom;
-        top = rw (← top.2) top.1.in_field.top;
-      },
-    )
+bounds_in_field ds b picture box = let field = least_box_of_field ds b picture box in (grind (arith, ints), grind (arith, ints))

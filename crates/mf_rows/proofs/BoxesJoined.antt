@@ -7,7 +7,7 @@ use Rattle.std.proofs.lemmas.Bool.{cond_both}
 use Rattle.std.proofs.lemmas.Int.{ints, clamps}
 use Rattle.std.proofs.lemmas.List.Elements.{All-append, All-weaker, Contains-append_left, Contains-append_right}
 use Rattle.mf_rows.specs.declared.bounds.Box4.{Box4}
-use Rattle.mf_rows.specs.Bounds.{IsDotIn, IsLeastBox}
+use Rattle.mf_rows.specs.Bounds.{IsDotIn, IsIn, IsLeastBox}
 use Rattle.mf_rows.specs.Dots.{Dot}
 use Rattle.mf_rows.specs.Boxes.{box_round_both}
 
@@ -25,11 +25,11 @@ either_min P x y at_x at_y = cond_both (int_lt y x) y x P (λ _. at_y) (λ _. at
 pub either_max : (P : ℤ → Type 0) (x y : ℤ) → P x → P y → P (int_max x y)
 either_max P x y at_x at_y = cond_both (int_lt y x) x y P (λ _. at_x) (λ _. at_y)
 
-within_first : (a b : Box4) (d : Dot) → IsDotIn a d → IsDotIn (box_round_both a b) d
-within_first a b d inside = grind (arith, ints, clamps)
+pub within_first : (a b : Box4) (x y : ℤ) → IsIn a x y → IsIn (box_round_both a b) x y
+within_first a b x y inside = grind (arith, ints, clamps)
 
-within_second : (a b : Box4) (d : Dot) → IsDotIn b d → IsDotIn (box_round_both a b) d
-within_second a b d inside = grind (arith, ints, clamps)
+pub within_second : (a b : Box4) (x y : ℤ) → IsIn b x y → IsIn (box_round_both a b) x y
+within_second a b x y inside = grind (arith, ints, clamps)
 
 pub least_box_of_both : (ds es : List Dot) (a b : Box4) → IsLeastBox ds a → IsLeastBox es b → IsLeastBox (ds ++ es) (box_round_both a b)
 least_box_of_both ds es a b first second =
@@ -37,8 +37,8 @@ least_box_of_both ds es a b first second =
     let at_x = λ (x : ℤ) (d : Dot). d.x ≡ x in
     let at_y = λ (y : ℤ) (d : Dot). d.y ≡ y in
     record {
-      within = All-append (IsDotIn (box_round_both a b)) ds es (All-weaker (IsDotIn a) (IsDotIn (box_round_both a b)) (within_first a b) ds first.within)
-          (All-weaker (IsDotIn b) (IsDotIn (box_round_both a b)) (within_second a b) es second.within);
+      within = All-append (IsDotIn (box_round_both a b)) ds es (All-weaker (IsDotIn a) (IsDotIn (box_round_both a b)) (λ d. within_first a b d.x d.y) ds first.within)
+          (All-weaker (IsDotIn b) (IsDotIn (box_round_both a b)) (λ d. within_second a b d.x d.y) es second.within);
       left = either_min (λ x. Any (at_x x) all) a.min_x b.min_x (any_left (at_x a.min_x) ds es first.left) (any_right (at_x b.min_x) ds es second.left);
       right = either_max (λ x. Any (at_x x) all) a.max_x b.max_x (any_left (at_x a.max_x) ds es first.right) (any_right (at_x b.max_x) ds es second.right);
       bottom = either_min (λ y. Any (at_y y) all) a.min_y b.min_y (any_left (at_y a.min_y) ds es first.bottom) (any_right (at_y b.min_y) ds es second.bottom);

@@ -11,18 +11,11 @@ use Rattle.mf_rows.specs.declared.bounds.Pixels.{Pixels}
 use Rattle.mf_rows.specs.declared.bounds.Pixels.TheVariants.{Nonzero, Black}
 use Rattle.mf_rows.specs.declared.walk.Walk.{Walk}
 use Rattle.mf_rows.specs.Bounds.{AreBounds, AreColumns, IsBoxRound, IsIn, among, from_row, is_among, with_box}
-use Rattle.mf_rows.specs.Boxes.{box_round_both}
 use Rattle.mf_rows.specs.Remaining.{HasPassed, HasPassedRow}
-use Rattle.mf_rows.proofs.BoxesJoined.{either_min, either_max}
+use Rattle.mf_rows.proofs.BoxesJoined.{either_min, either_max, within_first, within_second}
 use Rattle.mf_rows.proofs.LeastBoxes.{same_bounds}
 use Rattle.mf_rows.proofs.PassedPixels.{outside}
 use Rattle.mf_rows.proofs.PicturePiles.{by_field}
-
-within_first : (a b : Box4) (x y : ℤ) → IsIn a x y → IsIn (box_round_both a b) x y
-within_first a b x y inside = grind (arith, ints, clamps)
-
-within_second : (a b : Box4) (x y : ℤ) → IsIn b x y → IsIn (box_round_both a b) x y
-within_second a b x y inside = grind (arith, ints, clamps)
 
 by_in : {P : Type 0} (b : Box4) (x y : ℤ) → (IsIn b x y → P) → ((IsIn b x y → ⊥) → P) → P
 by_in b x y inside outside = grind (arith, ints, by_lt_z)

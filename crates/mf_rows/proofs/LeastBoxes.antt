@@ -7,7 +7,7 @@ use Rattle.std.proofs.lemmas.Bool.{false≢true}
 use Rattle.std.proofs.lemmas.Int.{ints}
 use Rattle.mf_rows.specs.declared.bounds.Box4.{Box4}
 use Rattle.mf_rows.specs.declared.bounds.Pixels.TheVariants.{Nonzero, Black}
-use Rattle.mf_rows.specs.Bounds.{AreBounds, IsBoxRound, IsLeastBox, among_dots, is_positive_at}
+use Rattle.mf_rows.specs.Bounds.{AreBounds, IsBoxRound, IsLeastBox, among, is_positive_at}
 use Rattle.mf_rows.specs.Dots.{Dot, IsDot, IsPicture, start_of_field, weight_at}
 use Rattle.mf_rows.proofs.DotsLemmas.{dots_from-lawful, weight_at-dot, weight_at-elsewhere}
 use Rattle.mf_rows.proofs.PlacesLemmas.{by_same}
@@ -64,19 +64,17 @@ blank_of_weights f (d ∷ ds) picture weights none =
 
 -- ---- the dots of a picture
 
-nonzero_in_dots : (ds : List Dot) (x y : ℤ) → among_dots Nonzero ds x y ≡ not (int_eq (weight_at ds x y) (pos 0))
-unfolding among_dots
-nonzero_in_dots ds x y = refl
+least_in_dots : (ds : List Dot) (b : Box4) → IsPicture ds → IsBoxRound (among Nonzero (weight_at ds)) b → IsLeastBox ds b
+unfolding among
+least_in_dots ds b picture box = least_of_weights _ ds b picture (λ x y. refl) box
 
-least_in_dots : (ds : List Dot) (b : Box4) → IsPicture ds → IsBoxRound (among_dots Nonzero ds) b → IsLeastBox ds b
-least_in_dots ds b picture box = least_of_weights _ ds b picture (nonzero_in_dots ds) box
-
-pub least_if_some : (ds : List Dot) (bounds : Option Box4) → IsPicture ds → AreBounds (among_dots Nonzero ds) bounds → IfSome bounds (IsLeastBox ds)
+pub least_if_some : (ds : List Dot) (bounds : Option Box4) → IsPicture ds → AreBounds (among Nonzero (weight_at ds)) bounds → IfSome bounds (IsLeastBox ds)
 least_if_some ds None picture box = tt
 least_if_some ds (Some b) picture box = least_in_dots ds b picture box
 
-pub none_if_blank : (ds : List Dot) (bounds : Option Box4) → IsPicture ds → AreBounds (among_dots Nonzero ds) bounds → IsNone bounds ↔ (ds ≡ [])
-none_if_blank ds None picture box = (λ _. blank_of_weights _ ds picture (nonzero_in_dots ds) box, λ _. refl)
+pub none_if_blank : (ds : List Dot) (bounds : Option Box4) → IsPicture ds → AreBounds (among Nonzero (weight_at ds)) bounds → IsNone bounds ↔ (ds ≡ [])
+unfolding among
+none_if_blank ds None picture box = (λ _. blank_of_weights _ ds picture (λ x y. refl) box, λ _. refl)
 none_if_blank ds (Some b) picture box =
     (λ none. absurd (false≢true (sym none)), λ blank. absurd (box_of_some b (subst (λ es. IsLeastBox es b) blank (least_in_dots ds b picture box))))
 
@@ -87,6 +85,6 @@ pub same_bounds : (f g : ℤ → ℤ → Bool) (bounds : Option Box4) → ((x y 
 same_bounds f g None same box = λ x y. sym (same x y) ∙ box x y
 same_bounds f g (Some b) same box = grind (arith, ints, sym)
 
-pub black_in_dots : (ds : List Dot) (bounds : Option Box4) → AreBounds (among_dots Black ds) bounds → AreBounds (is_positive_at ds) bounds
-unfolding among_dots is_positive_at
+pub black_in_dots : (ds : List Dot) (bounds : Option Box4) → AreBounds (among Black (weight_at ds)) bounds → AreBounds (is_positive_at ds) bounds
+unfolding among is_positive_at
 black_in_dots ds bounds box = same_bounds _ _ bounds (λ x y. refl) box

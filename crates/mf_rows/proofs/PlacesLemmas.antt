@@ -22,13 +22,11 @@ unfolding place
 place-below y = omega (arith, ints)
 
 -- a place belongs to one pixel of the field
-pub row_from_place : (x y u v : ℤ) → IsInField x y → IsInField u v → place x y ≡ place u v → y ≡ v
+pub same_place : (x y u v : ℤ) → IsInField x y → IsInField u v → place x y ≡ place u v → (x ≡ u) × (y ≡ v)
 unfolding place
-row_from_place x y u v here there same = omega (arith, ints)
-
-pub column_from_place : (x y u v : ℤ) → IsInField x y → IsInField u v → place x y ≡ place u v → x ≡ u
-unfolding place
-column_from_place x y u v here there same = omega (arith, ints, row_from_place x y u v here there same)
+same_place x y u v here there same =
+    let row : y ≡ v = omega (arith, ints) in
+    (omega (arith, ints), row)
 
 -- the field's places begin at the first one
 pub start_of_field-le : (x y : ℤ) → IsInField x y → start_of_field ≤ℤ place x y

@@ -4,7 +4,7 @@ use Rattle.std.proofs.Common.{refl, ap, append-nil, ◌∙◌, arith}
 use Rattle.std.specs.List.{All, flat_map}
 use Rattle.std.specs.Ordering.{int_eq}
 use Rattle.std.proofs.lemmas.Int.{ints, by_lt_z}
-use Rattle.std.proofs.lemmas.List.Elements.{All-nil, All-cons, All-append, All-head, All-tail, All-weaker}
+use Rattle.std.proofs.lemmas.List.Elements.{All-nil, All-cons, All-head, All-tail, All-weaker}
 use Rattle.mf_rows.specs.declared.run.Run.{Run}
 use Rattle.mf_edges.specs.LawfulWeights.{IsLawfulWeight}
 use Rattle.mf_rows.specs.Dots.{Dot, IsPicture, AreDotsFrom, place, start_of_field, weight_at}
@@ -103,19 +103,7 @@ pub runs-rest : (r : Run) (rs : List Run) → AreRuns (r ∷ rs) → AreRuns rs
 unfolding place
 runs-rest r rs ordered = record { runs = runs_from-lower start_of_field (place (r.x +ℤ pos r.len) r.y) rs (omega (arith, ints, ordered.runs.1)) ordered.runs.2 }
 
--- each run fits after those before it
-pub fits_next : (low : ℤ) (passed : List Run) (r : Run) (others : List Run) → AreRunsFrom low (passed ++ r ∷ others)
-    → (low ≤ℤ place r.x r.y) × Fits (flat_map dots_of passed) r
-unfolding dots_of
-fits_next low [] r others runs = (runs.1, record { run = runs.0; before = All-nil (λ d. place d.x d.y <ℤ place r.x r.y) })
-fits_next low (q ∷ qs) r others runs =
-    let later = fits_next (place (q.x +ℤ pos q.len) q.y) qs r others runs.2 in
-    let further = place-le q.x (q.x +ℤ pos q.len) q.y (omega (arith, ints)) in
-    let own = before_equal_dots-end q.y q.x q.weight q.len (place r.x r.y) later.0 in
-    let before = All-append (λ d. place d.x d.y <ℤ place r.x r.y) (dots_of q) (flat_map dots_of qs) own later.1.before in
-    (omega (arith, ints, runs.1, later.0), record { run = later.1.run; before = before })
-
--- and so are the dots of the runs
+-- the dots of runs in reading order are in reading order, too
 pub dots_from-run : (r : Run) → IsRun r → AreDotsFrom (place r.x r.y) (dots_of r)
 unfolding dots_of
 dots_from-run r run =

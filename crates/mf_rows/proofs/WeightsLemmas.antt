@@ -11,7 +11,7 @@ use Rattle.mf_edges.specs.LawfulWeights.{IsLawfulWeight}
 use Rattle.mf_rows.specs.Dots.{Dot, IsDot, IsPicture, AreDotsFrom, place, start_of_field, weight_at}
 use Rattle.mf_rows.specs.Weights.{row_of, rows_of, picture_of, HaveSameWeights}
 use Rattle.mf_rows.proofs.DotsLemmas.{weight_at-here, weight_at-elsewhere, weight_at-before, not_at, dots_from-lower, dots_from-lawful}
-use Rattle.mf_rows.proofs.PlacesLemmas.{AreFieldColumns, first_column, next_columns, place-next, place-below, row_from_place, column_from_place}
+use Rattle.mf_rows.proofs.PlacesLemmas.{AreFieldColumns, first_column, next_columns, place-next, place-below, same_place}
 
 -- ---- equal weights make equal dots
 
@@ -43,8 +43,7 @@ same_from low (d ∷ ds) (e ∷ es) left right weights =
     (λ higher. absurd (first_missing low e es (d ∷ ds) right (left.0, omega (arith, ints), left.2) (sym (weights.same e.x e.y right.0.in_field))))
     (λ no_higher.
     let here : place d.x d.y ≡ place e.x e.y = omega (arith, ints) in
-    let row = row_from_place d.x d.y e.x e.y left.0.in_field right.0.in_field here in
-    let column = column_from_place d.x d.y e.x e.y left.0.in_field right.0.in_field here in
+    let (column, row) = same_place d.x d.y e.x e.y left.0.in_field right.0.in_field here in
     let weight : d.weight ≡ e.weight = grind (arith, ints, weight_at-here, weights.same e.x e.y right.0.in_field) in
     let same = same_dot d e row column weight in
     let others = subst (λ f. AreDotsFrom (place f.x f.y +ℤ pos 1) es) (sym same) right.2 in

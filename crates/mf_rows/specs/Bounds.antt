@@ -63,10 +63,6 @@ is_among Black w = int_lt (pos 0) w
 unfoldable pub among : Pixels → (ℤ → ℤ → ℤ) → ℤ → ℤ → Bool
 among p f x y = is_among p (f x y)
 
--- the pixel (x, y) of dots is one of these
-unfoldable pub among_dots : Pixels → List Dot → ℤ → ℤ → Bool
-among_dots p ds x y = is_among p (weight_at ds x y)
-
 -- the least box round a box and another, if there is one
 abbrev pub with_box : Option Box4 → Box4 → Box4
 with_box None b = b

@@ -38,7 +38,7 @@ impl Model for Picture {
 
 #[tactic(auto, using(crate::proofs::PicturePiles::of_piles))]
 impl Picture {
-    ghost use Rattle.mf_rows.specs.Bounds.{AreBounds, IsLeastBox, among_dots, is_positive_at};
+    ghost use Rattle.mf_rows.specs.Bounds.{AreBounds, IsLeastBox, among, is_positive_at};
     ghost use Rattle.mf_strips.specs.Corners.{AreCorners, HaveFieldStripWeights};
     ghost use Rattle.mf_rows.specs.Corners.{with_corners_at};
     ghost use Rattle.mf_rows.specs.Dots.{IsPicture, weight_at, total_of};
@@ -248,7 +248,7 @@ impl Picture {
 
     /// The least box of these pixels, `None` where there are none.
     fn bounds_of(&self, pixels: Pixels) -> Option<Box4>
-        ensures bounds { AreBounds (among_dots pixels self.now) result }
+        ensures bounds { AreBounds (among pixels (weight_at self.now)) result }
         ensures lawful { IsPicture self.now }
     {
         let mut walk = Walk::of(&self.pile);
