@@ -101,13 +101,13 @@ module _ (s : Walk) where
         }
 
 -- at the left end of a row
-pub entered : (f : ℤ → ℤ → ℤ) (g : ℤ → ℤ) (y bottom : ℤ) → y ≤ℤ last_in_field → ((z : ℤ) → g z ≡ f z y)
-    → ((z : ℤ) → z <ℤ least_coordinate → f z y ≡ pos 0) → AreSameRows f bottom y → IsReading f g (least_coordinate -ℤ pos 1) y (pos 0) bottom
-entered f g y bottom top all blank rows = record {
+pub entered : (r : RowEdges) (g : ℤ → ℤ) (y bottom : ℤ) → y ≤ℤ last_in_field → ((z : ℤ) → g z ≡ weights_of r z y) → AreSameRows (weights_of r) bottom y
+    → IsReading (weights_of r) g (least_coordinate -ℤ pos 1) y (pos 0) bottom
+entered r g y bottom top all rows = record {
   left = omega (arith, ints);
   right = omega (arith, ints);
   top = top;
-  before = λ z le. all z ∙ blank z (omega (arith, ints));
+  before = λ z le. all z ∙ left_of_field r z y (omega (arith, ints));
   after = λ z _. omega (arith, ints, all z);
   rows = rows;
 }

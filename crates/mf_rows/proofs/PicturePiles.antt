@@ -31,7 +31,6 @@ use Rattle.mf_rows.specs.Corners.{added_by_all, with_corners_at}
 use Rattle.mf_rows.specs.Moves.{PixelsStayInside}
 use Rattle.mf_rows.specs.Sums.{HasWeights, difference_at, sum_at}
 use Rattle.mf_rows.specs.Weights.{picture_of}
-use Rattle.mf_rows.proofs.FieldTotals.{total_of-picture_of}
 use Rattle.mf_rows.proofs.BlankPictures.{blanks}
 use Rattle.mf_rows.proofs.DotsLemmas.{weight_at-outside}
 use Rattle.mf_rows.proofs.StretchBounds.{holds_at_weight}
@@ -58,12 +57,9 @@ pile_weight p x y =
     (λ inside. weight_at-picture_of (weight_in_pile p) x y inside)
     (λ outside. weight_at-outside (picture_of (weight_in_pile p)) x y (lawful_pile p) outside ∙ sym (parts_outside p.parts.items x y outside))
 
-same_picture : (f g : ℤ → ℤ → ℤ) → ((x y : ℤ) → f x y ≡ g x y) → picture_of f ≡ picture_of g
-same_picture f g same = ap picture_of (λ i x y. same x y i)
-
 -- piles with the same weights are the same picture
 pub same_pile_picture : (p q : Pile) → HasPileWeights (weight_in_pile p) q → picture_of (weight_in_pile q) ≡ picture_of (weight_in_pile p)
-same_pile_picture p q same = same_picture (weight_in_pile q) (weight_in_pile p) same.weights
+same_pile_picture p q same = ap picture_of (λ i x y. same.weights x y i)
 
 pub blank_pile : (p : Pile) → p.parts.items ≡ [] → picture_of (weight_in_pile p) ≡ []
 unfolding weight_in_parts weight_at
@@ -133,4 +129,4 @@ strips_inside columns rows ds part is inside = record {
 }
 
 -- what the methods of pictures use
-pub ruleset of_piles = (ints, sym, to_z-of_z, lawful_pile, part_is, pile_weight, total_of-picture_of, blank_pile, blanks)
+pub ruleset of_piles = (ints, sym, to_z-of_z, lawful_pile, part_is, pile_weight, blank_pile, blanks)

@@ -1,8 +1,8 @@
 -- The pixels that a walk has left, as it passes pixels of one weight, and blank rows.
-use Rattle.std.proofs.Common.{◌≡◌, ◌≢◌, false, ℕ, zero, suc, ◌+◌, ◌≤◌, ℤ, pos, ◌+ℤ◌, ◌-ℤ◌, ◌≤ℤ◌, ◌<ℤ◌, List, [], ◌∷◌, ◌++◌, drop, refl, sym, ap, ◌∙◌, subst, arith}
+use Rattle.std.proofs.Common.{◌≡◌, ◌≢◌, false, ℕ, zero, suc, ◌+◌, ◌≤◌, ℤ, pos, ◌+ℤ◌, ◌-ℤ◌, ◌≤ℤ◌, ◌<ℤ◌, List, [], ◌∷◌, ◌++◌, drop, refl, sym, ap, ◌∙◌, subst, if◌then◌else◌, arith}
 use Rattle.std.specs.Int.RustNames.{unsigned_abs}
 use Rattle.std.specs.Ordering.{int_eq}
-use Rattle.std.proofs.lemmas.Bool.Decides.{Decides-int_eq}
+use Rattle.std.proofs.lemmas.Bool.{cond_both}
 use Rattle.std.proofs.lemmas.Int.{ints, by_lt_z}
 use Rattle.std.proofs.lemmas.List.{append_assoc}
 use Rattle.mf_geom.specs.Coordinates.{least_coordinate, greatest_coordinate, last_in_field, field_size}
@@ -19,29 +19,16 @@ use Rattle.mf_rows.proofs.WeightsLemmas.{weight_at-row, weight_at-above}
 
 -- ---- columns of one weight
 
--- columns of weight 0 give no dots
-row_of-blank : (f : ℤ → ℤ → ℤ) (y x : ℤ) (k n : ℕ) → ((z : ℤ) → x ≤ℤ z → z <ℤ (x +ℤ pos k) → f z y ≡ pos 0)
-    → row_of f y x (k + n) ≡ row_of f y (x +ℤ pos k) n
-unfolding row_of
-row_of-blank f y x zero n blank = grind (arith, ints)
-row_of-blank f y x (suc k) n blank =
-    let more : suc k + n ≡ suc (k + n) = omega arith in
-    let here : x +ℤ pos 1 +ℤ pos k ≡ x +ℤ pos (suc k) = omega (arith, ints) in
-    rw (more, (Decides-int_eq (f x y) (pos 0)).1 (blank x (omega (arith, ints)) (omega (arith, ints))), ← here)
-    (row_of-blank f y (x +ℤ pos 1) k n (λ z left right. blank z (omega (arith, ints)) (omega (arith, ints))))
-
--- columns of another weight give equal dots
-row_of-run : (f : ℤ → ℤ → ℤ) (y x w : ℤ) (k n : ℕ) → w ≢ pos 0 → ((z : ℤ) → x ≤ℤ z → z <ℤ (x +ℤ pos k) → f z y ≡ w)
-    → row_of f y x (k + n) ≡ equal_dots y x w k ++ row_of f y (x +ℤ pos k) n
+-- columns of weight 0 give no dots, those of another weight equal ones
+row_of-same : (f : ℤ → ℤ → ℤ) (y x w : ℤ) (k n : ℕ) → ((z : ℤ) → x ≤ℤ z → z <ℤ (x +ℤ pos k) → f z y ≡ w)
+    → row_of f y x (k + n) ≡ (if int_eq w (pos 0) then [] else equal_dots y x w k) ++ row_of f y (x +ℤ pos k) n
 unfolding row_of equal_dots
-row_of-run f y x w zero n nonzero same = grind (arith, ints)
-row_of-run f y x w (suc k) n nonzero same =
+row_of-same f y x w zero n same = grind (arith, ints, cond_both)
+row_of-same f y x w (suc k) n same =
     let more : suc k + n ≡ suc (k + n) = omega arith in
     let here : x +ℤ pos 1 +ℤ pos k ≡ x +ℤ pos (suc k) = omega (arith, ints) in
-    let own : int_eq w (pos 0) ≡ false = grind (arith, ints) in
-    rw (more, same x (omega (arith, ints)) (omega (arith, ints)), own, ← here)
-    (ap (λ ds. record { y = y; x = x; weight = w } ∷ ds)
-    (row_of-run f y (x +ℤ pos 1) w k n nonzero (λ z left right. same z (omega (arith, ints)) (omega (arith, ints)))))
+    let others = row_of-same f y (x +ℤ pos 1) w k n (λ z left right. same z (omega (arith, ints)) (omega (arith, ints))) in
+    rw (more, same x (omega (arith, ints)) (omega (arith, ints)), ← here) (grind (arith, cond_both, others))
 
 -- a run before dots that do not continue it cannot be longer
 maximal_before : (r : Run) (ds : List Dot) → weight_at ds (r.x +ℤ pos r.len) r.y ≢ r.weight → AreMaximal (r ∷ runs_of ds)
@@ -58,7 +45,7 @@ maximal_before r (d ∷ ds) apart =
 blank_row : (f : ℤ → ℤ → ℤ) (y : ℤ) → ((x : ℤ) → least_coordinate ≤ℤ x → x <ℤ greatest_coordinate → f x y ≡ pos 0) → row_of f y least_coordinate field_size ≡ []
 unfolding row_of
 blank_row f y blank =
-    row_of-blank f y least_coordinate field_size 0 (λ z left right. blank z left (omega (arith, ints)))
+    row_of-same f y least_coordinate (pos 0) field_size 0 (λ z left right. blank z left (omega (arith, ints)))
 
 rows_of-blank : (f : ℤ → ℤ → ℤ) (y : ℤ) (k n : ℕ)
     → ((x v : ℤ) → least_coordinate ≤ℤ x → x <ℤ greatest_coordinate → (y -ℤ pos k) <ℤ v → v ≤ℤ y → f x v ≡ pos 0)
@@ -97,7 +84,7 @@ pub dots_from-blank : (f : ℤ → ℤ → ℤ) (x e y : ℤ) → x ≤ℤ e →
 unfolding dots_from
 dots_from-blank f x e y order within blank =
     let end : x +ℤ pos (unsigned_abs (e -ℤ x)) ≡ e = omega (arith, ints) in
-    let passed = row_of-blank f y x (unsigned_abs (e -ℤ x)) (unsigned_abs (greatest_coordinate -ℤ e)) (λ z left right. blank z left (omega (arith, ints))) in
+    let passed = row_of-same f y x (pos 0) (unsigned_abs (e -ℤ x)) (unsigned_abs (greatest_coordinate -ℤ e)) (λ z left right. blank z left (omega (arith, ints))) in
     ap (λ ds. ds ++ rows_of f (y -ℤ pos 1) (unsigned_abs (y -ℤ least_coordinate)))
     (rw (columns_on x e order within) (rw end at passed))
 
@@ -122,9 +109,10 @@ unfolding dots_from
 dots_from-run f x e y w nonzero order within same apart =
     let n = unsigned_abs (e -ℤ x) in
     let end : x +ℤ pos n ≡ e = omega (arith, ints) in
-    let passed = row_of-run f y x w n (unsigned_abs (greatest_coordinate -ℤ e)) nonzero (λ z left right. same z left (omega (arith, ints))) in
+    let own : int_eq w (pos 0) ≡ false = grind (arith, ints) in
+    let passed = row_of-same f y x w n (unsigned_abs (greatest_coordinate -ℤ e)) (λ z left right. same z left (omega (arith, ints))) in
     let first = runs_of-equal_dots y x w n (dots_from f e y) (omega (arith, ints)) (maximal_before _ _ (rw end (weight_at-next f e y w nonzero within apart))) in
-    rw (columns_on x e (omega (arith, ints)) within, rw end at passed, append_assoc) first
+    rw (columns_on x e (omega (arith, ints)) within, rw (own, end) at passed, append_assoc) first
 
 -- from the end of a row, the rows below it, without those that are blank
 pub dots_from-below : (f : ℤ → ℤ → ℤ) (x bottom y : ℤ) → x ≡ greatest_coordinate → AreBlankBelow f bottom y
