@@ -59,29 +59,25 @@ module _ (s : Walk) where
       })
 
   module _ (h : ℤ → ℤ) (e : Edge) (next : IsNextEdge (weight_left s.edges) h e) where
-    -- its weight is that of all edges at its column
-    own : weight_left s.edges e.x ≡ e.weight
-    own = omega (arith, ints, next.right e.x (omega (arith, ints)), next.passed e.x (omega (arith, ints)))
-
     pub further : s.x <ℤ greatest_coordinate → s.x <ℤ e.x
     further more =
         by_lt_z s.x e.x (λ lt. lt)
-        (λ le. absurd (next.nonzero (omega (arith, ints)) (sym own ∙ s.reading.before e.x le)))
+        (λ le. absurd (next.nonzero (omega (arith, ints)) (next.weight ∙ s.reading.before e.x le)))
 
     pub order : s.x ≤ℤ e.x
     order = by_lt_z s.x greatest_coordinate (λ lt. omega (arith, ints, further lt))
-        (λ end. by_lt_z e.x greatest_coordinate (λ lt. absurd (next.nonzero lt (sym own ∙ s.reading.before e.x (omega (arith, ints))))) (λ le. omega (arith, ints, s.reading.right)))
+        (λ end. by_lt_z e.x greatest_coordinate (λ lt. absurd (next.nonzero lt (next.weight ∙ s.reading.before e.x (omega (arith, ints))))) (λ le. omega (arith, ints, s.reading.right)))
 
     pub passed_same : (z : ℤ) → s.x ≤ℤ z → z <ℤ e.x → weights_of s.edges z s.y ≡ s.weight
-    passed_same z left right = omega (arith, ints, s.reading.after z left, next.left z right)
+    passed_same z left right = omega (arith, ints, s.reading.after z left, next.edge.left z right)
 
     pub passed_edge : IsReading (weights_of s.edges) h e.x s.y (s.weight +ℤ e.weight) s.bottom
     passed_edge = record {
       left = omega (arith, ints, s.reading.left, order);
       right = next.within;
       top = s.reading.top;
-      before = next.passed;
-      after = λ z le. omega (arith, ints, s.reading.after z (omega (arith, ints, order)), next.right z le);
+      before = next.edge.passed;
+      after = λ z le. omega (arith, ints, s.reading.after z (omega (arith, ints, order)), next.weight, next.edge.right z le);
       rows = s.reading.rows;
     }
 
@@ -91,7 +87,7 @@ module _ (s : Walk) where
         let there = lawful_weight s.edges e.x s.y in
         let at = weight_here in
         let after = s.reading.after e.x order in
-        let change = own in
+        let change = next.weight in
         record {
           before = omega (arith, ints);
           column = omega (arith, ints, s.reading.left, next.within, order);

@@ -9,12 +9,13 @@ use Rattle.std.proofs.lemmas.List.Elements.{All-nil, All-cons, All-map, All-weak
 use Rattle.mf_geom.specs.Coordinates.{least_coordinate, greatest_coordinate}
 use Rattle.mf_geom.specs.Field.{IsColumnOrRow}
 use Rattle.mf_edges.specs.declared.edge.Edge.{Edge}
+use Rattle.mf_edges.specs.Edges.{weight_in}
 use Rattle.mf_edges.proofs.Falls.{Falls, IsPartitionedBy-falls}
 use Rattle.mf_strips.specs.declared.strips.Head.{Head}
-use Rattle.mf_strips.specs.EqualRows.{AreEqualRows, IsBottomBelow}
 use Rattle.mf_strips.specs.Heads.{strip_at, strips_at}
 use Rattle.mf_strips.specs.Parts.{first_top}
-use Rattle.mf_strips.specs.Strips.{EdgeStrip, AreStripsFrom, AreStrips, AreAbove, last_row, row_in}
+use Rattle.mf_strips.specs.RowEdges.{AreSameRows}
+use Rattle.mf_strips.specs.Strips.{EdgeStrip, AreStripsFrom, AreStrips, AreAbove, last_row, row_in, weight_in_strips}
 use Rattle.mf_strips.specs.Sums.{IsFrom}
 use Rattle.mf_strips.proofs.StripsLemmas.{row_in-front, row_in-lowest}
 
@@ -86,8 +87,10 @@ module _ (y reach bottom : ℤ) (ss fs gs : List EdgeStrip) (all : ss ≡ fs ++ 
   pub found_row : last_row fs ≡ row_in [] ss y
   found_row = sym (found_at y (omega (arith, ints)) from)
 
-  pub found_rows : AreEqualRows bottom y ss
-  found_rows = record { same = λ v low le. found_at v le (lowest.from v low) ∙ found_row }
-
-  pub found_bottom : IsColumnOrRow y → IsBottomBelow bottom y
-  found_bottom in_field = record { low = lowest.low; order = lowest.among y in_field.least from }
+  pub found_rows : IsColumnOrRow y → AreSameRows (weight_in_strips ss) bottom y
+  unfolding weight_in_strips
+  found_rows in_field = record {
+    low = lowest.low;
+    order = lowest.among y in_field.least from;
+    same = λ x v low le. ap (λ es. weight_in es x) (found_at v le (lowest.from v low) ∙ found_row);
+  }

@@ -1,5 +1,4 @@
 pub mod Corners
-pub mod EqualRows
 pub mod Heads
 pub mod Names
 pub mod Strips

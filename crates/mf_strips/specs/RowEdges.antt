@@ -1,16 +1,10 @@
 -- The weights that the edges of a row of a pile make.
-use Rattle.std.specs.Prelude.{◌≡◌, ℤ, ◌≤ℤ◌, List, map, take}
+use Rattle.std.specs.Prelude.{◌≡◌, ℤ, ◌≤ℤ◌, take}
 use Rattle.std.specs.Vec.{vec_len}
 use Rattle.mf_geom.specs.Coordinates.{least_coordinate}
-use Rattle.mf_edges.specs.declared.edge.Edge.{Edge}
-use Rattle.mf_strips.specs.declared.rest.Rest.{Rest}
 use Rattle.mf_strips.specs.declared.row_edges.RowEdges.{RowEdges}
 use Rattle.mf_strips.specs.PileWeights.{weight_in_pile}
 use Rattle.mf_strips.specs.Rests.{weight_in_all}
-
--- the edges of rests
-abbrev pub rests_of : List Rest → List (List Edge)
-rests_of rs = map (λ r. r.edges.now) rs
 
 -- the weights of their pile
 unfoldable pub weights_of : RowEdges → ℤ → ℤ → ℤ
@@ -18,7 +12,7 @@ weights_of r = weight_in_pile r.pile.now
 
 -- the weights in their row that the edges make that are still to come
 unfoldable pub weight_left : RowEdges → ℤ → ℤ
-weight_left r = weight_in_all (rests_of (take (vec_len r.pile.now.parts) r.rests))
+weight_left r = weight_in_all (take (vec_len r.pile.now.parts) r.rests)
 
 -- from row `bottom` up to row y, f is the same in each column
 pub record AreSameRows (f : ℤ → ℤ → ℤ) (bottom y : ℤ) : Type 0 where

@@ -1,23 +1,22 @@
 //! Finding rows by binary search.
-ghost use Rattle.std.specs.Prelude.{◌≡◌, []};
+ghost use Rattle.std.specs.Prelude.{◌≡◌, ℤ};
 ghost use Rattle.mf_geom.specs.Field.{IsColumnOrRow};
-ghost use Rattle.mf_strips.specs.EqualRows.{AreLawfulStrips, AreEqualRows, IsBottomBelow};
-ghost use Rattle.mf_strips.specs.Parts.{strips_in, strips_of, weight_in_part};
-ghost use Rattle.mf_strips.specs.Strips.{row_in};
+ghost use Rattle.mf_edges.specs.Edges.{AreEdges, weight_in};
+ghost use Rattle.mf_strips.specs.Parts.{weight_in_part};
+ghost use Rattle.mf_strips.specs.RowEdges.{AreSameRows};
 
 use super::EqualRows;
 use crate::part::Part;
-use crate::strips::Strips;
-use mf_edges::{Edge, FIELD_START, weight_at_column};
+use mf_edges::{FIELD_START, weight_at_column};
 
-impl<'a> EqualRows<'a> {
-    /// Row y of strips, and the rows below it that are equal to it up to the next strip.
-    pub(crate) fn find(strips: Strips<'a>, y: i32) -> EqualRows<'a>
-        requires { AreLawfulStrips (strips_of strips) }
-        ensures row { result.edges.now ≡ row_in [] (strips_of strips.entry) y }
-        ensures rows { AreEqualRows result.bottom y (strips_of strips.entry) }
-        ensures bottom { IsColumnOrRow y → IsBottomBelow result.bottom y }
+impl Part {
+    /// Row y, and the rows below it that are equal to it up to the next strip.
+    pub(crate) fn equal_rows(&self, y: i32) -> EqualRows<'_>
+        ensures edges { AreEdges result.edges.now }
+        ensures row { (x : ℤ) → weight_in result.edges.now x ≡ weight_in_part self.now x y }
+        ensures rows { IsColumnOrRow y → AreSameRows (weight_in_part self.now) result.bottom y }
     {
+        let strips = self.strips();
         let above = strips.heads.partition_point(|head| y < i32::from(head.top));
         let (above, below) = strips.split_at(above);
         EqualRows {
@@ -25,20 +24,11 @@ impl<'a> EqualRows<'a> {
             edges: above.last_row(),
         }
     }
-}
-
-impl Part {
-    /// The edges of row y.
-    pub(crate) fn row(&self, y: i32) -> &[Edge]
-        ensures { result.now ≡ row_in [] (strips_in self.now) y }
-    {
-        EqualRows::find(self.strips(), y).edges
-    }
 
     /// The weight of the pixel (x, y), 0 outside the field.
     pub fn weight(&self, x: i32, y: i32) -> i32
         ensures { result ≡ weight_in_part self.now x y }
     {
-        weight_at_column(self.row(y), x)
+        weight_at_column(self.equal_rows(y).edges, x)
     }
 }

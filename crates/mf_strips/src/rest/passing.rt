@@ -1,8 +1,8 @@
 //! Passing the edges of a part.
-ghost use Rattle.std.specs.Prelude.{◌≡◌, [], ◌∷◌};
-ghost use Rattle.mf_geom.specs.Coordinates.{least_coordinate};
+ghost use Rattle.std.specs.Prelude.{◌≡◌, ◌≤ℤ◌, ◌<ℤ◌};
+ghost use Rattle.mf_geom.specs.Coordinates.{greatest_coordinate, least_coordinate};
 ghost use Rattle.mf_edges.specs.Edges.{AreEdgesFrom, weight_in};
-ghost use Rattle.mf_strips.specs.Rests.{IsFirstColumn, IsNextEdge, after_first, weight_at_first};
+ghost use Rattle.mf_strips.specs.Rests.{IsNextEdge, IsPassedTo, column_of};
 
 use super::Rest;
 use mf_edges::{Edge, FIELD_END};
@@ -19,7 +19,9 @@ impl<'a> Rest<'a> {
     /// Passes the first edge. Answers one of weight 0 at the end of the field where there is none.
     #[inline(always)]
     pub(crate) fn pass(&mut self) -> Edge
-        ensures { IsNextEdge (weight_in self.old.edges.now) (weight_in self.new.edges.now) result }
+        ensures passed { IsNextEdge (weight_in self.old.edges.now) (weight_in self.new.edges.now) result }
+        ensures column { result.x ≡ column_of self.old.edges.now }
+        ensures further { result.x <ℤ greatest_coordinate → result.x <ℤ column_of self.new.edges.now }
     {
         match self.edges.split_first() {
             Some((edge, others)) => {
@@ -35,7 +37,7 @@ impl<'a> Rest<'a> {
 
     /// The column of the first edge, the end of the field where there is none.
     pub(crate) fn column(&self) -> i32
-        ensures { IsFirstColumn (self.now.edges.now ∷ []) result }
+        ensures { result ≡ column_of self.now.edges.now }
     {
         match self.edges.first() {
             Some(edge) => edge.x,
@@ -43,17 +45,16 @@ impl<'a> Rest<'a> {
         }
     }
 
-    /// Passes the first edge if it is at column x. Answers its weight, 0 where no edge was passed.
+    /// Passes the first edge if it is at column x, to the left of which there is none. Answers its weight, 0 where no edge was passed.
     pub(crate) fn pass_column(&mut self, x: i32) -> i32
-        ensures weight { result ≡ weight_at_first x self.old.edges.now }
-        ensures others { self.new.edges.now ≡ after_first x self.old.edges.now }
+        requires { x ≤ℤ column_of self.old.edges.now }
+        ensures weight { result ≡ weight_in self.old.edges.now x }
+        ensures passed { IsPassedTo x (weight_in self.old.edges.now) (weight_in self.new.edges.now) }
+        ensures further { x <ℤ greatest_coordinate → x <ℤ column_of self.new.edges.now }
     {
-        match self.edges.split_first() {
-            Some((edge, others)) if edge.x == x => {
-                self.edges = others;
-                edge.weight
-            }
-            _ => 0,
+        if self.column() != x {
+            return 0;
         }
+        self.pass().weight
     }
 }

@@ -1,13 +1,13 @@
 //! Entering rows, and passing their edges.
-ghost use Rattle.std.specs.Prelude.{◌≡◌, ℤ, length};
+ghost use Rattle.std.specs.Prelude.{◌≡◌, ℤ, ◌≤ℤ◌, ◌<ℤ◌, length};
+ghost use Rattle.mf_geom.specs.Coordinates.{greatest_coordinate};
 ghost use Rattle.mf_geom.specs.Field.{IsColumnOrRow};
 ghost use Rattle.mf_edges.specs.Merging.{IsDifference};
 ghost use Rattle.mf_strips.specs.PileWeights.{weight_in_pile};
-ghost use Rattle.mf_strips.specs.Rests.{HasPassedColumn, IsFirstColumn, IsNextEdge, weight_in_all};
-ghost use Rattle.mf_strips.specs.RowEdges.{AreSameRows, rests_of, weight_left, weights_of};
+ghost use Rattle.mf_strips.specs.Rests.{IsNextEdge, IsPassedTo, first_column_of, weight_in_all};
+ghost use Rattle.mf_strips.specs.RowEdges.{AreSameRows, weight_left, weights_of};
 
 use super::RowEdges;
-use crate::equal_rows::EqualRows;
 use crate::pile::{MAX_PARTS, Pile};
 use crate::rest::Rest;
 use mf_edges::{Edge, FIELD_END, FIELD_START};
@@ -34,7 +34,7 @@ impl<'a> RowEdges<'a> {
         let mut bottom = FIELD_START;
         let parts = &self.pile.parts[..];
         for i in 0..parts.len() {
-            let rows = EqualRows::find(parts[i].strips(), y);
+            let rows = parts[i].equal_rows(y);
             rests[i] = Rest::of(rows.edges);
             bottom = bottom.max(rows.bottom);
         }
@@ -57,8 +57,8 @@ impl<'a> RowEdges<'a> {
 /// Passes the next edge. Mostly there is one part, and it takes few steps.
 #[inline(always)]
 fn pass_edge(rests: &mut [Rest<'_>]) -> Edge
-    requires { (x : ℤ) → IsDifference (weight_in_all (rests_of rests.old) x) }
-    ensures passed { IsNextEdge (weight_in_all (rests_of rests.old)) (weight_in_all (rests_of rests.new)) result }
+    requires { (x : ℤ) → IsDifference (weight_in_all rests.old x) }
+    ensures passed { IsNextEdge (weight_in_all rests.old) (weight_in_all rests.new) result }
     ensures each { length rests.new ≡ length rests.old }
 {
     if rests.len() == 1 {
@@ -69,22 +69,22 @@ fn pass_edge(rests: &mut [Rest<'_>]) -> Edge
 
 /// Passes the first column in which the edges of all parts have a sum that is not 0.
 fn pass_together(rests: &mut [Rest<'_>]) -> Edge
-    requires { (x : ℤ) → IsDifference (weight_in_all (rests_of rests.old) x) }
-    ensures passed { IsNextEdge (weight_in_all (rests_of rests.old)) (weight_in_all (rests_of rests.new)) result }
+    requires { (x : ℤ) → IsDifference (weight_in_all rests.old x) }
+    ensures passed { IsNextEdge (weight_in_all rests.old) (weight_in_all rests.new) result }
     ensures each { length rests.new ≡ length rests.old }
 {
-    let mut x = first_column(rests);
-    let mut weight = pass_column(rests, x);
-    while weight == 0 && x < FIELD_END {
-        x = first_column(rests);
-        weight = pass_column(rests, x);
+    loop {
+        let x = first_column(rests);
+        let weight = pass_column(rests, x);
+        if weight != 0 || x == FIELD_END {
+            return Edge { x, weight };
+        }
     }
-    Edge { x, weight }
 }
 
 /// The column of the first edge, the end of the field where there is none.
 fn first_column(rests: &[Rest<'_>]) -> i32
-    ensures { IsFirstColumn (rests_of rests.now) result }
+    ensures { result ≡ first_column_of rests.now }
 {
     let mut first = FIELD_END;
     for rest in rests {
@@ -96,9 +96,11 @@ fn first_column(rests: &[Rest<'_>]) -> i32
 /// Passes the edges at column x, to the left of which there are none. Answers the sum of their weights. Sums of some of them may wrap,
 /// but that of all does not.
 fn pass_column(rests: &mut [Rest<'_>], x: i32) -> i32
-    requires first { IsFirstColumn (rests_of rests.old) x }
-    requires difference { IsDifference (weight_in_all (rests_of rests.old) x) }
-    ensures passed { HasPassedColumn x result (rests_of rests.old) (rests_of rests.new) }
+    requires first { x ≤ℤ first_column_of rests.old }
+    requires difference { IsDifference (weight_in_all rests.old x) }
+    ensures weight { result ≡ weight_in_all rests.old x }
+    ensures passed { IsPassedTo x (weight_in_all rests.old) (weight_in_all rests.new) }
+    ensures further { x <ℤ greatest_coordinate → x <ℤ first_column_of rests.new }
     ensures each { length rests.new ≡ length rests.old }
 {
     let mut weight = 0i32;
