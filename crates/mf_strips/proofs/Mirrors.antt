@@ -18,7 +18,7 @@ use Rattle.mf_strips.specs.Parts.{strips_in, weight_in_part}
 use Rattle.mf_strips.proofs.Negations.{wrapped_negation}
 use Rattle.mf_strips.proofs.StripMaps.{AreLists, each_row, map_same, row_at-map, with_rows, starts_from}
 use Rattle.mf_geom.specs.Coordinates.{least_coordinate, greatest_coordinate}
-use Rattle.mf_strips.specs.Strips.{EdgeStrip, AreAbove, AreStripsFrom, row_in, weight_in_strips}
+use Rattle.mf_strips.specs.Strips.{AreAbove, AreStripsFrom, row_in, weight_in_strips}
 use Rattle.mf_strips.proofs.StripsLemmas.{row_in-below, row_in-from, row_in-pushed, row_in-kept, strips_push, no_edges, none_reached}
 
 -- ---- heads
@@ -70,59 +70,48 @@ lists_mirrored p =
 
 -- ---- strips
 
--- the strips from the bottom up, each with the row above it
-abbrev opposite_strips : List Edge → List EdgeStrip → List EdgeStrip
-opposite_strips above [] = []
-opposite_strips above (s ∷ ss) = opposite_strips s.edges ss ++ record { top = neg_ℤ s.top; edges = above } ∷ []
-
-record AreOpposite (above : List Edge) (top reach : ℤ) (ss new : List EdgeStrip) : Type 0 where
-  strips : AreStripsFrom greatest_coordinate reach new
-  higher : (low : ℤ) → low <ℤ neg_ℤ top → AreAbove low new
-  rows : (last : List Edge) → row_in above ss (least_coordinate -ℤ pos 1) ≡ last → (y : ℤ) → row_in last new y ≡ row_in above ss (opposite y)
-
-opposites : (above : List Edge) (top reach : ℤ) (ss : List EdgeStrip) → AreStripsFrom top reach ss → top ≤ℤ greatest_coordinate
-    → AreEdges above → StaysInReach reach above → AreOpposite above top reach ss (opposite_strips above ss)
-unfolding row_in
-opposites above top reach [] strips high edges reached = record { strips = tt; higher = λ low lt. All-nil (λ s. low <ℤ s.top); rows = λ last end y. sym end }
-opposites above top reach (s ∷ ss) strips high edges reached =
-    let t : EdgeStrip = record { top = neg_ℤ s.top; edges = above } in
-    let le : s.top ≤ℤ top = strips.1 in
-    let strip = strips.0 in
-    let next = opposites s.edges (s.top -ℤ pos 1) reach ss strips.2 (omega (arith, ints)) strip.edges strip.reached in
-    let lower = next.higher t.top (omega (arith, ints)) in
-    record {
-      strips = strips_push greatest_coordinate reach (opposite_strips s.edges ss) t next.strips lower (omega (arith, ints, strip.bottom))
-          (record { bottom = omega (arith, ints); edges = edges; reached = reached });
-      higher = λ low lt. All-push (λ s. low <ℤ s.top) (opposite_strips s.edges ss) t (next.higher low (omega (arith, ints))) (omega (arith, ints));
-      rows = λ last end y.
-          let bottom = row_in-below above s ss (least_coordinate -ℤ pos 1) (omega (arith, ints, strip.bottom)) in
-          by_lt_z y t.top
-          (λ lt. row_in-pushed last (opposite_strips s.edges ss) t y lower lt ∙ sym (row_in-from above (s ∷ ss) (opposite y) (omega (arith, ints))))
-          (λ ge.
-          row_in-kept last (opposite_strips s.edges ss) t y ge ∙ next.rows last (sym bottom ∙ end) y
-          ∙ sym (row_in-below above s ss (opposite y) (omega (arith, ints))));
-    }
-
--- ---- heads
-
--- the heads of these strips, below a row whose edges stand at `start`
+-- the heads of strips from the bottom up, each with the row above it, which stands at `start`
 abbrev pub opposite_heads : ℕ → ℕ → List Head → List Head
 opposite_heads start count [] = []
 opposite_heads start count (h ∷ hs) = opposite_heads h.start h.count hs ++ record { top = neg_ℤ h.top; count = count; start = start } ∷ []
 
-heads_opposite : (es : List Edge) (start count : ℕ) (hs : List Head) → start + count ≤ length es → AreHeads es hs
-    → AreHeads es (opposite_heads start count hs)
-heads_opposite es start count [] there heads = heads
-heads_opposite es start count (h ∷ hs) there heads =
-    All-push (IsHead es) (opposite_heads h.start h.count hs) (record { top = neg_ℤ h.top; count = count; start = start })
-    (heads_opposite es h.start h.count hs (All-head (IsHead es) h hs heads).there (All-tail (IsHead es) h hs heads)) (record { there = there })
+record AreOpposite (es above : List Edge) (top reach : ℤ) (hs new : List Head) : Type 0 where
+  placed : AreHeads es new
+  strips : AreStripsFrom greatest_coordinate reach (strips_at es new)
+  higher : (low : ℤ) → low <ℤ neg_ℤ top → AreAbove low (strips_at es new)
+  rows : (last : List Edge) → row_in above (strips_at es hs) (least_coordinate -ℤ pos 1) ≡ last → (y : ℤ)
+      → row_in last (strips_at es new) y ≡ row_in above (strips_at es hs) (opposite y)
 
-strips_at-opposite : (es : List Edge) (start count : ℕ) (hs : List Head)
-    → strips_at es (opposite_heads start count hs) ≡ opposite_strips (take count (drop start es)) (strips_at es hs)
-strips_at-opposite es start count [] = refl
-strips_at-opposite es start count (h ∷ hs) =
+opposites : (es : List Edge) (start count : ℕ) (top reach : ℤ) (hs : List Head) → start + count ≤ length es → AreHeads es hs → AreStripsFrom top reach (strips_at es hs)
+    → top ≤ℤ greatest_coordinate → AreEdges (take count (drop start es)) → StaysInReach reach (take count (drop start es))
+    → AreOpposite es (take count (drop start es)) top reach hs (opposite_heads start count hs)
+unfolding row_in
+opposites es start count top reach [] there heads strips high edges reached =
+    record { placed = heads; strips = tt; higher = λ low lt. All-nil (λ s. low <ℤ s.top); rows = λ last end y. sym end }
+opposites es start count top reach (h ∷ hs) there heads strips high edges reached =
+    let above = take count (drop start es) in
+    let s = strip_at es h in
+    let ss = strips_at es hs in
     let t : Head = record { top = neg_ℤ h.top; count = count; start = start } in
-    map_push (strip_at es) (opposite_heads h.start h.count hs) t ∙ ap (λ ss. ss ++ strip_at es t ∷ []) (strips_at-opposite es h.start h.count hs)
+    let ts = strips_at es (opposite_heads h.start h.count hs) in
+    let le : s.top ≤ℤ top = strips.1 in
+    let strip = strips.0 in
+    let next = opposites es h.start h.count (s.top -ℤ pos 1) reach hs (All-head (IsHead es) h hs heads).there (All-tail (IsHead es) h hs heads) strips.2 (omega (arith, ints))
+    strip.edges strip.reached in
+    let lower = next.higher t.top (omega (arith, ints)) in
+    let pushed : strips_at es (opposite_heads start count (h ∷ hs)) ≡ ts ++ strip_at es t ∷ [] = map_push (strip_at es) (opposite_heads h.start h.count hs) t in
+    record {
+      placed = All-push (IsHead es) (opposite_heads h.start h.count hs) t next.placed (record { there = there });
+      strips = rw pushed (strips_push greatest_coordinate reach ts (strip_at es t) next.strips lower (omega (arith, ints, strip.bottom))
+          (record { bottom = omega (arith, ints); edges = edges; reached = reached }));
+      higher = λ low lt. rw pushed (All-push (λ s. low <ℤ s.top) ts (strip_at es t) (next.higher low (omega (arith, ints))) (omega (arith, ints)));
+      rows = λ last end y. rw pushed (by_lt_z y t.top
+          (λ lt. row_in-pushed last ts (strip_at es t) y lower lt ∙ sym (row_in-from above (s ∷ ss) (opposite y) (omega (arith, ints))))
+          (λ ge.
+          row_in-kept last ts (strip_at es t) y ge
+          ∙ next.rows last (sym (row_in-below above s ss (least_coordinate -ℤ pos 1) (omega (arith, ints, strip.bottom))) ∙ end) y
+          ∙ sym (row_in-below above s ss (opposite y) (omega (arith, ints)))));
+    }
 
 -- the next head goes before those that were written, once these are reversed
 pub opposite_more : (whole hs done : List Head) (start count i : ℕ) (d : Head) → i < length hs
@@ -141,17 +130,17 @@ unfolding weight_in_strips
 lists_opposite p =
     let ss = strips_in p in
     let strips = p.lawful in
-    let all = opposites [] greatest_coordinate p.reach ss strips.strips (omega (arith, ints)) no_edges (none_reached p.reach strips.least strips.most) in
+    let all = opposites p.edges.items 0 0 greatest_coordinate p.reach p.heads.items (omega arith) p.placed strips.strips (omega (arith, ints)) no_edges
+    (none_reached p.reach strips.least strips.most) in
     let first = starts_from greatest_coordinate p.reach ss greatest_coordinate strips.strips (omega (arith, ints)) in
     let rows = all.rows [] strips.closed in
-    let same = strips_at-opposite p.edges.items 0 0 p.heads.items in
     record {
-      placed = heads_opposite p.edges.items 0 0 p.heads.items (omega arith) p.placed;
-      lawful = rw same (record {
+      placed = all.placed;
+      lawful = record {
         strips = all.strips;
         closed = rows (least_coordinate -ℤ pos 1) ∙ row_in-from [] ss greatest_coordinate first;
         least = strips.least;
         most = strips.most;
-      });
-      weights = rw same (record { weights = λ x y. ap (λ es. weight_in es x) (rows y) });
+      };
+      weights = record { weights = λ x y. ap (λ es. weight_in es x) (rows y) };
     }

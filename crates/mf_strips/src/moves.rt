@@ -14,6 +14,7 @@ use std::alloc::Global;
 
 /// The part reflected in the line between columns -1 and 0: column x becomes column -x - 1. Refused with `OutOfMemory` where an allocation
 /// fails.
+#[tactic(auto, using(crate::proofs::Mirrors::lists_mirrored))]
 pub fn mirrored_columns(alloc: Global, part: &Part) -> Result<Part, OutOfMemory>
     ensures weights { IfOk result (λ new. HaveStripWeights (moved_columns opposite (weight_in_part part.now)) (strips_in new)) }
     ensures reach { IfOk result (λ new. new.reach ≡ part.now.reach) }
@@ -78,6 +79,7 @@ pub fn mirrored_rows(alloc: Global, part: &Part) -> Result<Part, OutOfMemory>
 
 /// The part after its columns and rows are stretched. Refused with `OutOfMemory` where an allocation fails. Requires factors in 1..=4095,
 /// and that all pixels whose weight is not 0 stay in the field.
+#[tactic(auto, using(crate::proofs::Stretches::lists_stretched))]
 pub fn stretched(
     alloc: Global,
     part: &Part,
