@@ -17,6 +17,7 @@ use Rattle.mf_strips.specs.declared.pile.Pile.{Pile}
 use Rattle.mf_strips.specs.PileWeights.{weight_in_pile, weight_with_part, HasPileWeights}
 use Rattle.mf_strips.specs.Strips.{EdgeStrip, row_in, weight_in_strips, AreStrips, HaveStripWeights, IsUnlawfulSomewhere}
 use Rattle.mf_strips.specs.Sums.{sum_in_strips}
+use Rattle.mf_strips.proofs.PileReads.{weight_pushed}
 use Rattle.mf_strips.proofs.StripsLemmas.{row_reached, none_reached}
 
 -- ---- reaches
@@ -54,12 +55,6 @@ shared_piled ps qs reach same piled =
     rw is (same_piled count (weights_shared ps qs same) piled)
 
 -- ---- a part that is added
-
-weight_pushed : (ps : List (Arc Part Global)) (p : Arc Part Global) (x y : ℤ)
-    → weight_in_parts (ps ++ p ∷ []) x y ≡ weight_in_parts ps x y +ℤ weight_in_part (arc_value p) x y
-unfolding weight_in_parts
-weight_pushed [] p x y = omega (arith, ints)
-weight_pushed (q ∷ ps) p x y = omega (arith, ints, weight_pushed ps p x y)
 
 pub pushed_weights : (p new : Pile) (q : Arc Part Global) (ps qs : List (Arc Part Global)) → ((x y : ℤ) → weight_in_parts ps x y ≡ weight_in_pile p x y)
     → qs ≡ ps ++ q ∷ [] → ((x y : ℤ) → weight_in_pile new x y ≡ weight_in_parts qs x y) → HasPileWeights (weight_with_part p (arc_value q)) new

@@ -9,7 +9,6 @@ mod moves;
 mod negation;
 mod part;
 mod pile;
-mod pile_reading;
 mod rest;
 mod row_edges;
 mod side;

@@ -3,7 +3,6 @@ ghost use Rattle.std.specs.Prelude.{◌≡◌, ◌↔◌, [], IsTrue};
 ghost use Rattle.mf_strips.specs.PileWeights.{weight_in_pile};
 
 use super::Pile;
-use crate::pile_reading::weight_in_pile;
 
 impl Pile {
     /// Whether it has no parts. Weights of parts may cancel, so a pile with parts may be blank, too.
@@ -17,6 +16,11 @@ impl Pile {
     pub fn weight(&self, x: i32, y: i32) -> i32
         ensures { result ≡ weight_in_pile self.now x y }
     {
-        weight_in_pile(&self.parts, x, y)
+        // Sums of some of the weights may wrap, but that of all does not.
+        let mut weight = 0i32;
+        for part in &self.parts {
+            weight = weight.wrapping_add(part.weight(x, y));
+        }
+        weight
     }
 }
