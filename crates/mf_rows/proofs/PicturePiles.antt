@@ -20,7 +20,7 @@ use Rattle.mf_strips.specs.declared.corner.Corner.{Corner}
 use Rattle.mf_strips.specs.Changes.{negated_weight_in}
 use Rattle.mf_strips.specs.Moves.{StripsStayInside}
 use Rattle.mf_strips.specs.Parts.{strips_in, weight_in_part, weight_in_parts}
-use Rattle.mf_strips.specs.PileWeights.{weight_in_pile, weight_with_part, HasPileWeights}
+use Rattle.mf_strips.specs.PileWeights.{weight_in_pile, weight_with_part}
 use Rattle.mf_strips.specs.Strips.{row_in, weight_in_strips, HaveStripWeights}
 pub use Rattle.mf_strips.proofs.PartsLemmas.{by_field}
 use Rattle.mf_strips.proofs.PartsLemmas.{strips_outside}
@@ -57,10 +57,6 @@ pile_weight p x y =
     (λ inside. weight_at-picture_of (weight_in_pile p) x y inside)
     (λ outside. weight_at-outside (picture_of (weight_in_pile p)) x y (lawful_pile p) outside ∙ sym (parts_outside p.parts.items x y outside))
 
--- piles with the same weights are the same picture
-pub same_pile_picture : (p q : Pile) → HasPileWeights (weight_in_pile p) q → picture_of (weight_in_pile q) ≡ picture_of (weight_in_pile p)
-same_pile_picture p q same = ap picture_of (λ i x y. same.weights x y i)
-
 pub blank_pile : (p : Pile) → p.parts.items ≡ [] → picture_of (weight_in_pile p) ≡ []
 unfolding weight_in_parts weight_at
 blank_pile p none =
@@ -96,8 +92,8 @@ pub part_is : (p : Pile) (part : Part) → HaveStripWeights (weight_in_pile p) (
 part_is p part whole = λ i x y. (whole.weights x y ∙ sym (pile_weight p x y)) i
 
 -- the picture of a pile has the weights of the pile in the field
-pub has_weights : {f g : ℤ → ℤ → ℤ} (p : Pile) → HasPileWeights g p → ((x y : ℤ) → IsInField x y → g x y ≡ f x y) → HasWeights f (picture_of (weight_in_pile p))
-has_weights p has same = record { weights = λ x y inside. pile_weight p x y ∙ has.weights x y ∙ same x y inside }
+pub has_weights : {f g : ℤ → ℤ → ℤ} (p : Pile) → weight_in_pile p ≡ g → ((x y : ℤ) → IsInField x y → g x y ≡ f x y) → HasWeights f (picture_of (weight_in_pile p))
+has_weights p has same = record { weights = λ x y inside. pile_weight p x y ∙ (λ i. has i x y) ∙ same x y inside }
 
 -- ---- sums
 

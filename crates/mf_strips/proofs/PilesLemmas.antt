@@ -1,5 +1,5 @@
 -- Piles of parts.
-use Rattle.std.proofs.Common.{◌≡◌, to_z, of_z, w32, ℕ, ◌+◌, ◌<◌, ◌≤◌, ℤ, pos, ◌+ℤ◌, ◌≤ℤ◌, List, [], ◌∷◌, ◌++◌, length, get_or, take, map, refl, ap, sym, subst, ◌∙◌, length-append, arith}
+use Rattle.std.proofs.Common.{◌≡◌, to_z, of_z, w32, ℕ, ◌+◌, ◌<◌, ◌≤◌, ℤ, pos, ◌+ℤ◌, ◌≤ℤ◌, List, [], ◌∷◌, ◌++◌, length, get_or, take, map, refl, ap, sym, ◌∙◌, length-append, arith}
 use Rattle.std.proofs.Math.ListN.{set}
 use Rattle.std.proofs.Math.Seq.{take-set-lt}
 use Rattle.std.proofs.lemmas.List.{length-map, nil_from_length, take_all, take_more, take_more_set}
@@ -14,7 +14,7 @@ use Rattle.mf_strips.specs.declared.part.Part.{Part}
 use Rattle.mf_strips.specs.Parts.{strips_in, weight_in_part, weight_in_parts}
 use Rattle.mf_strips.specs.Piles.{most_parts, ArePiled}
 use Rattle.mf_strips.specs.declared.pile.Pile.{Pile}
-use Rattle.mf_strips.specs.PileWeights.{weight_in_pile, weight_with_part, HasPileWeights}
+use Rattle.mf_strips.specs.PileWeights.{weight_in_pile, weight_with_part}
 use Rattle.mf_strips.specs.Strips.{EdgeStrip, row_in, weight_in_strips, AreStrips, HaveStripWeights, IsUnlawfulSomewhere}
 use Rattle.mf_strips.specs.Sums.{sum_in_strips}
 use Rattle.mf_strips.proofs.PileReads.{weight_pushed}
@@ -31,22 +31,22 @@ pub piled_least : {ps : List (Arc Part Global)} {reach : ℤ} → ArePiled ps re
 piled_least piled = let some = piled.within (pos 0) (pos 0) in omega (arith, ints, some.least, some.greatest)
 
 -- fewer parts, or as many, may take the place of those of a pile where they have the same weights
-pub same_piled : {ps qs : List (Arc Part Global)} {reach : ℤ} → length qs ≤ length ps → ((x y : ℤ) → weight_in_parts qs x y ≡ weight_in_parts ps x y)
+pub same_piled : {ps qs : List (Arc Part Global)} {reach : ℤ} → length qs ≤ length ps → weight_in_parts qs ≡ weight_in_parts ps
     → ArePiled ps reach → ArePiled qs reach
 same_piled fewer same piled =
-    record { few = omega (arith, piled.few); within = λ x y. subst (IsInReach _) (sym (same x y)) (piled.within x y); most = piled.most }
+    record { few = omega (arith, piled.few); within = rw same piled.within; most = piled.most }
 
 -- ---- parts that are shared
 
-pub weights_shared : (ps qs : List (Arc Part Global)) → map arc_value qs ≡ map arc_value ps → (x y : ℤ) → weight_in_parts qs x y ≡ weight_in_parts ps x y
+pub weights_shared : (ps qs : List (Arc Part Global)) → map arc_value qs ≡ map arc_value ps → weight_in_parts qs ≡ weight_in_parts ps
 unfolding weight_in_parts
-weights_shared [] [] same x y = refl
-weights_shared [] (q ∷ qs) same x y = absurd cc
-weights_shared (p ∷ ps) [] same x y = absurd cc
-weights_shared (p ∷ ps) (q ∷ qs) same x y =
+weights_shared [] [] same = refl
+weights_shared [] (q ∷ qs) same = absurd cc
+weights_shared (p ∷ ps) [] same = absurd cc
+weights_shared (p ∷ ps) (q ∷ qs) same =
     let first : arc_value q ≡ arc_value p = cc in
     let others : map arc_value qs ≡ map arc_value ps = cc in
-    (λ i. weight_in_part (first i) x y +ℤ weights_shared ps qs others x y i)
+    λ i x y. weight_in_part (first i) x y +ℤ weights_shared ps qs others i x y
 
 pub shared_piled : (ps qs : List (Arc Part Global)) (reach : ℤ) → map arc_value qs ≡ map arc_value ps → ArePiled ps reach → ArePiled qs (to_z w32 (of_z w32 reach))
 shared_piled ps qs reach same piled =
@@ -56,12 +56,10 @@ shared_piled ps qs reach same piled =
 
 -- ---- a part that is added
 
-pub pushed_weights : (p new : Pile) (q : Arc Part Global) (ps qs : List (Arc Part Global)) → ((x y : ℤ) → weight_in_parts ps x y ≡ weight_in_pile p x y)
-    → qs ≡ ps ++ q ∷ [] → ((x y : ℤ) → weight_in_pile new x y ≡ weight_in_parts qs x y) → HasPileWeights (weight_with_part p (arc_value q)) new
+pub pushed_weights : (p : Pile) (q : Arc Part Global) (ps : List (Arc Part Global)) → weight_in_parts ps ≡ weight_in_pile p
+    → weight_in_parts (ps ++ q ∷ []) ≡ weight_with_part p (arc_value q)
 unfolding weight_with_part
-pushed_weights p new q ps qs before all after = record {
-  weights = λ x y. after x y ∙ ap (λ ps. weight_in_parts ps x y) all ∙ weight_pushed ps q x y ∙ ap (λ w. w +ℤ weight_in_part (arc_value q) x y) (before x y);
-}
+pushed_weights p q ps before = λ i x y. (weight_pushed ps q x y ∙ (λ t. before t x y +ℤ weight_in_part (arc_value q) x y)) i
 
 pub pushed_piled : (ps : List (Arc Part Global)) (q : Arc Part Global) (reach : ℤ) → ArePiled ps reach → length ps < most_parts
     → (reach +ℤ (arc_value q).reach) ≤ℤ greatest_weight → ArePiled (ps ++ q ∷ []) (reach +ℤ (arc_value q).reach)
@@ -81,9 +79,11 @@ pub sum_is_small : (a r x : ℤ) → pos 0 ≤ℤ a → a ≤ℤ greatest_weight
 sum_is_small a r x least_a most_a least_r most_r is = omega (arith, ints)
 
 -- a pile of one part
-pub single_weight : (p : Arc Part Global) (x y : ℤ) → weight_in_parts (p ∷ []) x y ≡ weight_in_part (arc_value p) x y
+pub single_weight : (p : Arc Part Global) → weight_in_parts (p ∷ []) ≡ weight_in_part (arc_value p)
 unfolding weight_in_parts
-single_weight p x y = omega (arith, ints)
+single_weight p =
+    let same : (x y : ℤ) → weight_in_part (arc_value p) x y +ℤ pos 0 ≡ weight_in_part (arc_value p) x y = λ x y. omega (arith, ints) in
+    λ i x y. same x y i
 
 pub single_piled : (p : Arc Part Global) → ArePiled (p ∷ []) (arc_value p).reach
 single_piled p = record {
@@ -109,36 +109,33 @@ module _ (ps : List (Arc Part Global)) (n less : ℕ) (p q s : Arc Part Global) 
       sym (take_all (n + 1 + 1) ps (omega arith)) ∙ take_more ps (n + 1) q (omega arith)
       ∙ (λ i. take_more ps n p (omega arith) i ++ sym second i ∷ []) ∙ (λ i. (take n ps ++ sym first i ∷ []) ++ q ∷ [])
 
-  pub weights_joined : (x y : ℤ) → weight_in_parts (set (take less ps) n s) x y ≡ weight_in_parts ps x y
+  joined : (x y : ℤ) → weight_in_parts (set (take less ps) n s) x y ≡ weight_in_parts ps x y
   unfolding sum_in_strips
-  weights_joined x y =
+  joined x y =
       let front = take n ps in
       let all = ap (λ ps. weight_in_parts ps x y) before in
       let own = made.weights x y in
       rw after (omega (arith, ints, all, own, ap (λ p. weight_in_part p x y) is, weight_pushed front s x y, weight_pushed front p x y, weight_pushed (front ++ p ∷ []) q x y))
 
--- ---- weights that stay
-
-pub same_pile : (f : ℤ → ℤ → ℤ) (old new : Pile) → HasPileWeights f old → HasPileWeights (weight_in_pile old) new → HasPileWeights f new
-same_pile f old new had has = record { weights = λ x y. has.weights x y ∙ had.weights x y }
-
-pub pile_itself : (p : Pile) → HasPileWeights (weight_in_pile p) p
-pile_itself p = record { weights = λ x y. refl }
+  pub weights_joined : weight_in_parts (set (take less ps) n s) ≡ weight_in_parts ps
+  weights_joined = λ i x y. joined x y i
 
 -- ---- one part alone
 
 -- where there is at most one part, it has all weights
-pub alone : (f : ℤ → ℤ → ℤ) (ps others : List (Arc Part Global)) (p : Arc Part Global) → length ps ≤ 1 → ps ≡ others ++ p ∷ []
-    → ((x y : ℤ) → weight_in_parts ps x y ≡ f x y) → HaveStripWeights f (strips_in (arc_value p))
-unfolding weight_in_parts
+pub alone : (f : ℤ → ℤ → ℤ) (ps others : List (Arc Part Global)) (p : Arc Part Global) → length ps ≤ 1 → ps ≡ others ++ p ∷ [] → weight_in_parts ps ≡ f
+    → HaveStripWeights f (strips_in (arc_value p))
 alone f ps others p one all weights =
     let none : others ≡ [] = nil_from_length others (omega (arith, one, ap (λ (ps : List (Arc Part Global)). length ps) all, length-append others (p ∷ []))) in
-    record { weights = λ x y. omega (arith, ints, weights x y, ap (λ ps. weight_in_parts ps x y) (all ∙ (λ i. none i ++ p ∷ []))) }
+    let single = sym (single_weight p) ∙ ap weight_in_parts (sym (all ∙ (λ i. none i ++ p ∷ []))) ∙ weights in
+    record { weights = λ x y i. single i x y }
 
 -- where there is none, all weights are 0
-pub none_alone : (f : ℤ → ℤ → ℤ) (ps : List (Arc Part Global)) (ss : List EdgeStrip) → ps ≡ [] → ss ≡ [] → ((x y : ℤ) → weight_in_parts ps x y ≡ f x y) → HaveStripWeights f ss
+pub none_alone : (f : ℤ → ℤ → ℤ) (ps : List (Arc Part Global)) (ss : List EdgeStrip) → ps ≡ [] → ss ≡ [] → weight_in_parts ps ≡ f → HaveStripWeights f ss
 unfolding weight_in_parts weight_in_strips row_in weight_in
-none_alone f ps ss none no_strips weights = record { weights = λ x y. rw no_strips (ap (λ ps. weight_in_parts ps x y) (sym none) ∙ weights x y) }
+none_alone f ps ss none no_strips weights =
+    let all = ap weight_in_parts (sym none) ∙ weights in
+    record { weights = λ x y. rw no_strips (λ i. all i x y) }
 
 pub no_strips : AreStrips (pos 0) []
 unfolding row_in
@@ -157,4 +154,4 @@ pub unlawful_as : {f g : ℤ → ℤ → ℤ} (unlawful : IsUnlawfulSomewhere f)
 unlawful_as unlawful same = grind (arith, ints)
 
 -- what the methods of piles use
-pub ruleset of_piles = (ints, alone, none_piled, pile_itself, same_pile, single_piled, single_weight, weights_shared)
+pub ruleset of_piles = (ints, alone, none_piled, single_piled, single_weight, weights_shared)

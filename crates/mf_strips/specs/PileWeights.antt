@@ -1,5 +1,5 @@
 -- The weights of piles.
-use Rattle.std.specs.Prelude.{◌≡◌, ℤ, ◌+ℤ◌}
+use Rattle.std.specs.Prelude.{ℤ, ◌+ℤ◌}
 use Rattle.mf_strips.specs.declared.pile.Pile.{Pile}
 use Rattle.mf_strips.specs.declared.part.Part.{Part}
 use Rattle.mf_strips.specs.Parts.{weight_in_part, weight_in_parts}
@@ -11,7 +11,3 @@ weight_in_pile p = weight_in_parts p.parts.items
 -- the weight of the pixel (x, y) in a pile and a part together
 unfoldable pub weight_with_part : Pile → Part → ℤ → ℤ → ℤ
 weight_with_part p q x y = weight_in_pile p x y +ℤ weight_in_part q x y
-
--- a pile has the weight f x y at each pixel (x, y)
-pub record HasPileWeights (f : ℤ → ℤ → ℤ) (p : Pile) : Type 0 where
-  pub weights : (x y : ℤ) → weight_in_pile p x y ≡ f x y

@@ -3,7 +3,7 @@ ghost use Rattle.std.specs.Prelude.{◌≡◌, ◌≢◌, ◌<◌, ◌≤◌, �
 ghost use Rattle.std.specs.Arc.{arc_value};
 ghost use Rattle.mf_strips.specs.Parts.{strips_in, weight_in_part};
 ghost use Rattle.mf_strips.specs.Piles.{most_parts};
-ghost use Rattle.mf_strips.specs.PileWeights.{weight_in_pile, weight_with_part, HasPileWeights};
+ghost use Rattle.mf_strips.specs.PileWeights.{weight_in_pile, weight_with_part};
 ghost use Rattle.mf_strips.specs.Strips.{HaveStripWeights, IsUnlawfulSomewhere};
 
 use super::{MAX_PARTS, Pile};
@@ -30,7 +30,7 @@ impl Pile {
 
     /// A pile of one part.
     pub fn of(alloc: Global, part: Arc<Part>) -> Result<Pile, OutOfMemory>
-        ensures { IfOk result (HasPileWeights (weight_in_part (arc_value part))) }
+        ensures { IfOk result (λ pile. weight_in_pile pile ≡ weight_in_part (arc_value part)) }
     {
         let reach = part.reach();
         let mut parts = Vec::new(alloc);
@@ -40,7 +40,7 @@ impl Pile {
 
     /// A pile of the same parts, which are shared.
     pub fn copy(&self, alloc: Global) -> Result<Pile, OutOfMemory>
-        ensures { IfOk result (HasPileWeights (weight_in_pile self.now)) }
+        ensures { IfOk result (λ pile. weight_in_pile pile ≡ weight_in_pile self.now) }
     {
         Ok(Pile {
             parts: share(alloc, &self.parts)?,
@@ -62,7 +62,7 @@ impl Pile {
 
     /// Joins all parts, as far as there is memory for that. The weights stay as they are.
     pub fn settle(&mut self, alloc: Global)
-        ensures { HasPileWeights (weight_in_pile self.old) self.new }
+        ensures { weight_in_pile self.new ≡ weight_in_pile self.old }
     {
         // Where memory is wanting, parts stay apart.
         let _ = self.join_all(alloc);
@@ -71,8 +71,8 @@ impl Pile {
     /// Adds a part. Refused with `WeightTooLarge` where a weight would exceed 32767 in absolute value, and with `OutOfMemory` where an
     /// allocation fails; the weights are then as they were.
     pub fn add(&mut self, alloc: Global, part: Arc<Part>) -> Result<(), AddFault>
-        ensures weights { OnOk result (HasPileWeights (weight_with_part self.old (arc_value part)) self.new) }
-        ensures unchanged { OnErr result (HasPileWeights (weight_in_pile self.old) self.new) }
+        ensures weights { OnOk result (weight_in_pile self.new ≡ weight_with_part self.old (arc_value part)) }
+        ensures unchanged { OnErr result (weight_in_pile self.new ≡ weight_in_pile self.old) }
         ensures too_large { IfErr result (λ fault. fault ≢ AddFault.OutOfMemory → IsUnlawfulSomewhere (weight_with_part self.old (arc_value part))) }
     {
         let reach = self.reach + part.reach();
@@ -88,8 +88,8 @@ impl Pile {
 
     /// Adds a part where both reaches together are beyond the limit: all weights are looked at.
     fn add_measured(&mut self, alloc: Global, part: &Part) -> Result<(), AddFault>
-        ensures weights { OnOk result (HasPileWeights (weight_with_part self.old part.now) self.new) }
-        ensures unchanged { OnErr result (HasPileWeights (weight_in_pile self.old) self.new) }
+        ensures weights { OnOk result (weight_in_pile self.new ≡ weight_with_part self.old part.now) }
+        ensures unchanged { OnErr result (weight_in_pile self.new ≡ weight_in_pile self.old) }
         ensures too_large { IfErr result (λ fault. fault ≢ AddFault.OutOfMemory → IsUnlawfulSomewhere (weight_with_part self.old part.now)) }
     {
         let all = self.joined(alloc)?;
@@ -100,7 +100,7 @@ impl Pile {
 
     /// Joins the last two parts where there are as many as there may be. The weights stay as they are.
     fn make_room(&mut self, alloc: Global) -> Result<(), OutOfMemory>
-        ensures weights { HasPileWeights (weight_in_pile self.old) self.new }
+        ensures weights { weight_in_pile self.new ≡ weight_in_pile self.old }
         ensures room { OnOk result (length self.new.parts.items < most_parts) }
         ensures reach { self.new.reach ≡ self.old.reach }
     {
@@ -112,7 +112,7 @@ impl Pile {
 
     /// Joins the last parts while the one before the last is at most twice as large, as far as there is memory for that.
     fn join_small(&mut self, alloc: Global)
-        ensures { HasPileWeights (weight_in_pile self.old) self.new }
+        ensures { weight_in_pile self.new ≡ weight_in_pile self.old }
     {
         while self.is_last_large() {
             if self.join_last(alloc).is_err() {
@@ -134,7 +134,7 @@ impl Pile {
     /// Joins all parts. Refused with `OutOfMemory` where an allocation fails; some parts may then have been joined. The weights stay as
     /// they are.
     fn join_all(&mut self, alloc: Global) -> Result<(), OutOfMemory>
-        ensures weights { HasPileWeights (weight_in_pile self.old) self.new }
+        ensures weights { weight_in_pile self.new ≡ weight_in_pile self.old }
         ensures one { OnOk result (length self.new.parts.items ≤ 1) }
     {
         while self.parts.len() > 1 {
@@ -146,7 +146,7 @@ impl Pile {
     /// Puts the sum of the last two parts in their place. Refused with `OutOfMemory` where an allocation fails; the parts then stay.
     fn join_last(&mut self, alloc: Global) -> Result<(), OutOfMemory>
         requires { 2 ≤ length self.old.parts.items }
-        ensures weights { HasPileWeights (weight_in_pile self.old) self.new }
+        ensures weights { weight_in_pile self.new ≡ weight_in_pile self.old }
         ensures fewer { OnOk result (length self.new.parts.items + 1 ≡ length self.old.parts.items) }
         ensures reach { self.new.reach ≡ self.old.reach }
     {

@@ -1,7 +1,8 @@
-use Rattle.std.proofs.Common.{sym}
+use Rattle.std.proofs.Common.{ap, sym}
 use Rattle.std.proofs.lemmas.Result.{on_ok_weaker, IfErr-weaker}
 use Rattle.mf_strips.proofs.CornersLemmas.{corners_are_swept}
-use Rattle.mf_rows.proofs.PicturePiles.{corners_are, has_weights, same_pile_picture, unlawful_as}
+use Rattle.mf_rows.specs.Weights.{picture_of}
+use Rattle.mf_rows.proofs.PicturePiles.{corners_are, has_weights, unlawful_as}
 use Rattle.mf_rows.proofs.picture.Picture.add_corners.Goals as goal
 
 pub part_of_corners-requires : goal.part_of_corners-requires
@@ -15,7 +16,7 @@ returns-clause-weights c =
 
 pub returns-clause-unchanged : goal.returns-clause-unchanged
 returns-clause-unchanged c =
-    rw (← c.self.view_is) (IfErr-weaker c.add.result _ _ (λ fault has. same_pile_picture c.self.inside.pile c.add.new.self has) c.add.ensures.unchanged)
+    rw (← c.self.view_is) (IfErr-weaker c.add.result _ _ (λ fault has. ap picture_of has) c.add.ensures.unchanged)
 
 pub returns-clause-too_large : goal.returns-clause-too_large
 returns-clause-too_large c =

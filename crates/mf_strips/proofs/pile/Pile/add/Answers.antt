@@ -2,6 +2,7 @@ use Rattle.std.proofs.Common.{ap, ◌∙◌, arith}
 use Rattle.std.specs.Arc.{arc_value}
 use Rattle.std.proofs.lemmas.Int.{ints}
 use Rattle.mf_strips.specs.declared.part.Part.{Part}
+use Rattle.mf_strips.specs.Parts.{weight_in_parts}
 use Rattle.mf_strips.proofs.PilesLemmas.{pushed_weights, pushed_piled, sum_is_small, piled_least}
 use Rattle.mf_strips.proofs.pile.Pile.add.Goals as goal
 
@@ -17,4 +18,4 @@ invariant_of-self-2 c =
 
 pub returns-clause-weights : goal.returns-clause-weights
 returns-clause-weights c =
-    pushed_weights c.args.self.now c.join_small.new.self c.args.part _ _ c.in_ok-make_room.ensures.weights.weights c.in_ok-push.ensures.items c.join_small.ensures.weights
+    c.join_small.ensures ∙ ap weight_in_parts c.in_ok-push.ensures.items ∙ pushed_weights c.args.self.now c.args.part _ c.in_ok-make_room.ensures.weights

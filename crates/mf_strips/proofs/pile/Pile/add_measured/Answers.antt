@@ -13,5 +13,4 @@ returns-in_err-sum-clause-too_large c =
 pub returns-clause-weights : goal.returns-clause-weights
 returns-clause-weights c =
     let made = rw (c.deref.ensures, sum_is c.args.self.now (arc_value c.in_ok-all.all) c.args.part.now c.in_ok-all.ensures) at c.in_ok-sum.ensures.weights in
-    let has = rw c.in_ok-new.ensures.ok at c.in_ok-self.ensures in
-    record { weights = λ x y. has.weights x y ∙ made.weights x y }
+    (rw c.in_ok-new.ensures.ok at c.in_ok-self.ensures) ∙ (λ i x y. made.weights x y i)

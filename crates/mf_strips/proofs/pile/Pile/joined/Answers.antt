@@ -10,4 +10,4 @@ pub returns : goal.returns
 returns c =
     rw c.in_ok-new-in-None.ensures.ok
     (none_alone _ _ _ (nil_from_length c.join_all.new.self.parts.items (omega (arith, c.in-None.ensures.cases))) (c.finish.ensures.strips ∙ c.in_ok-with_room-in-None.ensures)
-    (λ x y. c.in_ok-join_all.ensures.weights.weights x y ∙ c.in_ok-pile.ensures.weights x y))
+    (c.in_ok-join_all.ensures.weights ∙ c.in_ok-pile.ensures))
