@@ -69,9 +69,6 @@ pub edges_of_part : (p : Part) (x y : ℤ) → weight_in_part p x y ≡ weight_i
 unfolding weight_in_strips
 edges_of_part p x y = refl
 
-pub rows_of_part : (p : Part) (y : ℤ) → AreEdges (row_in [] (strips_in p) y)
-rows_of_part p y = row_lawful greatest_coordinate p.reach [] (strips_in p) y no_edges p.lawful.strips
-
 no_edges_of_parts : (ps : List (Arc Part Global)) (x y : ℤ) → All (λ q. row_in [] (strips_in (arc_value q)) y ≡ []) ps → weight_in_parts ps x y ≡ pos 0
 unfolding weight_in_parts weight_in_strips
 no_edges_of_parts [] x y none = refl
