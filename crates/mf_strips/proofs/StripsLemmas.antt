@@ -1,5 +1,5 @@
 -- The rows of strips.
-use Rattle.std.proofs.Common.{◌≡◌, ℤ, pos, ◌-ℤ◌, ◌≤ℤ◌, ◌<ℤ◌, List, [], ◌∷◌, ◌++◌, refl, ◌∙◌, arith}
+use Rattle.std.proofs.Common.{◌≡◌, ℤ, pos, ◌-ℤ◌, ◌≤ℤ◌, ◌<ℤ◌, List, [], ◌∷◌, ◌++◌, refl, arith}
 use Rattle.std.specs.Int.RustNames.{int_lt}
 use Rattle.std.proofs.lemmas.Bool.{cond_both, cond-true, cond-false}
 use Rattle.std.proofs.lemmas.Int.{ints, by_lt_z}
@@ -47,16 +47,13 @@ pub row_in-kept : (above : List Edge) (ss : List EdgeStrip) (s : EdgeStrip) (y :
 row_in-kept above ss s y from = row_in-front above ss (s ∷ []) y from
 
 -- below all strips, the row is that of the last one
-row_in-last : (above : List Edge) (s : EdgeStrip) (ss : List EdgeStrip) (y : ℤ) → AreAbove y (s ∷ ss) → row_in above (s ∷ ss) y ≡ last_row (s ∷ ss)
-unfolding row_in
-row_in-last above s [] y higher = row_in-below above s [] y (All-head (λ s. y <ℤ s.top) s [] higher)
-row_in-last above s (t ∷ ss) y higher =
-    row_in-below above s (t ∷ ss) y (All-head (λ s. y <ℤ s.top) s (t ∷ ss) higher) ∙ row_in-last s.edges t ss y (All-tail (λ s. y <ℤ s.top) s (t ∷ ss) higher)
-
 pub row_in-lowest : (ss : List EdgeStrip) (y : ℤ) → AreAbove y ss → row_in [] ss y ≡ last_row ss
 unfolding row_in
 row_in-lowest [] y higher = refl
-row_in-lowest (s ∷ ss) y higher = row_in-last [] s ss y higher
+row_in-lowest (s ∷ []) y higher = grind (arith, ints, cond-true, All-head)
+row_in-lowest (s ∷ t ∷ ss) y higher =
+    let others = All-tail (λ s. y <ℤ s.top) s (t ∷ ss) higher in
+    grind (arith, ints, cond-true, All-head (λ s. y <ℤ s.top) s (t ∷ ss) higher, All-head (λ s. y <ℤ s.top) t ss others, row_in-lowest (t ∷ ss) y others)
 
 -- ---- lawful strips
 

@@ -96,9 +96,5 @@ unfolding weight_in_strips
 strips_closed reach f low out written weights blank least most =
     let y = least_coordinate -ℤ pos 1 in
     let row = row_lawful greatest_coordinate reach [] out y no_edges written.strips in
-    record {
-      strips = written.strips;
-      closed = blank_row least_coordinate (row_in [] out y) row.sorted (λ x. weights.weights x y ∙ blank x);
-      least = least;
-      most = most;
-    }
+    let closed = blank_row least_coordinate (row_in [] out y) row.sorted (λ x. weights.weights x y ∙ blank x) in
+    grind (arith, ints)

@@ -73,12 +73,9 @@ pub AreEdgesFrom-prop : (low : ℤ) (es : List Edge) → IsProp (AreEdgesFrom lo
 AreEdgesFrom-prop low [] = Unit-prop
 AreEdgesFrom-prop low (e ∷ es) = hlevel (props, AreEdgesFrom-prop (e.x +ℤ pos 1) es)
 
-pub AreEdges-prop : (es : List Edge) → IsProp (AreEdges es)
-AreEdges-prop es = hlevel (props, AreEdgesFrom-prop)
-
 AreStripsFrom-prop : (top reach : ℤ) (ss : List EdgeStrip) → IsProp (AreStripsFrom top reach ss)
 AreStripsFrom-prop top reach [] = Unit-prop
-AreStripsFrom-prop top reach (s ∷ ss) = hlevel (props, AreEdges-prop, StaysInReach-prop, AreStripsFrom-prop (s.top -ℤ pos 1) reach ss)
+AreStripsFrom-prop top reach (s ∷ ss) = hlevel (props, AreEdgesFrom-prop, StaysInReach-prop, AreStripsFrom-prop (s.top -ℤ pos 1) reach ss)
 
 pub AreStrips-prop : (reach : ℤ) (ss : List EdgeStrip) → IsProp (AreStrips reach ss)
 AreStrips-prop reach ss = hlevel (props, AreStripsFrom-prop)

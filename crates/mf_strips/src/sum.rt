@@ -54,8 +54,8 @@ fn most_edges(left: &Part, right: &Part, strips: usize) -> usize {
     most
 }
 
-/// A reach of strips of a reach and of a row none of whose weights exceeds `most` in absolute value; `None` where a weight is not lawful.
-/// It is `most` where that is within the limit, and the least one otherwise.
+/// A reach of strips that stay in `reach`, and of a row none of whose weights exceeds `most` in absolute value: the greater one of `reach`
+/// and of `most`, or of the row's least reach where `most` is beyond the limit. `None` where a weight of the row is not lawful.
 fn reach_with(reach: i32, most: i32, row: &[Edge]) -> Option<i32>
     requires reach { reach ≤ℤ greatest_weight }
     requires within { IsWithin most row.now }
