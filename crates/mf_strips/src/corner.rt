@@ -65,7 +65,8 @@ fn next_height(corners: &[Corner]) -> Option<i32>
 }
 
 /// Splits off the corners at the height `top`, which the first of them has: `changes` becomes the edges by which they change the rows
-/// below it. Refused where an allocation fails, or where 32 bits do not hold a sum of weights at one place, as those of 2^16 corners may be.
+/// below it. Refused where an allocation fails, or where a sum of weights at one place does not fit into 32 bits, as that of 2^17 corners
+/// may not.
 fn split_height<'a>(
     changes: &mut Vec<Edge>,
     top: i32,
