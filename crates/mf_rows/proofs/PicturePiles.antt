@@ -22,8 +22,8 @@ use Rattle.mf_strips.specs.Moves.{StripsStayInside}
 use Rattle.mf_strips.specs.Parts.{strips_in, weight_in_part, weight_in_parts}
 use Rattle.mf_strips.specs.PileWeights.{weight_in_pile, weight_with_part}
 use Rattle.mf_strips.specs.Strips.{row_in, weight_in_strips, HaveStripWeights}
-pub use Rattle.mf_strips.proofs.PartsLemmas.{by_field}
-use Rattle.mf_strips.proofs.PartsLemmas.{strips_outside}
+pub use Rattle.mf_strips.proofs.Outside.{by_field}
+use Rattle.mf_strips.proofs.Outside.{strips_outside}
 pub use Rattle.mf_strips.proofs.PilesLemmas.{unlawful_as}
 use Rattle.mf_strips.proofs.StripsLemmas.{row_lawful, no_edges, no_weight}
 use Rattle.mf_rows.specs.Dots.{Dot, IsPicture, weight_at}

@@ -1,5 +1,6 @@
 pub mod Finding
 pub mod HeadsLemmas
+pub mod Outside
 pub mod PartsLemmas
 pub mod PileReads
 pub mod RestsLemmas

@@ -16,7 +16,7 @@ use Rattle.mf_strips.specs.Parts.{strips_of, HasPassed, HavePassed}
 use Rattle.mf_strips.specs.Strips.{EdgeStrip, last_row, row_in, weight_in_strips, AreStrips, AreStripsDownTo, HaveStripWeights, IsUnlawfulSomewhere}
 use Rattle.mf_strips.specs.Sums.{sum_in_strips, HasSumStrip, IsWithin}
 use Rattle.mf_strips.proofs.HeadsLemmas.{last_row-push}
-use Rattle.mf_strips.proofs.PartsLemmas.{by_field, strips_outside}
+use Rattle.mf_strips.proofs.Outside.{by_field, strips_outside}
 use Rattle.mf_strips.proofs.StripMaps.{rows_lawful}
 use Rattle.mf_strips.proofs.StripsLemmas.{no_weight, row_in-front, row_in-lowest, starts_from, wider_strips}
 use Rattle.mf_strips.proofs.Written.{ArePassed, GoOn, all_passed, go_on, go_on_with, none_passed, one_passed, passes, strips_closed, strips_none}
