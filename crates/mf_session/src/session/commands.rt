@@ -75,6 +75,7 @@ impl Session {
         ensures identity { identity self.new ≡ identity self.old }
     {
         match command {
+            Command::Total(source) => self.variables.settle(alloc, source),
             Command::Show(source) => self.variables.settle(alloc, source),
             Command::Proof(source) => self.variables.settle(alloc, source),
             Command::Ship(source, _, _, _) => self.variables.settle(alloc, source),
