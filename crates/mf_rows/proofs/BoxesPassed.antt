@@ -1,11 +1,14 @@
 -- The least box of the pixels that a walk has passed.
-use Rattle.std.proofs.Common.{◌≡◌, Bool, true, false, ℤ, pos, ◌+ℤ◌, ◌-ℤ◌, ◌≤ℤ◌, ◌<ℤ◌, Option, None, Some, refl, sym, ap, ◌∙◌, arith}
+use Rattle.std.proofs.Common.{◌≡◌, ◌≢◌, Bool, true, false, not, ℤ, pos, ◌+ℤ◌, ◌-ℤ◌, ◌≤ℤ◌, ◌<ℤ◌, Option, None, Some, refl, sym, ap, ◌∙◌, arith}
 use Rattle.std.specs.Int.{int_min}
 use Rattle.std.proofs.lemmas.Bool.{cond-true, cond-false, false≢true, false_from_ne_true}
+use Rattle.std.proofs.lemmas.Bool.Decides.{Decides-int_eq}
 use Rattle.std.proofs.lemmas.Int.{ints, clamps, by_lt_z}
+use Rattle.std.specs.Ordering.{int_eq}
 use Rattle.mf_geom.specs.Coordinates.{least_coordinate, greatest_coordinate}
 use Rattle.mf_geom.specs.Field.{IsInField}
-use Rattle.mf_strips.specs.RowEdges.{weights_of}
+use Rattle.mf_strips.specs.Rests.{AreEnds}
+use Rattle.mf_strips.specs.RowEdges.{weight_left, weights_of}
 use Rattle.mf_rows.specs.declared.bounds.Box4.{Box4}
 use Rattle.mf_rows.specs.declared.bounds.Pixels.{Pixels}
 use Rattle.mf_rows.specs.declared.bounds.Pixels.TheVariants.{Nonzero, Black}
@@ -14,7 +17,7 @@ use Rattle.mf_rows.specs.Bounds.{AreBounds, AreColumns, IsBoxRound, IsIn, among,
 use Rattle.mf_rows.specs.Remaining.{HasPassed, HasPassedRow}
 use Rattle.mf_rows.proofs.BoxesJoined.{either_min, either_max, within_first, within_second}
 use Rattle.mf_rows.proofs.LeastBoxes.{same_bounds}
-use Rattle.mf_rows.proofs.PassedPixels.{outside}
+use Rattle.mf_rows.proofs.PassedPixels.{left_of_field, outside, weight_here}
 use Rattle.mf_rows.proofs.PicturePiles.{by_field}
 
 by_in : {P : Type 0} (b : Box4) (x y : ℤ) → (IsIn b x y → P) → ((IsIn b x y → ⊥) → P) → P
@@ -114,6 +117,36 @@ module _ (p : Pixels) (s : Walk) where
   no_columns x start = record {
     within = λ z lt found. let left = (in_field z s.y found).left in absurd (omega (arith, ints));
     ends = λ lt. absurd (omega (arith, ints, lt));
+  }
+
+-- a row of which nothing was passed yet, whose first and last edge are known
+module _ (s : Walk) (first end : ℤ) (start : s.x <ℤ least_coordinate) (ends : AreEnds (weight_left s.edges) first end) where
+  left_is : (z : ℤ) → weight_left s.edges z ≡ weights_of s.edges z s.y
+  left_is z = by_lt_z z s.x
+      (λ lt. s.reading.before z (omega (arith, ints)) ∙ sym (left_of_field s.edges z s.y (omega (arith, ints))))
+      (λ le. omega (arith, ints, s.reading.after z le, weight_here s, left_of_field s.edges s.x s.y start))
+
+  found_at : (z : ℤ) → weight_left s.edges z ≢ pos 0 → among Nonzero (weights_of s.edges) z s.y ≡ true
+  unfolding among
+  found_at z some = ap not (false_from_ne_true (int_eq (weights_of s.edges z s.y) (pos 0)) (λ is. some (left_is z ∙ (Decides-int_eq (weights_of s.edges z s.y) (pos 0)).0 is)))
+
+  nonzero_at : (z : ℤ) → among Nonzero (weights_of s.edges) z s.y ≡ true → weight_left s.edges z ≢ pos 0
+  unfolding among
+  nonzero_at z found = λ zero. false≢true (sym (zero_is_none Nonzero) ∙ sym (ap (is_among Nonzero) (sym (left_is z) ∙ zero)) ∙ found)
+
+  pub first_inside : IsInField first s.y
+  first_inside = in_field Nonzero s first s.y (found_at first ends.begins)
+
+  pub last_inside : IsInField (end -ℤ pos 1) s.y
+  last_inside = in_field Nonzero s (end -ℤ pos 1) s.y (found_at (end -ℤ pos 1) ends.ends)
+
+  pub row_columns : AreColumns (among Nonzero (weights_of s.edges)) s.y greatest_coordinate first (end -ℤ pos 1)
+  row_columns = record {
+    within = λ z _ found. (
+      by_lt_z z first (λ lt. absurd (nonzero_at z found (ends.left z lt))) (λ le. le),
+      by_lt_z z end (λ lt. omega (arith, ints)) (λ le. absurd (nonzero_at z found (ends.right z le))),
+    );
+    ends = λ _. (found_at first ends.begins, found_at (end -ℤ pos 1) ends.ends);
   }
 
 -- columns of one weight more, in the row of the walk r

@@ -30,6 +30,37 @@ lawful_weight r x y = pile_lawful r.pile.now x y
 pub left_of_field : (r : RowEdges) (x y : ℤ) → x <ℤ least_coordinate → weights_of r x y ≡ pos 0
 left_of_field r x y lt = outside r x y (λ inside. omega (arith, ints, inside.left))
 
+-- ---- a row at once
+
+module _ (s : Walk) (new : RowEdges) (same : weights_of new ≡ weights_of s.edges) where
+  -- nothing was passed
+  pub reading_kept : ((x : ℤ) → weight_left new x ≡ weight_left s.edges x) → IsReading (weights_of new) (weight_left new) s.x s.y s.weight s.bottom
+  reading_kept left = rw same (record {
+    left = s.reading.left;
+    right = s.reading.right;
+    top = s.reading.top;
+    before = λ z le. left z ∙ s.reading.before z le;
+    after = λ z le. omega (arith, ints, s.reading.after z le, left z);
+    rows = s.reading.rows;
+  })
+
+  -- all edges were passed
+  pub reading_over : ((x : ℤ) → weight_left new x ≡ pos 0) → IsReading (weights_of new) (weight_left new) greatest_coordinate s.y (pos 0) s.bottom
+  reading_over none = rw same (record {
+    left = omega (arith, ints);
+    right = omega (arith, ints);
+    top = s.reading.top;
+    before = λ z le. none z;
+    after = λ z le. omega (arith, ints, none z, outside s.edges z s.y (λ inside. omega (arith, ints, inside.right)));
+    rows = s.reading.rows;
+  })
+
+-- the edges of a row have a sum of 0
+pub edges_closed : (s : Walk) → s.x <ℤ least_coordinate → weight_left s.edges greatest_coordinate ≡ pos 0
+edges_closed s start =
+    let end = outside s.edges greatest_coordinate s.y (λ inside. omega (arith, ints, inside.right)) in
+    omega (arith, ints, end, s.reading.after greatest_coordinate (omega (arith, ints)), s.reading.after s.x (omega (arith, ints)), s.reading.before s.x (omega (arith, ints)), left_of_field s.edges s.x s.y start)
+
 -- ---- the next edge
 
 -- an edge that is passed, as the code adds its weight

@@ -6,9 +6,8 @@ use Rattle.std.specs.declared.alloc.Global.{Global}
 use Rattle.std.specs.declared.sync.Arc.{Arc}
 use Rattle.std.proofs.lemmas.Int.{ints, by_lt_z}
 use Rattle.std.proofs.lemmas.List.Elements.{All-head, All-tail}
-use Rattle.mf_geom.specs.Coordinates.{greatest_coordinate}
 use Rattle.mf_geom.specs.Field.{IsInField}
-use Rattle.mf_edges.specs.Edges.{AreEdges, weight_in}
+use Rattle.mf_edges.specs.Edges.{weight_in}
 use Rattle.mf_edges.specs.LawfulWeights.{IsLawfulWeight}
 use Rattle.mf_edges.specs.Axes.{PlaceStaysInside}
 use Rattle.mf_edges.specs.declared.stretch.Stretch.{Stretch}
@@ -25,7 +24,7 @@ use Rattle.mf_strips.specs.Strips.{row_in, weight_in_strips, HaveStripWeights}
 pub use Rattle.mf_strips.proofs.Outside.{by_field}
 use Rattle.mf_strips.proofs.Outside.{strips_outside}
 pub use Rattle.mf_strips.proofs.PilesLemmas.{unlawful_as}
-use Rattle.mf_strips.proofs.StripsLemmas.{row_lawful, no_edges, no_weight}
+use Rattle.mf_strips.proofs.StripsLemmas.{no_weight}
 use Rattle.mf_rows.specs.Dots.{Dot, IsPicture, weight_at}
 use Rattle.mf_rows.specs.Corners.{added_by_all, with_corners_at}
 use Rattle.mf_rows.specs.Moves.{PixelsStayInside}

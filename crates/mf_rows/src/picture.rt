@@ -97,6 +97,9 @@ impl Picture {
         ensures value { result ≡ total_of self.now }
         ensures lawful { IsPicture self.now }
     {
+        if self.pile.is_empty() {
+            return 0;
+        }
         let mut walk = Walk::of(&self.pile);
         walk.total()
     }

@@ -1,5 +1,5 @@
 //! The walk over the pixels of a picture, which meets its runs one after another.
-ghost use Rattle.std.specs.Prelude.{◌≡◌, ◌≢◌, [], ◌∷◌, ℤ, IsTrue, IsFalse, pos, ◌+ℤ◌, ◌≤ℤ◌, ◌<ℤ◌};
+ghost use Rattle.std.specs.Prelude.{◌≡◌, ◌≢◌, [], ◌∷◌, ℤ, IfNone, IfSome, IsTrue, IsFalse, pos, ◌+ℤ◌, ◌≤ℤ◌, ◌<ℤ◌};
 ghost use Rattle.mf_geom.specs.Coordinates.{least_coordinate, greatest_coordinate};
 ghost use Rattle.mf_geom.specs.Field.{IsColumnOrRow};
 ghost use Rattle.mf_rows.specs.Reading.{AreBlankBelow, IsReading, IsReading-prop};
@@ -85,6 +85,26 @@ impl<'a> Walk<'a> {
         Some(own.with(bounds))
     }
 
+    /// Passes the row at once, where it is that of a single part and pixels of nonzero weight are asked for, which are between its first
+    /// and its last edge. Answers their first and last column; `None` where nothing was passed. Requires that no pixel of the row was
+    /// passed yet.
+    fn pass_row(&mut self, pixels: Pixels) -> Option<(i32, i32)>
+        requires { self.old.x <ℤ least_coordinate }
+        ensures columns { IfSome result (λ columns. AreColumns (among pixels (weights_of self.old.edges)) self.old.y greatest_coordinate columns.0 columns.1) }
+        ensures start { IfNone result (self.new.x <ℤ least_coordinate) }
+        ensures passed { HasPassedRow self.old self.new }
+    {
+        match pixels {
+            Pixels::Black => None,
+            Pixels::Nonzero => {
+                let (first, end) = self.edges.pass_all()?;
+                self.x = FIELD_END;
+                self.weight = 0;
+                Some((first, end - 1))
+            }
+        }
+    }
+
     /// The first and the last column of the row that have these pixels; the first is the end of the field where there are none. Requires
     /// that no pixel of the row was passed yet.
     fn columns(&mut self, pixels: Pixels) -> (i32, i32)
@@ -92,6 +112,9 @@ impl<'a> Walk<'a> {
         ensures columns { AreColumns (among pixels (weights_of self.old.edges)) self.old.y greatest_coordinate result.0 result.1 }
         ensures passed { HasPassedRow self.old self.new }
     {
+        if let Some(columns) = self.pass_row(pixels) {
+            return columns;
+        }
         let (mut first, mut last) = (FIELD_END, FIELD_END);
         while self.x < FIELD_END {
             let (x, weight) = (self.x, self.weight);

@@ -1,7 +1,8 @@
 -- What is left of rows as their edges are passed.
-use Rattle.std.proofs.Common.{◌≡◌, ℕ, zero, suc, ◌<◌, ◌+◌, ℤ, pos, ◌+ℤ◌, ◌≤ℤ◌, ◌<ℤ◌, List, [], ◌∷◌, ◌++◌, map, take, drop, get_or, set, length, refl, sym, ap, ◌∙◌, subst, arith}
+use Rattle.std.proofs.Common.{◌≡◌, ℕ, zero, suc, ◌<◌, ◌+◌, ◌-◌, ◌≢◌, ℤ, pos, ◌+ℤ◌, ◌-ℤ◌, ◌≤ℤ◌, ◌<ℤ◌, Option, None, Some, List, [], ◌∷◌, ◌++◌, slice_get, map, take, drop, get_or, set, length, refl, sym, ap, ◌∙◌, subst, arith}
 use Rattle.std.specs.Int.{int_min}
 use Rattle.std.specs.List.{All}
+use Rattle.std.specs.Option.{IfNone}
 use Rattle.std.proofs.lemmas.Int.{ints, by_lt_z, fold-int_min_bounds}
 use Rattle.std.proofs.lemmas.List.{get_or-map, length-map, take_more_set}
 use Rattle.std.proofs.lemmas.List.Elements.{All-get_or}
@@ -9,10 +10,10 @@ use Rattle.std.proofs.lemmas.List.Folds.{fold-map}
 use Rattle.std.proofs.lemmas.List.Sums.{fold_more, fold_push}
 use Rattle.mf_geom.specs.Coordinates.{least_coordinate, greatest_coordinate}
 use Rattle.mf_edges.specs.declared.edge.Edge.{Edge}
-use Rattle.mf_edges.specs.Edges.{AreEdgesFrom, weight_in}
-use Rattle.mf_edges.proofs.EdgesLemmas.{weight_in-left, weight_in-before}
+use Rattle.mf_edges.specs.Edges.{AreEdgesFrom, IsEdge, weight_in}
+use Rattle.mf_edges.proofs.EdgesLemmas.{weight_in-left, weight_in-right, weight_in-before}
 use Rattle.mf_strips.specs.declared.rest.Rest.{Rest}
-use Rattle.mf_strips.specs.Rests.{IsNextEdge, IsPassedTo, column_of, first_column_of, weight_in_all}
+use Rattle.mf_strips.specs.Rests.{AreEnds, IsNextEdge, IsPassedTo, column_of, first_column_of, weight_in_all}
 
 -- ---- the edges of one part
 
@@ -67,6 +68,64 @@ pub none_passed : (es : List Edge) (x : ℤ) → AreEdgesFrom least_coordinate e
 none_passed es x sorted lt =
     let none : (z : ℤ) → z ≤ℤ x → weight_in es z ≡ pos 0 = λ z le. before_first es z sorted (omega (arith, ints)) in
     record { left = λ z lt. none z (omega (arith, ints)); right = λ z le. omega (arith, ints, none x (omega (arith, ints))); passed = none }
+
+-- the edge of weight w at column x is the last one: from there on the row has the weight that it has at the end of the field
+record IsLast (es : List Edge) (e : Edge) : Type 0 where
+  edge : IsEdge e
+  right : column_of es ≤ℤ e.x
+  before : weight_in es (e.x -ℤ pos 1) ≡ weight_in es greatest_coordinate -ℤ e.weight
+  after : (z : ℤ) → e.x ≤ℤ z → weight_in es z ≡ weight_in es greatest_coordinate
+
+last_edge : (low : ℤ) (es : List Edge) (n : ℕ) (e : Edge) → AreEdgesFrom low es → length es ≡ suc n → Some e ≡ slice_get es n → IsLast es e
+unfolding weight_in
+last_edge low [] n e sorted long is = absurd (omega arith)
+last_edge low (d ∷ []) zero e sorted long is =
+    let same : d ≡ e = cc in
+    let greatest = weight_in-left d [] greatest_coordinate sorted.0.column.greatest in
+    subst (IsLast (d ∷ [])) same (record {
+      edge = sorted.0;
+      right = omega (arith, ints);
+      before = omega (arith, ints, weight_in-right d [] (d.x -ℤ pos 1) (omega (arith, ints)), greatest);
+      after = λ z le. omega (arith, ints, weight_in-left d [] z le, greatest);
+    })
+last_edge low (d ∷ []) (suc n) e sorted long is = absurd (omega arith)
+last_edge low (d ∷ f ∷ es) zero e sorted long is = absurd (omega arith)
+last_edge low (d ∷ f ∷ es) (suc n) e sorted long is =
+    let rest = last_edge (d.x +ℤ pos 1) (f ∷ es) n e sorted.2 (omega arith) is in
+    let further : d.x <ℤ e.x = omega (arith, ints, sorted.2.1, rest.right) in
+    let greatest = weight_in-left d (f ∷ es) greatest_coordinate sorted.0.column.greatest in
+    record {
+      edge = rest.edge;
+      right = omega (arith, ints, further);
+      before = omega (arith, ints, weight_in-left d (f ∷ es) (e.x -ℤ pos 1) (omega (arith, ints, further)), greatest, rest.before);
+      after = λ z le. omega (arith, ints, weight_in-left d (f ∷ es) z (omega (arith, ints, further)), greatest, rest.after z le);
+    }
+
+-- the ends of a row, whose columns 32 bits hold
+pub record HasEnds (es : List Edge) (first end : Edge) : Type 0 where
+  pub left : IsEdge first
+  pub right : IsEdge end
+  pub ends : AreEnds (weight_in es) first.x end.x
+
+pub ends_of : (es : List Edge) (first end : Edge) → AreEdgesFrom least_coordinate es → weight_in es greatest_coordinate ≡ pos 0 → Some first ≡ slice_get es 0
+    → Some end ≡ slice_get es (length es - 1) → HasEnds es first end
+ends_of [] first end sorted closed is is_end = absurd cc
+ends_of (e ∷ es) first end sorted closed is is_end =
+    let same : e ≡ first = cc in
+    let all : length (e ∷ es) - 1 ≡ length es = omega arith in
+    let last = last_edge least_coordinate (e ∷ es) (length es) end sorted (omega arith) (rw all at is_end) in
+    let edges = next_edge (e ∷ es) e es refl sorted in
+    let begins : weight_in (e ∷ es) e.x ≢ pos 0 = λ zero. sorted.0.nonzero (edges.weight ∙ zero) in
+    subst (λ first. HasEnds (e ∷ es) first end) same (record {
+      left = sorted.0;
+      right = last.edge;
+      ends = record {
+        left = edges.edge.left;
+        right = λ z le. last.after z le ∙ closed;
+        begins = begins;
+        ends = λ zero. last.edge.nonzero (omega (arith, ints, last.before, closed, zero));
+      };
+    })
 
 -- ---- the edges of all parts
 
@@ -123,6 +182,25 @@ next_of_single (r' ∷ []) r new e one next = record {
   edge = same_passed (λ z. omega (arith, ints)) (λ z. omega (arith, ints)) next.edge;
 }
 next_of_single (r' ∷ r'' ∷ rs) r new e one next = absurd (omega arith)
+
+weight_of_single : (rs : List Rest) (r : Rest) (z : ℤ) → length rs ≡ 1 → weight_in_all rs z ≡ weight_in (get_or rs 0 r).edges.now z
+weight_of_single [] r z one = absurd (omega arith)
+weight_of_single (r' ∷ []) r z one = omega (arith, ints)
+weight_of_single (r' ∷ r'' ∷ rs) r z one = absurd (omega arith)
+
+-- which has no edges any more
+pub single_passed : (rs : List Rest) (new : Rest) (z : ℤ) → length rs ≡ 1 → new.edges.now ≡ [] → weight_in_all (set rs 0 new) z ≡ pos 0
+unfolding weight_in
+single_passed [] new z one none = absurd (omega arith)
+single_passed (r ∷ []) new z one none = rw none refl
+single_passed (r ∷ r' ∷ rs) new z one none = absurd (omega arith)
+
+pub single_kept : {A : Type 0} (rs : List Rest) (r new : Rest) (result : Option A) → length rs ≡ 1 → new.edges.now ≡ [] → IfNone result ((get_or rs 0 r).edges.now ≡ [])
+    → IfNone result ((z : ℤ) → weight_in_all (set rs 0 new) z ≡ weight_in_all rs z)
+unfolding weight_in
+single_kept rs r new None one none blank =
+    λ z. single_passed rs new z one none ∙ sym (weight_of_single rs r z one ∙ ap (λ es. weight_in es z) blank)
+single_kept rs r new (Some x) one none blank = blank
 
 -- the first n rests, where those were written
 pub first_written : (n : ℕ) (rs new : List Rest) → length new ≡ length (take n rs) → take n (new ++ drop n rs) ≡ new

@@ -1,5 +1,5 @@
 -- Edges of a row that are still to come, in several lists.
-use Rattle.std.specs.Prelude.{◌≡◌, ◌≢◌, ℤ, pos, ◌+ℤ◌, ◌≤ℤ◌, ◌<ℤ◌, List, [], ◌∷◌, fold}
+use Rattle.std.specs.Prelude.{◌≡◌, ◌≢◌, ℤ, pos, ◌+ℤ◌, ◌-ℤ◌, ◌≤ℤ◌, ◌<ℤ◌, List, [], ◌∷◌, fold}
 use Rattle.std.specs.Int.{int_min}
 use Rattle.mf_geom.specs.Coordinates.{greatest_coordinate}
 use Rattle.mf_edges.specs.declared.edge.Edge.{Edge}
@@ -25,6 +25,13 @@ pub record IsPassedTo (x : ℤ) (g h : ℤ → ℤ) : Type 0 where
   pub left : (z : ℤ) → z <ℤ x → g z ≡ pos 0
   pub right : (z : ℤ) → x ≤ℤ z → g z ≡ g x +ℤ h z
   pub passed : (z : ℤ) → z ≤ℤ x → h z ≡ pos 0
+
+-- the first edge is at column `first`, and the last one at column `end`, where g are the weights that the edges make
+pub record AreEnds (g : ℤ → ℤ) (first end : ℤ) : Type 0 where
+  pub left : (z : ℤ) → z <ℤ first → g z ≡ pos 0
+  pub right : (z : ℤ) → end ≤ℤ z → g z ≡ pos 0
+  pub begins : g first ≢ pos 0
+  pub ends : g (end -ℤ pos 1) ≢ pos 0
 
 -- an edge was passed, whose weight is 0 only at the end of the field
 pub record IsNextEdge (g h : ℤ → ℤ) (e : Edge) : Type 0 where

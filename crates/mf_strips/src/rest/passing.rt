@@ -1,8 +1,8 @@
 //! Passing the edges of a part.
-ghost use Rattle.std.specs.Prelude.{◌≡◌, ◌≤ℤ◌, ◌<ℤ◌};
+ghost use Rattle.std.specs.Prelude.{◌≡◌, ◌≤ℤ◌, ◌<ℤ◌, [], IfNone, IfSome, pos};
 ghost use Rattle.mf_geom.specs.Coordinates.{greatest_coordinate, least_coordinate};
 ghost use Rattle.mf_edges.specs.Edges.{AreEdgesFrom, weight_in};
-ghost use Rattle.mf_strips.specs.Rests.{IsNextEdge, IsPassedTo, column_of};
+ghost use Rattle.mf_strips.specs.Rests.{AreEnds, IsNextEdge, IsPassedTo, column_of};
 
 use super::Rest;
 use mf_edges::{Edge, FIELD_END};
@@ -33,6 +33,18 @@ impl<'a> Rest<'a> {
                 weight: 0,
             },
         }
+    }
+
+    /// Passes all edges, whose sum is 0. Answers the columns of the first and of the last one, `None` where there are none.
+    pub(crate) fn pass_all(&mut self) -> Option<(i32, i32)>
+        requires { weight_in self.old.edges.now greatest_coordinate ≡ pos 0 }
+        ensures ends { IfSome result (λ ends. AreEnds (weight_in self.old.edges.now) ends.0 ends.1) }
+        ensures none { IfNone result (self.old.edges.now ≡ []) }
+        ensures passed { self.new.edges.now ≡ [] }
+    {
+        let edges = self.edges;
+        self.edges = &[];
+        Some((edges.first()?.x, edges.last()?.x))
     }
 
     /// The column of the first edge, the end of the field where there is none.

@@ -1,10 +1,10 @@
 //! Entering rows, and passing their edges.
-ghost use Rattle.std.specs.Prelude.{◌≡◌, ℤ, ◌≤ℤ◌, ◌<ℤ◌, length};
+ghost use Rattle.std.specs.Prelude.{◌≡◌, ℤ, pos, ◌≤ℤ◌, ◌<ℤ◌, IfNone, IfSome, length};
 ghost use Rattle.mf_geom.specs.Coordinates.{greatest_coordinate};
 ghost use Rattle.mf_geom.specs.Field.{IsColumnOrRow};
 ghost use Rattle.mf_edges.specs.Merging.{IsDifference};
 ghost use Rattle.mf_strips.specs.PileWeights.{weight_in_pile};
-ghost use Rattle.mf_strips.specs.Rests.{IsNextEdge, IsPassedTo, first_column_of, weight_in_all};
+ghost use Rattle.mf_strips.specs.Rests.{AreEnds, IsNextEdge, IsPassedTo, first_column_of, weight_in_all};
 ghost use Rattle.mf_strips.specs.RowEdges.{AreSameRows, weight_left, weights_of};
 
 use super::RowEdges;
@@ -52,6 +52,32 @@ impl<'a> RowEdges<'a> {
     {
         pass_edge(&mut self.rests[..self.pile.parts.len()])
     }
+
+    /// Passes all edges at once, where there is one part. Answers the columns of the first and of the last one, `None` where there are
+    /// none, and where there is another number of parts: then nothing is passed. Requires that the edges have a sum of 0.
+    pub fn pass_all(&mut self) -> Option<(i32, i32)>
+        requires { weight_left self.old greatest_coordinate ≡ pos 0 }
+        ensures ends { IfSome result (λ ends. AreEnds (weight_left self.old) ends.0 ends.1) }
+        ensures passed { IfSome result (λ _. (x : ℤ) → weight_left self.new x ≡ pos 0) }
+        ensures kept { IfNone result ((x : ℤ) → weight_left self.new x ≡ weight_left self.old x) }
+        ensures same { weights_of self.new ≡ weights_of self.old }
+    {
+        pass_all(&mut self.rests[..self.pile.parts.len()])
+    }
+}
+
+/// Passes all edges of a single part.
+fn pass_all(rests: &mut [Rest<'_>]) -> Option<(i32, i32)>
+    requires { weight_in_all rests.old greatest_coordinate ≡ pos 0 }
+    ensures ends { IfSome result (λ ends. AreEnds (weight_in_all rests.old) ends.0 ends.1) }
+    ensures passed { IfSome result (λ _. (x : ℤ) → weight_in_all rests.new x ≡ pos 0) }
+    ensures kept { IfNone result ((x : ℤ) → weight_in_all rests.new x ≡ weight_in_all rests.old x) }
+    ensures each { length rests.new ≡ length rests.old }
+{
+    if rests.len() != 1 {
+        return None;
+    }
+    rests[0].pass_all()
 }
 
 /// Passes the next edge. Mostly there is one part, and it takes few steps.

@@ -2,11 +2,13 @@ use Rattle.std.proofs.Common.{◌≡◌, ◌-ℤ◌, pos, to_z, of_z, w32, sym, 
 use Rattle.std.proofs.lemmas.Int.{ints}
 use Rattle.std.specs.Int.{int_min}
 use Rattle.mf_rows.proofs.BoxesPassed.{no_columns, columns_kept, columns_grown}
-use Rattle.mf_rows.proofs.PassedPixels.{no_pixels, more_pixels}
+use Rattle.mf_rows.proofs.PassedPixels.{more_pixels}
 use Rattle.mf_rows.proofs.walk.Walk.columns.Goals as goal
 
 pub loop-self-init : goal.loop-self-init
-loop-self-init c = record { columns = no_columns c.args.pixels c.args.self.now _ c.requires; passed = no_pixels c.args.self.now }
+loop-self-init c =
+    let passed = c.pass_row.ensures.passed in
+    record { columns = rw (passed.weights, passed.row) at (no_columns c.args.pixels c.pass_row.new.self c.pass_row.new.self.x c.in_default.ensures.start); passed = passed }
 
 pub loop-self-preserved : goal.loop-self-preserved
 loop-self-preserved c =

@@ -3,7 +3,6 @@ use Rattle.std.specs.Arc.{arc_value}
 use Rattle.std.specs.Vec.{vec_len}
 use Rattle.std.proofs.lemmas.Int.{ints}
 use Rattle.std.proofs.lemmas.List.{length-set, take_all}
-use Rattle.mf_edges.proofs.ReachesLemmas.{wider_reach}
 use Rattle.mf_strips.specs.Parts.{weight_in_parts}
 use Rattle.mf_strips.specs.RowEdges.{weight_left, weights_of}
 use Rattle.mf_strips.proofs.PileReads.{both_same, weight_in_parts-more}
