@@ -123,7 +123,10 @@ def of_one_part(of_comb):
     yield Case("a cull", comb("a"), "cull a keeping (1,3) withweight 2\n", {"a": 2 * of_comb}, LINE + LISTS + COMB + COMB // 4, COMB)
     # The parts are joined first. The box ends among the teeth, so their sum has two strips of teeth, and so has what the cull makes of it.
     before, shown = comb("a") + box("a", -9, -9, -8, 9), {"a": 2 * of_comb + 36}
-    most = LINE + LISTS + 2 * (2 * COMB + COMB // 4)
+    of_two = LINE + LISTS + 2 * COMB + COMB // 4
+    yield Case("a total of two parts", before, "show totalweight a\n", {"a": of_comb + 18}, of_two, 2 * COMB)
+    yield Case("a second total", before + "show totalweight a\n", "show totalweight a\n", {"a": of_comb + 18}, LINE)
+    most = of_two + 2 * COMB + COMB // 4
     yield Case("a cull of two parts", before, "cull a keeping (1,3) withweight 2\n", shown, most, 4 * COMB)
 
 
@@ -151,10 +154,12 @@ class Counter:
 
 def try_case(counter, case):
     """What is wrong with a case, if anything is."""
-    shows = "".join(f"show totalweight {name}\n" for name in case.shown)
-    _, before = counter.run(case.before + shows)
-    printed, after = counter.run(case.before + case.command + shows)
+    _, before = counter.run(case.before)
+    _, after = counter.run(case.before + case.command)
     asked = after - before
+    # The totals are shown in a run of their own, since a total joins the parts of a picture.
+    shows = "".join(f"show totalweight {name}\n" for name in case.shown)
+    printed, _ = counter.run(case.before + case.command + shows)
     print(f"{case.about}: {asked} bytes, {case.least} to {case.most} are allowed", flush=True)
     if not printed.endswith("".join(f"totalweight {total}\n" for total in case.shown.values())):
         return f"{case.about}: the totals are wrong:\n{printed}"
