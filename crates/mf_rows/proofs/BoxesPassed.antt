@@ -1,12 +1,12 @@
 -- The least box of the pixels that a walk has passed.
-use Rattle.std.proofs.Common.{◌≡◌, ◌≢◌, Bool, true, false, not, ℤ, pos, ◌+ℤ◌, ◌-ℤ◌, ◌≤ℤ◌, ◌<ℤ◌, Option, None, Some, refl, sym, ap, ◌∙◌, arith}
+use Rattle.std.proofs.Common.{◌≡◌, Bool, true, false, ℤ, pos, ◌+ℤ◌, ◌-ℤ◌, ◌≤ℤ◌, ◌<ℤ◌, Option, None, Some, refl, sym, ap, ◌∙◌, arith}
 use Rattle.std.specs.Int.{int_min}
 use Rattle.std.proofs.lemmas.Bool.{cond-true, cond-false, false≢true, false_from_ne_true}
-use Rattle.std.proofs.lemmas.Bool.Decides.{Decides-int_eq}
 use Rattle.std.proofs.lemmas.Int.{ints, clamps, by_lt_z}
-use Rattle.std.specs.Ordering.{int_eq}
 use Rattle.mf_geom.specs.Coordinates.{least_coordinate, greatest_coordinate}
 use Rattle.mf_geom.specs.Field.{IsInField}
+use Rattle.mf_edges.specs.declared.edge.Edge.{Edge}
+use Rattle.mf_edges.specs.LawfulWeights.{IsLawfulWeight}
 use Rattle.mf_strips.specs.Rests.{AreEnds}
 use Rattle.mf_strips.specs.RowEdges.{weight_left, weights_of}
 use Rattle.mf_rows.specs.declared.bounds.Box4.{Box4}
@@ -17,7 +17,7 @@ use Rattle.mf_rows.specs.Bounds.{AreBounds, AreColumns, IsBoxRound, IsIn, among,
 use Rattle.mf_rows.specs.Remaining.{HasPassed, HasPassedRow}
 use Rattle.mf_rows.proofs.BoxesJoined.{either_min, either_max, within_first, within_second}
 use Rattle.mf_rows.proofs.LeastBoxes.{same_bounds}
-use Rattle.mf_rows.proofs.PassedPixels.{left_of_field, outside, weight_here}
+use Rattle.mf_rows.proofs.PassedPixels.{lawful_weight, left_of_field, outside, weight_here}
 use Rattle.mf_rows.proofs.PicturePiles.{by_field}
 
 by_in : {P : Type 0} (b : Box4) (x y : ℤ) → (IsIn b x y → P) → ((IsIn b x y → ⊥) → P) → P
@@ -120,34 +120,39 @@ module _ (p : Pixels) (s : Walk) where
   }
 
 -- a row of which nothing was passed yet, whose first and last edge are known
-module _ (s : Walk) (first end : ℤ) (start : s.x <ℤ least_coordinate) (ends : AreEnds (weight_left s.edges) first end) where
-  left_is : (z : ℤ) → weight_left s.edges z ≡ weights_of s.edges z s.y
+module _ (s : Walk) (e f : Edge) (start : s.x <ℤ least_coordinate) (ends : AreEnds (weight_left s.edges) e f) where
+  left_is : (z : ℤ) → weights_of s.edges z s.y ≡ weight_left s.edges z
   left_is z = by_lt_z z s.x
-      (λ lt. s.reading.before z (omega (arith, ints)) ∙ sym (left_of_field s.edges z s.y (omega (arith, ints))))
+      (λ lt. left_of_field s.edges z s.y (omega (arith, ints)) ∙ sym (s.reading.before z (omega (arith, ints))))
       (λ le. omega (arith, ints, s.reading.after z le, weight_here s, left_of_field s.edges s.x s.y start))
 
-  found_at : (z : ℤ) → weight_left s.edges z ≢ pos 0 → among Nonzero (weights_of s.edges) z s.y ≡ true
-  unfolding among
-  found_at z some = ap not (false_from_ne_true (int_eq (weights_of s.edges z s.y) (pos 0)) (λ is. some (left_is z ∙ (Decides-int_eq (weights_of s.edges z s.y) (pos 0)).0 is)))
+  first_is : weights_of s.edges e.x s.y ≡ e.weight
+  first_is = left_is e.x ∙ ends.begins
 
-  nonzero_at : (z : ℤ) → among Nonzero (weights_of s.edges) z s.y ≡ true → weight_left s.edges z ≢ pos 0
-  unfolding among
-  nonzero_at z found = λ zero. false≢true (sym (zero_is_none Nonzero) ∙ sym (ap (is_among Nonzero) (sym (left_is z) ∙ zero)) ∙ found)
+  last_is : weights_of s.edges (f.x -ℤ pos 1) s.y ≡ pos 0 -ℤ f.weight
+  last_is = left_is (f.x -ℤ pos 1) ∙ ends.ends
 
-  pub first_inside : IsInField first s.y
-  first_inside = in_field Nonzero s first s.y (found_at first ends.begins)
+  pub first_lawful : IsLawfulWeight e.weight
+  first_lawful = rw first_is at (lawful_weight s.edges e.x s.y)
 
-  pub last_inside : IsInField (end -ℤ pos 1) s.y
-  last_inside = in_field Nonzero s (end -ℤ pos 1) s.y (found_at (end -ℤ pos 1) ends.ends)
+  pub last_lawful : IsLawfulWeight (pos 0 -ℤ f.weight)
+  last_lawful = rw last_is at (lawful_weight s.edges (f.x -ℤ pos 1) s.y)
 
-  pub row_columns : AreColumns (among Nonzero (weights_of s.edges)) s.y greatest_coordinate first (end -ℤ pos 1)
-  row_columns = record {
-    within = λ z _ found. (
-      by_lt_z z first (λ lt. absurd (nonzero_at z found (ends.left z lt))) (λ le. le),
-      by_lt_z z end (λ lt. omega (arith, ints)) (λ le. absurd (nonzero_at z found (ends.right z le))),
-    );
-    ends = λ _. (found_at first ends.begins, found_at (end -ℤ pos 1) ends.ends);
-  }
+  module _ (p : Pixels) where
+    none_at : (z : ℤ) → weight_left s.edges z ≡ pos 0 → among p (weights_of s.edges) z s.y ≡ true → ⊥
+    unfolding among
+    none_at z zero found = false≢true (sym (zero_is_none p) ∙ sym (ap (is_among p) (left_is z ∙ zero)) ∙ found)
+
+    pub row_columns : is_among p e.weight ≡ true → is_among p (pos 0 -ℤ f.weight) ≡ true
+        → AreColumns (among p (weights_of s.edges)) s.y greatest_coordinate e.x (f.x -ℤ pos 1)
+    unfolding among
+    row_columns first last = record {
+      within = λ z _ found. (
+        by_lt_z z e.x (λ lt. absurd (none_at z (ends.left z lt) found)) (λ le. le),
+        by_lt_z z f.x (λ lt. omega (arith, ints)) (λ le. absurd (none_at z (ends.right z le) found)),
+      );
+      ends = λ _. (ap (is_among p) first_is ∙ first, ap (is_among p) last_is ∙ last);
+    }
 
 -- columns of one weight more, in the row of the walk r
 module _ (p : Pixels) (r s t : Walk) (row : HasPassedRow r s) (passed : HasPassed s t) (first last : ℤ)

@@ -1,3 +1,4 @@
+pub mod BlackRuns
 pub mod BlankPictures
 pub mod BoundsInField
 pub mod BoxesJoined

@@ -15,8 +15,9 @@ use Rattle.mf_rows.specs.Reading.{IsReading}
 use Rattle.mf_rows.specs.Remaining.{remaining_runs, dots_from, HasPassed, HasPassedRow, IsAtStart}
 use Rattle.mf_rows.specs.Runs.{runs_of}
 use Rattle.mf_rows.specs.Weights.{picture_of}
-use Rattle.mf_rows.proofs.PicturePiles.{parts_outside, pile_lawful}
-use Rattle.mf_rows.proofs.RemainingLemmas.{dots_from-blank, dots_from-run, dots_from-start}
+use Rattle.mf_rows.proofs.PicturePiles.{by_field, parts_outside, pile_lawful}
+use Rattle.mf_rows.proofs.RemainingLemmas.{dots_from-blank, dots_from-start, row_of-run}
+use Rattle.mf_rows.proofs.WeightsLemmas.{weight_at-above}
 
 -- there are no weights outside the field
 pub outside : (r : RowEdges) (x y : ℤ) → (IsInField x y → ⊥) → weights_of r x y ≡ pos 0
@@ -29,31 +30,6 @@ lawful_weight r x y = pile_lawful r.pile.now x y
 
 pub left_of_field : (r : RowEdges) (x y : ℤ) → x <ℤ least_coordinate → weights_of r x y ≡ pos 0
 left_of_field r x y lt = outside r x y (λ inside. omega (arith, ints, inside.left))
-
--- ---- a row at once
-
-module _ (s : Walk) (new : RowEdges) (same : weights_of new ≡ weights_of s.edges) where
-  -- nothing was passed
-  pub reading_kept : ((x : ℤ) → weight_left new x ≡ weight_left s.edges x) → IsReading (weights_of new) (weight_left new) s.x s.y s.weight s.bottom
-  reading_kept left = rw same (record {
-    left = s.reading.left;
-    right = s.reading.right;
-    top = s.reading.top;
-    before = λ z le. left z ∙ s.reading.before z le;
-    after = λ z le. omega (arith, ints, s.reading.after z le, left z);
-    rows = s.reading.rows;
-  })
-
-  -- all edges were passed
-  pub reading_over : ((x : ℤ) → weight_left new x ≡ pos 0) → IsReading (weights_of new) (weight_left new) greatest_coordinate s.y (pos 0) s.bottom
-  reading_over none = rw same (record {
-    left = omega (arith, ints);
-    right = omega (arith, ints);
-    top = s.reading.top;
-    before = λ z le. none z;
-    after = λ z le. omega (arith, ints, none z, outside s.edges z s.y (λ inside. omega (arith, ints, inside.right)));
-    rows = s.reading.rows;
-  })
 
 -- the edges of a row have a sum of 0
 pub edges_closed : (s : Walk) → s.x <ℤ least_coordinate → weight_left s.edges greatest_coordinate ≡ pos 0
@@ -75,6 +51,20 @@ module _ (s : Walk) where
   -- the weight is one of the row
   pub weight_here : weights_of s.edges s.x s.y ≡ s.weight
   weight_here = omega (arith, ints, s.reading.after s.x (omega (arith, ints)), s.reading.before s.x (omega (arith, ints)))
+
+  -- and that of a pixel of the field where it is not 0
+  pub inside : s.weight ≢ pos 0 → IsInField s.x s.y
+  inside some = by_field s.x s.y (λ inside. inside) (λ out. absurd (some (sym weight_here ∙ outside s.edges s.x s.y out)))
+
+  -- its numbers pass a call
+  pub column_fits : to_z w32 (of_z w32 s.x) ≡ s.x
+  column_fits = omega (arith, ints, s.reading.left, s.reading.right)
+
+  pub row_fits : to_z w32 (of_z w32 s.y) ≡ s.y
+  row_fits = omega (arith, ints, s.reading.top, s.reading.rows.low, s.reading.rows.order)
+
+  pub bottom_fits : to_z w32 (of_z w32 s.bottom) ≡ s.bottom
+  bottom_fits = omega (arith, ints, s.reading.top, s.reading.rows.low, s.reading.rows.order)
 
   pub differences : (z : ℤ) → IsDifference (weight_left s.edges z)
   differences z =
@@ -169,11 +159,9 @@ blank_passed s t passed blank =
 -- pixels of another weight were a run
 pub run_passed : (s t : Walk) → HasPassed s t → (s.x <ℤ greatest_coordinate → s.x <ℤ t.x) → (t.x <ℤ greatest_coordinate → t.weight ≢ s.weight) → s.weight ≢ pos 0
     → remaining_runs s ≡ record { y = t.y; x = s.x; len = unsigned_abs (t.x -ℤ s.x); weight = s.weight } ∷ remaining_runs t
+unfolding dots_from
 run_passed s t passed further next nonzero =
-    let here = weight_here s in
     let there = weight_here t in
-    let inside : s.x <ℤ greatest_coordinate =
-    by_lt_z s.x greatest_coordinate (λ lt. lt) (λ end. absurd (nonzero (sym here ∙ outside s.edges s.x s.y (λ within. omega (arith, ints, within.right))))) in
     rw (passed.weights, passed.row)
-    (dots_from-run (weights_of s.edges) s.x t.x s.y s.weight nonzero (further inside) t.reading.right passed.same
+    (row_of-run (weights_of s.edges) s.y _ (λ x. weight_at-above _ _ _ x s.y (omega (arith, ints))) s.x t.x s.weight nonzero (further (omega (arith, ints, (inside s nonzero).right))) t.reading.right passed.same
     (λ left same. next left (sym (rw (passed.weights, passed.row) at there) ∙ same)))

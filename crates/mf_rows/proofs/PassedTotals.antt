@@ -13,7 +13,7 @@ use Rattle.mf_strips.specs.RowEdges.{AreSameRows, weights_of}
 use Rattle.mf_rows.specs.declared.walk.Walk.{Walk}
 use Rattle.mf_rows.specs.Remaining.{HasPassed}
 use Rattle.mf_rows.specs.Totals.{sum_from, row_total, rows_total}
-use Rattle.mf_rows.proofs.PassedPixels.{lawful_weight, outside, weight_here}
+use Rattle.mf_rows.proofs.PassedPixels.{column_fits, lawful_weight, outside, weight_here}
 
 -- ---- sums
 
@@ -117,14 +117,12 @@ row_step s t passed =
     let lawful = lawful_weight s.edges s.x s.y in
     let weight = weight_here s in
     let w : to_z w32 (of_z w32 s.weight) ≡ s.weight = omega (arith, ints) in
-    let start : to_z w32 (of_z w32 s.x) ≡ s.x = omega (arith, ints, here.left, here.right) in
-    let end : to_z w32 (of_z w32 t.x) ≡ t.x = omega (arith, ints, t.reading.left, t.reading.right) in
     let width : to_z w32 (of_z w32 (t.x -ℤ s.x)) ≡ t.x -ℤ s.x = omega (arith, ints, here.left, here.right, t.reading.left, t.reading.right) in
     let more = row_more (weights_of s.edges) s.y s.x t.x s.weight here.left passed.order passed.same in
     let old = row_bound (weights_of s.edges) (lawful_weight s.edges) s.y s.x here.left here.right in
     let new = row_bound (weights_of s.edges) (lawful_weight s.edges) s.y t.x t.reading.left t.reading.right in
     record {
-      product = rw (start, end, w, width) refl;
+      product = rw (column_fits s, column_fits t, w, width) refl;
       product_fits = omega (arith, ints, more, old, new);
       sum_fits = omega (arith, ints, more, new);
       sum = sym more;

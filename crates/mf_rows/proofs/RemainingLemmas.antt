@@ -15,7 +15,7 @@ use Rattle.mf_rows.specs.Weights.{row_of, rows_of, picture_of}
 use Rattle.mf_rows.proofs.DotsLemmas.{weight_at-here}
 use Rattle.mf_rows.proofs.MaximalRuns.{runs_of-equal_dots}
 use Rattle.mf_rows.proofs.RunsLemmas.{runs_of-first, more_after, maximal_runs_of}
-use Rattle.mf_rows.proofs.WeightsLemmas.{weight_at-row, weight_at-above}
+use Rattle.mf_rows.proofs.WeightsLemmas.{weight_at-row}
 
 -- ---- columns of one weight
 
@@ -78,41 +78,47 @@ pub dots_from-start : (f : ℤ → ℤ → ℤ) → dots_from f least_coordinate
 unfolding picture_of
 dots_from-start f = dots_from-row f last_in_field field_size (omega (arith, ints)) (omega arith)
 
--- after pixels of weight 0, the same
+-- after pixels of weight 0, the same in the row
+pub row_of-blank : (f : ℤ → ℤ → ℤ) (x e y : ℤ) → x ≤ℤ e → e ≤ℤ greatest_coordinate → ((z : ℤ) → x ≤ℤ z → z <ℤ e → f z y ≡ pos 0)
+    → row_of f y x (unsigned_abs (greatest_coordinate -ℤ x)) ≡ row_of f y e (unsigned_abs (greatest_coordinate -ℤ e))
+row_of-blank f x e y order within blank =
+    let end : x +ℤ pos (unsigned_abs (e -ℤ x)) ≡ e = omega (arith, ints) in
+    let passed = row_of-same f y x (pos 0) (unsigned_abs (e -ℤ x)) (unsigned_abs (greatest_coordinate -ℤ e)) (λ z left right. blank z left (omega (arith, ints))) in
+    rw (columns_on x e order within) (rw end at passed)
+
+-- and with the rows below it
 pub dots_from-blank : (f : ℤ → ℤ → ℤ) (x e y : ℤ) → x ≤ℤ e → e ≤ℤ greatest_coordinate → ((z : ℤ) → x ≤ℤ z → z <ℤ e → f z y ≡ pos 0)
     → dots_from f x y ≡ dots_from f e y
 unfolding dots_from
-dots_from-blank f x e y order within blank =
-    let end : x +ℤ pos (unsigned_abs (e -ℤ x)) ≡ e = omega (arith, ints) in
-    let passed = row_of-same f y x (pos 0) (unsigned_abs (e -ℤ x)) (unsigned_abs (greatest_coordinate -ℤ e)) (λ z left right. blank z left (omega (arith, ints))) in
-    ap (λ ds. ds ++ rows_of f (y -ℤ pos 1) (unsigned_abs (y -ℤ least_coordinate)))
-    (rw (columns_on x e order within) (rw end at passed))
+dots_from-blank f x e y order within blank = ap (λ ds. ds ++ rows_of f (y -ℤ pos 1) (unsigned_abs (y -ℤ least_coordinate))) (row_of-blank f x e y order within blank)
 
--- the weight of the next pixel
-weight_at-next : (f : ℤ → ℤ → ℤ) (x y w : ℤ) → w ≢ pos 0 → x ≤ℤ greatest_coordinate → (x <ℤ greatest_coordinate → f x y ≢ w) → weight_at (dots_from f x y) x y ≢ w
-unfolding dots_from row_of
-weight_at-next f x y w nonzero within apart = λ same.
-    let n = unsigned_abs (greatest_coordinate -ℤ x) in
-    let below = rows_of f (y -ℤ pos 1) (unsigned_abs (y -ℤ least_coordinate)) in
-    let none = weight_at-above f (y -ℤ pos 1) (unsigned_abs (y -ℤ least_coordinate)) x y (omega (arith, ints)) in
-    by_lt_z x greatest_coordinate
-    (λ left. apart left (sym (weight_at-row f y x n below x none (omega (arith, ints)) (omega (arith, ints))) ∙ same))
-    (λ end.
-    let over : n ≡ 0 = omega (arith, ints) in
-    nonzero (sym same ∙ subst (λ m. weight_at (row_of f y x m ++ below) x y ≡ pos 0) (sym over) none))
+-- a row before dots of other rows
+module _ (f : ℤ → ℤ → ℤ) (y : ℤ) (below : List Dot) (none : (x : ℤ) → weight_at below x y ≡ pos 0) where
+  -- the weight of the next pixel
+  weight_at-next : (x w : ℤ) → w ≢ pos 0 → x ≤ℤ greatest_coordinate → (x <ℤ greatest_coordinate → f x y ≢ w)
+      → weight_at (row_of f y x (unsigned_abs (greatest_coordinate -ℤ x)) ++ below) x y ≢ w
+  unfolding row_of
+  weight_at-next x w nonzero within apart = λ same.
+      let n = unsigned_abs (greatest_coordinate -ℤ x) in
+      by_lt_z x greatest_coordinate
+      (λ left. apart left (sym (weight_at-row f y x n below x (none x) (omega (arith, ints)) (omega (arith, ints))) ∙ same))
+      (λ end.
+      let over : n ≡ 0 = omega (arith, ints) in
+      nonzero (sym same ∙ subst (λ m. weight_at (row_of f y x m ++ below) x y ≡ pos 0) (sym over) (none x)))
 
--- after a run, the other runs
-pub dots_from-run : (f : ℤ → ℤ → ℤ) (x e y w : ℤ) → w ≢ pos 0 → x <ℤ e → e ≤ℤ greatest_coordinate → ((z : ℤ) → x ≤ℤ z → z <ℤ e → f z y ≡ w)
-    → (e <ℤ greatest_coordinate → f e y ≢ w)
-    → runs_of (dots_from f x y) ≡ record { y = y; x = x; len = unsigned_abs (e -ℤ x); weight = w } ∷ runs_of (dots_from f e y)
-unfolding dots_from
-dots_from-run f x e y w nonzero order within same apart =
-    let n = unsigned_abs (e -ℤ x) in
-    let end : x +ℤ pos n ≡ e = omega (arith, ints) in
-    let own : int_eq w (pos 0) ≡ false = grind (arith, ints) in
-    let passed = row_of-same f y x w n (unsigned_abs (greatest_coordinate -ℤ e)) (λ z left right. same z left (omega (arith, ints))) in
-    let first = runs_of-equal_dots y x w n (dots_from f e y) (omega (arith, ints)) (maximal_before _ _ (rw end (weight_at-next f e y w nonzero within apart))) in
-    rw (columns_on x e (omega (arith, ints)) within, rw (own, end) at passed, append_assoc) first
+  -- after a run, the other runs
+  pub row_of-run : (x e w : ℤ) → w ≢ pos 0 → x <ℤ e → e ≤ℤ greatest_coordinate → ((z : ℤ) → x ≤ℤ z → z <ℤ e → f z y ≡ w)
+      → (e <ℤ greatest_coordinate → f e y ≢ w)
+      → runs_of (row_of f y x (unsigned_abs (greatest_coordinate -ℤ x)) ++ below)
+      ≡ record { y = y; x = x; len = unsigned_abs (e -ℤ x); weight = w } ∷ runs_of (row_of f y e (unsigned_abs (greatest_coordinate -ℤ e)) ++ below)
+  row_of-run x e w nonzero order within same apart =
+      let n = unsigned_abs (e -ℤ x) in
+      let m = unsigned_abs (greatest_coordinate -ℤ e) in
+      let end : x +ℤ pos n ≡ e = omega (arith, ints) in
+      let own : int_eq w (pos 0) ≡ false = grind (arith, ints) in
+      let passed = row_of-same f y x w n m (λ z left right. same z left (omega (arith, ints))) in
+      let first = runs_of-equal_dots y x w n (row_of f y e m ++ below) (omega (arith, ints)) (maximal_before _ _ (rw end (weight_at-next e w nonzero within apart))) in
+      rw (columns_on x e (omega (arith, ints)) within, rw (own, end) at passed, append_assoc) first
 
 -- from the end of a row, the rows below it, without those that are blank
 pub dots_from-below : (f : ℤ → ℤ → ℤ) (x bottom y : ℤ) → x ≡ greatest_coordinate → AreBlankBelow f bottom y

@@ -1,3 +1,4 @@
+pub mod BlackRows
 pub mod Reading
 pub mod Bounds
 pub mod Boxes
@@ -15,3 +16,4 @@ pub use Rattle.mf_geom.specs.Coordinates
 pub use Rattle.mf_geom.specs.Field
 pub use Rattle.mf_edges.specs.LawfulWeights
 pub use Rattle.mf_strips.specs.Names
+pub use Rattle.mf_strips.specs.RowEdges

@@ -1,6 +1,7 @@
 //! METAFONT pictures: an integer weight for each pixel, 0 for all but finitely many.
 #![tactic(auto)]
 
+mod black_rows;
 mod bounds;
 mod builder;
 pub mod laws;
@@ -10,6 +11,7 @@ mod runs;
 mod sign;
 mod walk;
 
+pub use black_rows::BlackRows;
 pub use bounds::Box4;
 pub use builder::RowBuilder;
 pub use mf_base::OutOfMemory;

@@ -1,6 +1,7 @@
 //! Pictures.
 ghost use Rattle.std.specs.Prelude.{◌≡◌, ◌≢◌, ◌≤◌, [], IsNone, IsOk, IfSome, IfOk, IfErr, OnOk, OnErr, IsTrue, ℤ, length, slice_get, ◌↔◌};
 
+use crate::black_rows::BlackRows;
 use crate::bounds::{Box4, Pixels};
 use crate::run::Run;
 use crate::runs::Runs;
@@ -38,6 +39,8 @@ impl Model for Picture {
 
 #[tactic(auto, using(crate::proofs::PicturePiles::of_piles))]
 impl Picture {
+    ghost use Rattle.mf_geom.specs.Coordinates.{last_in_field, least_coordinate};
+    ghost use Rattle.mf_rows.specs.BlackRows.{black_in, black_weights, row_in, row_runs, runs_in};
     ghost use Rattle.mf_rows.specs.Bounds.{AreBounds, IsLeastBox, among, is_positive_at};
     ghost use Rattle.mf_strips.specs.Corners.{AreCorners, HaveFieldStripWeights};
     ghost use Rattle.mf_rows.specs.Corners.{with_corners_at};
@@ -130,6 +133,16 @@ impl Picture {
         ensures lawful { IsPicture self.now }
     {
         Runs::of(&self.pile)
+    }
+
+    /// A reader of the stretches of black pixels, those of positive weight, which is in the top row of the field.
+    pub fn black_rows(&self) -> BlackRows<'_>
+        ensures black { black_in result ≡ black_weights (weight_at self.now) }
+        ensures row { row_in result ≡ last_in_field }
+        ensures runs { runs_in result ≡ row_runs (black_in result) last_in_field least_coordinate }
+        ensures lawful { IsPicture self.now }
+    {
+        BlackRows::of(&self.pile)
     }
 
     /// The k-th of the maximal runs that `runs` gives, counted from 0; `None` after the last. It walks the runs before it.

@@ -1,9 +1,9 @@
 //! The walk over the pixels of a picture, which meets its runs one after another.
-ghost use Rattle.std.specs.Prelude.{◌≡◌, ◌≢◌, [], ◌∷◌, ℤ, IfNone, IfSome, IsTrue, IsFalse, pos, ◌+ℤ◌, ◌≤ℤ◌, ◌<ℤ◌};
+ghost use Rattle.std.specs.Prelude.{◌≡◌, ◌≢◌, [], ◌∷◌, ℤ, IfNone, IfSome, IsTrue, IsFalse, pos, ◌+ℤ◌, ◌-ℤ◌, ◌≤ℤ◌, ◌<ℤ◌};
 ghost use Rattle.mf_geom.specs.Coordinates.{least_coordinate, greatest_coordinate};
 ghost use Rattle.mf_geom.specs.Field.{IsColumnOrRow};
 ghost use Rattle.mf_rows.specs.Reading.{AreBlankBelow, IsReading, IsReading-prop};
-ghost use Rattle.mf_strips.specs.RowEdges.{weight_left, weights_of};
+ghost use Rattle.mf_strips.specs.RowEdges.{AreSameRows, weight_left, weights_of};
 
 use crate::bounds::{Box4, Pixels};
 use crate::run::Run;
@@ -27,9 +27,12 @@ pub struct Walk<'a> {
 }
 
 impl<'a> Walk<'a> {
+    ghost use Rattle.mf_rows.specs.BlackRows.{black_weights, row_runs};
     ghost use Rattle.mf_rows.specs.Bounds.{AreBounds, AreColumns, among, from_row};
     ghost use Rattle.mf_rows.specs.Remaining.{remaining_runs, HasPassed, HasPassedRow, IsAtStart};
     ghost use Rattle.mf_rows.specs.Dots.{total_of};
+    ghost use Rattle.mf_rows.specs.Order.{IsRun};
+    ghost use Rattle.mf_rows.specs.Runs.{with_next};
     ghost use Rattle.mf_rows.specs.Totals.{row_total};
     ghost use Rattle.mf_rows.specs.Weights.{picture_of};
     ghost use Rattle.mf_strips.specs.PileWeights.{weight_in_pile};
@@ -85,24 +88,17 @@ impl<'a> Walk<'a> {
         Some(own.with(bounds))
     }
 
-    /// Passes the row at once, where it is that of a single part and pixels of nonzero weight are asked for, which are between its first
-    /// and its last edge. Answers their first and last column; `None` where nothing was passed. Requires that no pixel of the row was
-    /// passed yet.
-    fn pass_row(&mut self, pixels: Pixels) -> Option<(i32, i32)>
-        requires { self.old.x <ℤ least_coordinate }
-        ensures columns { IfSome result (λ columns. AreColumns (among pixels (weights_of self.old.edges)) self.old.y greatest_coordinate columns.0 columns.1) }
-        ensures start { IfNone result (self.new.x <ℤ least_coordinate) }
-        ensures passed { HasPassedRow self.old self.new }
+    /// The first and the last column of the row that have these pixels, where it is that of a single part and these are the columns at
+    /// which its first edge begins and its last one ends; else `None`. Requires that no pixel of the row was passed yet.
+    fn ends(&self, pixels: Pixels) -> Option<(i32, i32)>
+        requires { self.now.x <ℤ least_coordinate }
+        ensures { IfSome result (λ columns. AreColumns (among pixels (weights_of self.now.edges)) self.now.y greatest_coordinate columns.0 columns.1) }
     {
-        match pixels {
-            Pixels::Black => None,
-            Pixels::Nonzero => {
-                let (first, end) = self.edges.pass_all()?;
-                self.x = FIELD_END;
-                self.weight = 0;
-                Some((first, end - 1))
-            }
+        let (first, last) = self.edges.ends()?;
+        if pixels.has(first.weight) && pixels.has(-last.weight) {
+            return Some((first.x, last.x - 1));
         }
+        None
     }
 
     /// The first and the last column of the row that have these pixels; the first is the end of the field where there are none. Requires
@@ -112,7 +108,7 @@ impl<'a> Walk<'a> {
         ensures columns { AreColumns (among pixels (weights_of self.old.edges)) self.old.y greatest_coordinate result.0 result.1 }
         ensures passed { HasPassedRow self.old self.new }
     {
-        if let Some(columns) = self.pass_row(pixels) {
+        if let Some(columns) = self.ends(pixels) {
             return columns;
         }
         let (mut first, mut last) = (FIELD_END, FIELD_END);
@@ -193,6 +189,73 @@ impl<'a> Walk<'a> {
             len: self.x.abs_diff(x),
             weight,
         }
+    }
+
+    /// The next stretch of black pixels of the row, as a run of weight 1; `None` after the last.
+    #[inline(always)]
+    pub(crate) fn next_black(&mut self) -> Option<Run>
+        ensures next { row_runs (black_weights (weights_of self.old.edges)) self.old.y self.old.x
+            ≡ with_next result (row_runs (black_weights (weights_of self.old.edges)) self.old.y self.new.x) }
+        ensures over { IfNone result (row_runs (black_weights (weights_of self.old.edges)) self.old.y self.new.x ≡ []) }
+        ensures run { IfSome result IsRun }
+        ensures passed { HasPassedRow self.old self.new }
+    {
+        while self.weight <= 0 {
+            if self.x >= FIELD_END {
+                return None;
+            }
+            self.pass_equal();
+        }
+        Some(self.take_black())
+    }
+
+    /// Takes the stretch of black pixels that begins at the next pixel.
+    #[inline(always)]
+    fn take_black(&mut self) -> Run
+        requires { pos 0 <ℤ self.old.weight }
+        ensures next { row_runs (black_weights (weights_of self.old.edges)) self.old.y self.old.x
+            ≡ result ∷ row_runs (black_weights (weights_of self.old.edges)) self.old.y self.new.x }
+        ensures run { IsRun result }
+        ensures passed { HasPassedRow self.old self.new }
+    {
+        let x = self.x;
+        while self.weight > 0 {
+            self.pass_equal();
+        }
+        Run {
+            y: self.y,
+            x,
+            len: self.x.abs_diff(x),
+            weight: 1,
+        }
+    }
+
+    /// Passes the rows below that are known to be equal to the row, and answers how many: the walk is then in the lowest of them, at the
+    /// same column.
+    pub(crate) fn pass_equal_rows(&mut self) -> u32
+        ensures weights { weights_of self.new.edges ≡ weights_of self.old.edges }
+        ensures column { self.new.x ≡ self.old.x }
+        ensures count { self.new.y ≡ self.old.y -ℤ pos result }
+        ensures rows { AreSameRows (black_weights (weights_of self.old.edges)) self.new.y self.old.y }
+    {
+        let rows = self.y.abs_diff(self.bottom);
+        self.y = self.bottom;
+        rows
+    }
+
+    /// Goes to the left end of the next row down, and answers whether there is one in the field.
+    pub(crate) fn next_row(&mut self) -> bool
+        ensures weights { weights_of self.new.edges ≡ weights_of self.old.edges }
+        ensures row { IsTrue result → self.new.y ≡ self.old.y -ℤ pos 1 }
+        ensures within { IsTrue result → least_coordinate <ℤ self.old.y }
+        ensures column { IsTrue result → self.new.x <ℤ least_coordinate }
+        ensures last { IsFalse result → self.old.y ≡ least_coordinate }
+    {
+        if self.y == FIELD_START {
+            return false;
+        }
+        self.enter_row(self.y - 1);
+        true
     }
 
     /// Passes the pixels up to the next edge, or to the end of the row.

@@ -2,6 +2,7 @@
 
 mod assertions;
 mod black;
+mod black_rows;
 mod chance;
 mod corners;
 mod derived;

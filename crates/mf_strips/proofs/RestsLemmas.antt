@@ -1,8 +1,7 @@
 -- What is left of rows as their edges are passed.
-use Rattle.std.proofs.Common.{◌≡◌, ℕ, zero, suc, ◌<◌, ◌+◌, ◌-◌, ◌≢◌, ℤ, pos, ◌+ℤ◌, ◌-ℤ◌, ◌≤ℤ◌, ◌<ℤ◌, Option, None, Some, List, [], ◌∷◌, ◌++◌, slice_get, map, take, drop, get_or, set, length, refl, sym, ap, ◌∙◌, subst, arith}
+use Rattle.std.proofs.Common.{◌≡◌, ℕ, zero, suc, ◌<◌, ◌+◌, ◌-◌, ℤ, pos, ◌+ℤ◌, ◌-ℤ◌, ◌≤ℤ◌, ◌<ℤ◌, Some, List, [], ◌∷◌, ◌++◌, slice_get, map, take, drop, get_or, set, length, refl, sym, ap, ◌∙◌, subst, arith}
 use Rattle.std.specs.Int.{int_min}
 use Rattle.std.specs.List.{All}
-use Rattle.std.specs.Option.{IfNone}
 use Rattle.std.proofs.lemmas.Int.{ints, by_lt_z, fold-int_min_bounds}
 use Rattle.std.proofs.lemmas.List.{get_or-map, length-map, take_more_set}
 use Rattle.std.proofs.lemmas.List.Elements.{All-get_or}
@@ -101,30 +100,21 @@ last_edge low (d ∷ f ∷ es) (suc n) e sorted long is =
       after = λ z le. omega (arith, ints, weight_in-left d (f ∷ es) z (omega (arith, ints, further)), greatest, rest.after z le);
     }
 
--- the ends of a row, whose columns 32 bits hold
-pub record HasEnds (es : List Edge) (first end : Edge) : Type 0 where
-  pub left : IsEdge first
-  pub right : IsEdge end
-  pub ends : AreEnds (weight_in es) first.x end.x
-
-pub ends_of : (es : List Edge) (first end : Edge) → AreEdgesFrom least_coordinate es → weight_in es greatest_coordinate ≡ pos 0 → Some first ≡ slice_get es 0
-    → Some end ≡ slice_get es (length es - 1) → HasEnds es first end
-ends_of [] first end sorted closed is is_end = absurd cc
-ends_of (e ∷ es) first end sorted closed is is_end =
+pub ends_of : (es : List Edge) (first last : Edge) → AreEdgesFrom least_coordinate es → weight_in es greatest_coordinate ≡ pos 0 → Some first ≡ slice_get es 0
+    → Some last ≡ slice_get es (length es - 1) → AreEnds (weight_in es) first last
+ends_of [] first last sorted closed is is_last = absurd cc
+ends_of (e ∷ es) first last sorted closed is is_last =
     let same : e ≡ first = cc in
     let all : length (e ∷ es) - 1 ≡ length es = omega arith in
-    let last = last_edge least_coordinate (e ∷ es) (length es) end sorted (omega arith) (rw all at is_end) in
+    let end = last_edge least_coordinate (e ∷ es) (length es) last sorted (omega arith) (rw all at is_last) in
     let edges = next_edge (e ∷ es) e es refl sorted in
-    let begins : weight_in (e ∷ es) e.x ≢ pos 0 = λ zero. sorted.0.nonzero (edges.weight ∙ zero) in
-    subst (λ first. HasEnds (e ∷ es) first end) same (record {
-      left = sorted.0;
-      right = last.edge;
-      ends = record {
-        left = edges.edge.left;
-        right = λ z le. last.after z le ∙ closed;
-        begins = begins;
-        ends = λ zero. last.edge.nonzero (omega (arith, ints, last.before, closed, zero));
-      };
+    subst (λ first. AreEnds (weight_in (e ∷ es)) first last) same (record {
+      first = sorted.0;
+      last = end.edge;
+      left = edges.edge.left;
+      begins = sym edges.weight;
+      ends = omega (arith, ints, end.before, closed);
+      right = λ z le. end.after z le ∙ closed;
     })
 
 -- ---- the edges of all parts
@@ -182,25 +172,6 @@ next_of_single (r' ∷ []) r new e one next = record {
   edge = same_passed (λ z. omega (arith, ints)) (λ z. omega (arith, ints)) next.edge;
 }
 next_of_single (r' ∷ r'' ∷ rs) r new e one next = absurd (omega arith)
-
-weight_of_single : (rs : List Rest) (r : Rest) (z : ℤ) → length rs ≡ 1 → weight_in_all rs z ≡ weight_in (get_or rs 0 r).edges.now z
-weight_of_single [] r z one = absurd (omega arith)
-weight_of_single (r' ∷ []) r z one = omega (arith, ints)
-weight_of_single (r' ∷ r'' ∷ rs) r z one = absurd (omega arith)
-
--- which has no edges any more
-pub single_passed : (rs : List Rest) (new : Rest) (z : ℤ) → length rs ≡ 1 → new.edges.now ≡ [] → weight_in_all (set rs 0 new) z ≡ pos 0
-unfolding weight_in
-single_passed [] new z one none = absurd (omega arith)
-single_passed (r ∷ []) new z one none = rw none refl
-single_passed (r ∷ r' ∷ rs) new z one none = absurd (omega arith)
-
-pub single_kept : {A : Type 0} (rs : List Rest) (r new : Rest) (result : Option A) → length rs ≡ 1 → new.edges.now ≡ [] → IfNone result ((get_or rs 0 r).edges.now ≡ [])
-    → IfNone result ((z : ℤ) → weight_in_all (set rs 0 new) z ≡ weight_in_all rs z)
-unfolding weight_in
-single_kept rs r new None one none blank =
-    λ z. single_passed rs new z one none ∙ sym (weight_of_single rs r z one ∙ ap (λ es. weight_in es z) blank)
-single_kept rs r new (Some x) one none blank = blank
 
 -- the first n rests, where those were written
 pub first_written : (n : ℕ) (rs new : List Rest) → length new ≡ length (take n rs) → take n (new ++ drop n rs) ≡ new

@@ -3,7 +3,7 @@ use Rattle.std.specs.Prelude.{◌≡◌, ◌≢◌, ℤ, pos, ◌+ℤ◌, ◌-�
 use Rattle.std.specs.Int.{int_min}
 use Rattle.mf_geom.specs.Coordinates.{greatest_coordinate}
 use Rattle.mf_edges.specs.declared.edge.Edge.{Edge}
-use Rattle.mf_edges.specs.Edges.{weight_in}
+use Rattle.mf_edges.specs.Edges.{IsEdge, weight_in}
 use Rattle.mf_strips.specs.declared.rest.Rest.{Rest}
 
 -- the sum of the weights of all rests at column x
@@ -26,12 +26,14 @@ pub record IsPassedTo (x : ℤ) (g h : ℤ → ℤ) : Type 0 where
   pub right : (z : ℤ) → x ≤ℤ z → g z ≡ g x +ℤ h z
   pub passed : (z : ℤ) → z ≤ℤ x → h z ≡ pos 0
 
--- the first edge is at column `first`, and the last one at column `end`, where g are the weights that the edges make
-pub record AreEnds (g : ℤ → ℤ) (first end : ℤ) : Type 0 where
-  pub left : (z : ℤ) → z <ℤ first → g z ≡ pos 0
-  pub right : (z : ℤ) → end ≤ℤ z → g z ≡ pos 0
-  pub begins : g first ≢ pos 0
-  pub ends : g (end -ℤ pos 1) ≢ pos 0
+-- e is the first edge and f is the last one, where g are the weights that the edges make, whose sum is 0
+pub record AreEnds (g : ℤ → ℤ) (e f : Edge) : Type 0 where
+  pub first : IsEdge e
+  pub last : IsEdge f
+  pub left : (z : ℤ) → z <ℤ e.x → g z ≡ pos 0
+  pub begins : g e.x ≡ e.weight
+  pub ends : g (f.x -ℤ pos 1) ≡ pos 0 -ℤ f.weight
+  pub right : (z : ℤ) → f.x ≤ℤ z → g z ≡ pos 0
 
 -- an edge was passed, whose weight is 0 only at the end of the field
 pub record IsNextEdge (g h : ℤ → ℤ) (e : Edge) : Type 0 where

@@ -1,6 +1,7 @@
 //! The slow form of a picture: the list of its pixels. Its answers are worked out pixel by pixel, and tests compare
 //! those of pictures with them.
 
+use super::black_rows::assert_stretches;
 use super::{assert_equality, assert_runs_in, expect_picture};
 use crate::tests::assertions::assert_same;
 use mf_base::OutOfMemory;
@@ -122,15 +123,15 @@ impl SlowPicture {
         bounds
     }
 
-    /// The least box of the pixels of positive weight.
-    fn black_bounds(&self) -> Option<Box4> {
-        let mut bounds = None;
+    /// The picture of its pixels of positive weight, which have weight 1 there.
+    fn black(&self, alloc: Global) -> Result<SlowPicture, OutOfMemory> {
+        let mut black = SlowPicture::blank(alloc);
         for pixel in &self.pixels {
             if pixel.weight > 0 {
-                bounds = Some(pixel.widen(bounds));
+                black.push_pixel(pixel.x, pixel.y, 1)?;
             }
         }
-        bounds
+        Ok(black)
     }
 
     /// The maximal runs: each begins at a pixel whose left neighbour has another weight.
@@ -177,16 +178,28 @@ impl SlowPicture {
             self.bounds(),
             ("bounds in case", case),
         );
-        assert_same(
-            rt,
-            picture.black_bounds(),
-            self.black_bounds(),
-            ("black bounds in case", case),
-        );
+        self.assert_black_of(rt, case, picture);
         let runs = self
             .runs(rt.alloc())
             .expect(rt, "there is room for the runs");
         assert_runs_in(rt, case, picture, &runs);
+    }
+
+    /// Asserts that the black pixels of a picture are those of this one.
+    fn assert_black_of<R: Abort + AllocGlobal>(&self, rt: &R, case: usize, picture: &Picture) {
+        let black = self
+            .black(rt.alloc())
+            .expect(rt, "there is room for the black pixels");
+        assert_same(
+            rt,
+            picture.black_bounds(),
+            black.bounds(),
+            ("black bounds in case", case),
+        );
+        let runs = black
+            .runs(rt.alloc())
+            .expect(rt, "there is room for the black runs");
+        assert_stretches(rt, case, picture, &runs);
     }
 
     /// Asserts that a picture is equal to that of the pixels, and not to that of all but the last of them.

@@ -1,5 +1,5 @@
 //! Passing the edges of a part.
-ghost use Rattle.std.specs.Prelude.{◌≡◌, ◌≤ℤ◌, ◌<ℤ◌, [], IfNone, IfSome, pos};
+ghost use Rattle.std.specs.Prelude.{◌≡◌, ◌≤ℤ◌, ◌<ℤ◌, IfSome, pos};
 ghost use Rattle.mf_geom.specs.Coordinates.{greatest_coordinate, least_coordinate};
 ghost use Rattle.mf_edges.specs.Edges.{AreEdgesFrom, weight_in};
 ghost use Rattle.mf_strips.specs.Rests.{AreEnds, IsNextEdge, IsPassedTo, column_of};
@@ -35,16 +35,12 @@ impl<'a> Rest<'a> {
         }
     }
 
-    /// Passes all edges, whose sum is 0. Answers the columns of the first and of the last one, `None` where there are none.
-    pub(crate) fn pass_all(&mut self) -> Option<(i32, i32)>
-        requires { weight_in self.old.edges.now greatest_coordinate ≡ pos 0 }
-        ensures ends { IfSome result (λ ends. AreEnds (weight_in self.old.edges.now) ends.0 ends.1) }
-        ensures none { IfNone result (self.old.edges.now ≡ []) }
-        ensures passed { self.new.edges.now ≡ [] }
+    /// The first and the last edge, `None` where there are none. Requires that the edges have a sum of 0.
+    pub(crate) fn ends(&self) -> Option<(Edge, Edge)>
+        requires { weight_in self.now.edges.now greatest_coordinate ≡ pos 0 }
+        ensures { IfSome result (λ ends. AreEnds (weight_in self.now.edges.now) ends.0 ends.1) }
     {
-        let edges = self.edges;
-        self.edges = &[];
-        Some((edges.first()?.x, edges.last()?.x))
+        Some((*self.edges.first()?, *self.edges.last()?))
     }
 
     /// The column of the first edge, the end of the field where there is none.

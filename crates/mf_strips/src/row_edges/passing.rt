@@ -1,5 +1,5 @@
 //! Entering rows, and passing their edges.
-ghost use Rattle.std.specs.Prelude.{◌≡◌, ℤ, pos, ◌≤ℤ◌, ◌<ℤ◌, IfNone, IfSome, length};
+ghost use Rattle.std.specs.Prelude.{◌≡◌, ℤ, pos, ◌≤ℤ◌, ◌<ℤ◌, IfSome, length};
 ghost use Rattle.mf_geom.specs.Coordinates.{greatest_coordinate};
 ghost use Rattle.mf_geom.specs.Field.{IsColumnOrRow};
 ghost use Rattle.mf_edges.specs.Merging.{IsDifference};
@@ -30,15 +30,14 @@ impl<'a> RowEdges<'a> {
         ensures rows { AreSameRows (weights_of self.old) result y }
         ensures same { weights_of self.new ≡ weights_of self.old }
     {
-        let mut rests = [Rest::of(&[]); MAX_PARTS];
         let mut bottom = FIELD_START;
         let parts = &self.pile.parts[..];
+        let rests = &mut self.rests[..];
         for i in 0..parts.len() {
             let rows = parts[i].equal_rows(y);
             rests[i] = Rest::of(rows.edges);
             bottom = bottom.max(rows.bottom);
         }
-        self.rests = rests;
         bottom
     }
 
@@ -53,31 +52,18 @@ impl<'a> RowEdges<'a> {
         pass_edge(&mut self.rests[..self.pile.parts.len()])
     }
 
-    /// Passes all edges at once, where there is one part. Answers the columns of the first and of the last one, `None` where there are
-    /// none, and where there is another number of parts: then nothing is passed. Requires that the edges have a sum of 0.
-    pub fn pass_all(&mut self) -> Option<(i32, i32)>
-        requires { weight_left self.old greatest_coordinate ≡ pos 0 }
-        ensures ends { IfSome result (λ ends. AreEnds (weight_left self.old) ends.0 ends.1) }
-        ensures passed { IfSome result (λ _. (x : ℤ) → weight_left self.new x ≡ pos 0) }
-        ensures kept { IfNone result ((x : ℤ) → weight_left self.new x ≡ weight_left self.old x) }
-        ensures same { weights_of self.new ≡ weights_of self.old }
+    /// The first and the last edge that are left, where there is one part and edges are left; else `None`. Requires that they have a sum
+    /// of 0.
+    pub fn ends(&self) -> Option<(Edge, Edge)>
+        requires { weight_left self.now greatest_coordinate ≡ pos 0 }
+        ensures { IfSome result (λ ends. AreEnds (weight_left self.now) ends.0 ends.1) }
     {
-        pass_all(&mut self.rests[..self.pile.parts.len()])
+        if self.pile.parts.len() != 1 {
+            return None;
+        }
+        let rests = &self.rests[..];
+        rests[0].ends()
     }
-}
-
-/// Passes all edges of a single part.
-fn pass_all(rests: &mut [Rest<'_>]) -> Option<(i32, i32)>
-    requires { weight_in_all rests.old greatest_coordinate ≡ pos 0 }
-    ensures ends { IfSome result (λ ends. AreEnds (weight_in_all rests.old) ends.0 ends.1) }
-    ensures passed { IfSome result (λ _. (x : ℤ) → weight_in_all rests.new x ≡ pos 0) }
-    ensures kept { IfNone result ((x : ℤ) → weight_in_all rests.new x ≡ weight_in_all rests.old x) }
-    ensures each { length rests.new ≡ length rests.old }
-{
-    if rests.len() != 1 {
-        return None;
-    }
-    rests[0].pass_all()
 }
 
 /// Passes the next edge. Mostly there is one part, and it takes few steps.
@@ -93,7 +79,9 @@ fn pass_edge(rests: &mut [Rest<'_>]) -> Edge
     pass_together(rests)
 }
 
-/// Passes the first column in which the edges of all parts have a sum that is not 0.
+/// Passes the first column in which the edges of all parts have a sum that is not 0. Kept apart, so that passing the edge of a single part
+/// stays short.
+#[inline(never)]
 fn pass_together(rests: &mut [Rest<'_>]) -> Edge
     requires { (x : ℤ) → IsDifference (weight_in_all rests.old x) }
     ensures passed { IsNextEdge (weight_in_all rests.old) (weight_in_all rests.new) result }

@@ -1,6 +1,7 @@
 use Rattle.std.proofs.Common.{◌≡◌, to_z, of_z, w32, arith}
 use Rattle.std.proofs.lemmas.Int.{ints}
 use Rattle.mf_rows.proofs.BoxesPassed.{in_field, same_rows, blank_rows, more_rows}
+use Rattle.mf_rows.proofs.PassedPixels.{bottom_fits, row_fits}
 use Rattle.mf_rows.proofs.walk.Walk.widen.Goals as goal
 
 pub returns-then-first-ge-FIELD_END-clause-bounds : goal.returns-then-first-ge-FIELD_END-clause-bounds
@@ -17,8 +18,6 @@ returns-clause-bounds c =
     let passed = c.columns-first.ensures.passed in
     let first : to_z w32 (of_z w32 columns.0) ≡ columns.0 = omega (arith, ints, c.columns-first.type_inv) in
     let last : to_z w32 (of_z w32 columns.1) ≡ columns.1 = omega (arith, ints, c.columns-first.type_inv) in
-    let bottom : to_z w32 (of_z w32 t.bottom) ≡ s.bottom = omega (arith, ints, passed.bottom, s.reading.rows.low, s.reading.rows.order, s.reading.top) in
-    let row : to_z w32 (of_z w32 t.y) ≡ s.y = omega (arith, ints, passed.row, s.reading.rows.low, s.reading.rows.order, s.reading.top) in
-    rw (c.with.ensures, first, last, bottom, row)
+    rw (c.with.ensures, first, last, bottom_fits t, row_fits t, passed.bottom, passed.row)
     (more_rows _ (in_field c.args.pixels s) s.bottom s.y _ _ s.reading.rows.order (same_rows c.args.pixels s) c.columns-first.ensures.columns
     (omega (arith, ints, c.if-first-ge-FIELD_END.false)) _ c.requires.bounds)

@@ -1,9 +1,10 @@
-use Rattle.std.proofs.Common.{◌≡◌, ◌<◌, take, length, to_z, of_z, to_z-of_z, w32, refl, sym, ap, ◌∙◌, arith}
+use Rattle.std.proofs.Common.{◌≡◌, ◌<◌, rules, take, length, to_z, of_z, to_z-of_z, w32, refl, sym, ap, ◌∙◌, arith}
 use Rattle.std.specs.Arc.{arc_value}
 use Rattle.std.specs.Vec.{vec_len}
 use Rattle.std.proofs.lemmas.Int.{ints}
-use Rattle.std.proofs.lemmas.List.{length-set, take_all}
+use Rattle.std.proofs.lemmas.List.{take_all}
 use Rattle.mf_strips.specs.Parts.{weight_in_parts}
+use Rattle.mf_strips.specs.Piles.{most_parts}
 use Rattle.mf_strips.specs.RowEdges.{weight_left, weights_of}
 use Rattle.mf_strips.proofs.PileReads.{both_same, weight_in_parts-more}
 use Rattle.mf_strips.proofs.RestsLemmas.{weight_in_all-set}
@@ -15,7 +16,6 @@ unfolding weight_in_parts
 loop-i-init c = rw (to_z-of_z c.ranges.y) (record {
   edges = λ x. refl;
   rows = record { low = omega (arith, ints); order = c.requires.least; same = λ x v low high. refl };
-  room = refl;
 })
 
 pub loop-i-preserved : goal.loop-i-preserved
@@ -28,11 +28,11 @@ loop-i-preserved c =
     let bottom : to_z w32 (of_z w32 c.equal_rows-rows.result.bottom) ≡ c.equal_rows-rows.result.bottom = omega (arith, ints) in
     let next : to_z w32 (of_z w32 c.max-bottom.result) ≡ c.max-bottom.result = omega (arith, ints) in
     let more = weight_in_parts-more parts i c.index-parts-i.result c.loop-i-test.true in
-    let in_rests : i < length c.loop-i.rests = omega (arith, so_far.room, c.args.self.now.pile.now.lawful.few, c.deref.ensures.len) in
+    let room : length c.args.self.now.rests ≡ most_parts = search rules in
+    let in_rests : i < length c.loop-i.rests = omega (arith, room, c.args.self.now.pile.now.lawful.few, c.deref.ensures.len) in
     rw (y, next) (record {
       edges = λ x. weight_in_all-set c.loop-i.rests i c.of.result in_rests x ∙ rw (c.of.ensures, so_far.edges, found.row) (sym (more x c.args.y));
       rows = both_same more so_far.rows (found.rows c.requires) _ (rw bottom at c.max-bottom.ensures.value);
-      room = length-set c.loop-i.rests i c.of.result ∙ so_far.room;
     })
 
 parts_end : (c : After-loop-i) → take c.loop-i.i c.deref.result.now ≡ c.args.self.now.pile.now.parts.items

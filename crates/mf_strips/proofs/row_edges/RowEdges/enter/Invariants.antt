@@ -1,6 +1,5 @@
-use Rattle.std.proofs.Common.{◌≡◌, ℤ, take, length}
+use Rattle.std.proofs.Common.{◌≡◌, ℤ, take}
 use Rattle.mf_strips.specs.Parts.{weight_in_parts}
-use Rattle.mf_strips.specs.Piles.{most_parts}
 use Rattle.mf_strips.specs.Rests.{weight_in_all}
 use Rattle.mf_strips.specs.RowEdges.{AreSameRows}
 use Rattle.mf_strips.proofs.row_edges.RowEdges.enter.Given as goal
@@ -9,5 +8,4 @@ abbrev pub invariant-loop-i : goal.invariant-loop-i
 invariant-loop-i l = record {
   edges : (x : ℤ) → weight_in_all (take l.i l.rests) x ≡ weight_in_parts (take l.i l.parts) x l.y;
   rows : AreSameRows (weight_in_parts (take l.i l.parts)) l.bottom l.y;
-  room : length l.rests ≡ most_parts;
 }
