@@ -7,39 +7,47 @@ use Rattle.std.proofs.lemmas.Bool.{cond_both, cond-true, cond-false, and_parts, 
 use Rattle.std.proofs.lemmas.Bool.Decides.{Decides-int_eq}
 use Rattle.std.proofs.lemmas.Int.{ints}
 use Rattle.std.proofs.lemmas.List.Elements.{All-head, All-nil, All-weaker}
-use Rattle.mf_geom.specs.Coordinates.{least_coordinate, last_in_field}
+use Rattle.mf_geom.specs.Coordinates.{least_coordinate}
 use Rattle.byteorder.specs.Endian.{big_number, twos_complement}
 use Rattle.byteorder.specs.Numbers.{big_number-reads_back}
 use Rattle.mf_rows.specs.Bounds.{IsDotIn}
 use Rattle.mf_rows.specs.Boxes.{box_of_dots}
-use Rattle.mf_rows.specs.Dots.{Dot, IsPicture, AreDotsFrom, place}
+use Rattle.mf_rows.specs.Dots.{Dot, IsDot, IsPicture, AreDotsFrom, place, start_of_field}
+use Rattle.mf_rows.proofs.BoundsInField.{All-Any}
 use Rattle.mf_rows.proofs.BoxesOfDots.{least_box_of_dots, least_box_of_field}
+use Rattle.mf_rows.proofs.DotsLemmas.{dots_from-after, dots_from-lawful}
 use Rattle.mf_gf.specs.declared.boxes.CharacterBox.{CharacterBox}
 use Rattle.mf_gf.specs.Boxes.{IsBoxInRange, box_at, box_of_pixels}
 use Rattle.mf_gf.specs.Numbers.{IsWord, code_count, word}
 use Rattle.mf_gf.specs.Painting.{head_of, head_of_boc1, pixels_in, pixels_of_character}
 use Rattle.mf_gf.specs.Spelling.{is_byte, is_short, short_begin, long_begin, begin}
 
--- the machine can paint pixels when it starts at the left end and the top of a box
+-- pixels begin in this row
+abbrev pub IsTop : ℤ → List Dot → Type 0
+IsTop row [] = Unit {0}
+IsTop row (d ∷ ds) = d.y ≡ row
+
+-- pixels lie at or right of the left end of a box, and begin in its top row
 pub record IsBoxOf (b : CharacterBox) (ds : List Dot) : Type 0 where
   pub left : least_coordinate ≤ℤ b.min_m
-  pub top : b.max_n ≤ℤ last_in_field
   pub columns : All (λ (d : Dot). b.min_m ≤ℤ d.x) ds
-  pub dots : AreDotsFrom (place b.min_m b.max_n) ds
+  pub top : IsTop b.max_n ds
 
 pub box_round_dots : (ds : List Dot) → IsPicture ds → IsBoxOf (box_of_pixels ds) ds
 unfolding box_of_pixels place
-box_round_dots [] picture = record { left = omega (arith, ints); top = omega (arith, ints); columns = All-nil (λ (d : Dot). pos 0 ≤ℤ d.x); dots = tt }
+box_round_dots [] picture = record { left = omega (arith, ints); columns = All-nil (λ (d : Dot). pos 0 ≤ℤ d.x); top = tt }
 box_round_dots (d ∷ ds) picture =
     let b = box_of_dots d ds in
     let least = least_box_of_dots d ds in
-    let field = least_box_of_field (d ∷ ds) b picture least in
     let first = All-head (IsDotIn b) d ds least.within in
+    let highest = λ (e : Dot). e.y ≡ b.max_y in
+    let dot = All-Any highest IsDot (d ∷ ds) least.top (dots_from-lawful start_of_field (d ∷ ds) picture.dots) in
+    let from_here : AreDotsFrom (place d.x d.y) (d ∷ ds) = (picture.dots.0, omega (arith, ints), picture.dots.2) in
+    let after = All-Any highest (λ e. place d.x d.y ≤ℤ place e.x e.y) (d ∷ ds) least.top (dots_from-after (place d.x d.y) (d ∷ ds) from_here) in
     record {
-      left = field.left;
-      top = field.top;
+      left = (least_box_of_field (d ∷ ds) b picture least).left;
       columns = All-weaker (IsDotIn b) (λ e. b.min_x ≤ℤ e.x) (λ e inside. inside.left) (d ∷ ds) least.within;
-      dots = (picture.dots.0, omega (arith, ints, first), picture.dots.2);
+      top = omega (arith, ints, first, after, picture.dots.0, dot, least.top.4);
     }
 
 -- a signed number of four bytes is read back

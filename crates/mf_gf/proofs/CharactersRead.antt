@@ -1,7 +1,6 @@
 -- The characters of a file, read back from p to p.
 use Rattle.std.proofs.Common.{◌≡◌, ◌<◌, ◌≤◌, ◌==◌, ◌||◌, ℕ, Bool, ℤ, pos, if◌then◌else◌, List, [], ◌∷◌, ◌++◌, map, reverse, length, take}
 use Rattle.std.proofs.Common.{drop, Some, option_map, is_some, refl, ap, sym, subst, ◌∙◌, append_assoc, append-nil, length-append, eqb-true, arith}
-use Rattle.std.specs.Int.Signed.{≤ℤ_refl}
 use Rattle.std.specs.List.{All, filter, list_any}
 use Rattle.std.proofs.Math.Seq.{drop-append_seam, take-append_seam}
 use Rattle.std.proofs.lemmas.Int.{ints}
@@ -9,8 +8,6 @@ use Rattle.std.proofs.lemmas.List.{drop-append-le}
 use Rattle.std.proofs.lemmas.List.Elements.{All-head, All-tail}
 use mathlib.Core.List.{reverse-cons}
 use Rattle.mf_rows.specs.Dots.{Dot}
-use Rattle.mf_rows.specs.Runs.{runs_of}
-use Rattle.mf_rows.proofs.RunsLemmas.{dots_of-runs_of}
 use Rattle.mf_gf.specs.Boxes.{box_of_pixels}
 use Rattle.mf_gf.specs.Files.{Character, FileSoFar, Shipment, last_shipment, last_place, shipments, spell_after, with_character, with_characters}
 use Rattle.mf_gf.specs.Format as gf
@@ -18,10 +15,9 @@ use Rattle.mf_gf.specs.Numbers.{IsWord, code_count, greatest_word}
 use Rattle.mf_gf.specs.Painting.{head_of, pixels_of_character}
 use Rattle.mf_gf.specs.Pixels.{IsPixelSet}
 use Rattle.mf_gf.specs.Pointers.{IsCharacterAt, IsShippable, LeadsBack}
-use Rattle.mf_gf.specs.Spelling.{begin, pointer, spell, stretches_text}
-use Rattle.mf_gf.proofs.BlackRuns.{ahead_runs}
+use Rattle.mf_gf.specs.Spelling.{begin, pointer, spell, pixels_text}
 use Rattle.mf_gf.proofs.BoxesInRange.{box_in_range}
-use Rattle.mf_gf.proofs.BoxOfDots.{box_round_dots, head-begin, paint-begin}
+use Rattle.mf_gf.proofs.BoxOfDots.{head-begin, paint-begin}
 use Rattle.mf_gf.proofs.DrawnRows.{pixels_in-rows}
 use Rattle.mf_gf.proofs.LocatorsRead.{split}
 use Rattle.mf_gf.proofs.Shipped.{shipment_after}
@@ -33,7 +29,7 @@ pub head-spell : (code : ℕ) (p : ℤ) (ds : List Dot) (rest : List ℕ) → co
 unfolding spell
 head-spell code p ds rest fits p_fits set =
     let b = box_of_pixels ds in
-    let all = stretches_text b.min_m b.max_n b.min_m (runs_of ds) in
+    let all = pixels_text b.min_m ds in
     ap (λ bytes. head_of (bytes ++ rest)) (append_assoc (begin code p b) all (gf.eoc ∷ []))
     ∙ ap head_of (append_assoc (begin code p b) (all ++ gf.eoc ∷ []) rest)
     ∙ head-begin code p b (all ++ gf.eoc ∷ [] ++ rest) fits p_fits (box_in_range ds set.picture)
@@ -43,13 +39,9 @@ pub pixels_of_spell : (code : ℕ) (p : ℤ) (ds : List Dot) → IsPixelSet ds �
 unfolding spell
 pixels_of_spell code p ds set =
     let b = box_of_pixels ds in
-    let all = stretches_text b.min_m b.max_n b.min_m (runs_of ds) in
-    let inside = box_round_dots ds set.picture in
-    let next = ahead_runs b.min_m b.max_n b.min_m ds inside.left (≤ℤ_refl b.min_m) inside.top inside.dots set.ones inside.columns in
+    let all = pixels_text b.min_m ds in
     ap pixels_of_character (append_assoc (begin code p b) all (gf.eoc ∷ []))
-    ∙ paint-begin code p b (all ++ gf.eoc ∷ []) (box_in_range ds set.picture)
-    ∙ pixels_in-rows b (runs_of ds) next
-    ∙ ap (λ dots. Some dots) (dots_of-runs_of ds)
+    ∙ paint-begin code p b (all ++ gf.eoc ∷ []) (box_in_range ds set.picture) ∙ pixels_in-rows ds set
 
 -- a character is in the bytes at its place, and has this p
 pub record StandsAt (bytes : List ℕ) (s : Shipment) (p : ℤ) : Type 0 where

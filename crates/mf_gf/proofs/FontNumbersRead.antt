@@ -6,14 +6,13 @@ use Rattle.std.specs.Option.{option_and_then}
 use Rattle.std.proofs.Math.Seq.{drop-append_seam, get_or-append_seam, take-append_seam}
 use Rattle.std.proofs.lemmas.Bool.{cond-true}
 use Rattle.mf_rows.specs.Dots.{Dot}
-use Rattle.mf_rows.specs.Runs.{runs_of}
 use Rattle.mf_gf.specs.declared.file.FontWords.{FontWords}
 use Rattle.mf_gf.specs.Boxes.{box_of_pixels}
 use Rattle.mf_gf.specs.Files.{Character, FileSoFar, box_of_all, bytes_so_far, file_of}
 use Rattle.mf_gf.specs.Files.{last_place, post_text, preamble, shipments, with_character, with_characters}
 use Rattle.mf_gf.specs.FontNumbers.{IsAfterEoc, comment_of, post_at, post_of, read_post}
 use Rattle.mf_gf.specs.Numbers.{greatest_word}
-use Rattle.mf_gf.specs.Spelling.{begin, pointer, spell, stretches_text}
+use Rattle.mf_gf.specs.Spelling.{begin, pointer, spell, pixels_text}
 use Rattle.mf_gf.proofs.PostFound.{post_place-file}
 use Rattle.mf_gf.proofs.Shipped.{bytes_after_post, bytes_so_far-more, file-begins, file_of-parts}
 
@@ -57,7 +56,7 @@ module _ (words : FontWords) (comment : List ℕ) (cs : List Character) where
 spell-ends : (code : ℕ) (p : ℤ) (ds : List Dot) → (before : List ℕ) × (spell code p ds ≡ before ++ 69 ∷ [])
 unfolding spell
 spell-ends code p ds =
-    let b = box_of_pixels ds in (begin code p b ++ stretches_text b.min_m b.max_n b.min_m (runs_of ds), refl)
+    let b = box_of_pixels ds in (begin code p b ++ pixels_text b.min_m ds, refl)
 
 byte_before : (before more bytes : List ℕ) (last : ℕ) → bytes ≡ before ++ last ∷ [] → slice_index (bytes ++ more) (length bytes - 1) ≡ last
 byte_before before more bytes last is =

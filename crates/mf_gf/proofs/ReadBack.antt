@@ -1,75 +1,43 @@
 -- The bytes of painting commands, read back.
-use Rattle.std.proofs.Common.{◌≡◌, ℕ, zero, suc, ◌+◌, ◌-◌, ◌≤◌, List, [], ◌∷◌, ◌++◌, length, Option, None, Some}
-use Rattle.std.proofs.Common.{option_map, refl, sym, ap, ◌∙◌, append_assoc, append-nil, length-append, arith}
+use Rattle.std.proofs.Common.{◌≡◌, ℕ, zero, suc, ◌≤◌, List, [], ◌∷◌, ◌++◌, length, Option, None, Some, option_map, refl, ap, length-append, arith}
 use Rattle.std.proofs.lemmas.Int.{ints}
 use Rattle.std.proofs.lemmas.Bool.{cond-true, cond_both}
 use Rattle.byteorder.specs.Numbers.{big_number-reads_back}
+use Rattle.mf_rows.specs.Dots.{Dot}
 use Rattle.mf_gf.specs.Format as gf
 use Rattle.mf_gf.specs.Numbers.{greatest_halfword}
-use Rattle.mf_gf.specs.Painting.{Stroke, Paint, Read, read_stroke, strokes_at_end, strokes_within, strokes}
+use Rattle.mf_gf.specs.Painting.{Machine, Stroke, Paint, machine_after, pixels_of_stroke, pixels_of_strokes, read_stroke, strokes_within}
 use Rattle.mf_gf.specs.Spelling.{paint}
-
--- what is read where these bytes begin with a command
-abbrev read_as : Stroke → List ℕ → Option Read
-read_as stroke rest = Some (record { stroke = Some stroke; rest = rest })
 
 -- these bytes are read as this command, whatever comes after them
 pub record IsCommand (bytes : List ℕ) (stroke : Stroke) : Type 0 where
   pub some : 1 ≤ length bytes
-  pub read : (rest : List ℕ) → read_stroke (bytes ++ rest) ≡ read_as stroke rest
+  pub read : (rest : List ℕ) → read_stroke (bytes ++ rest) ≡ Some (record { stroke = Some stroke; rest = rest })
 
 pub writes_paint : (n : ℕ) → n ≤ greatest_halfword → IsCommand (paint n) (Paint n)
 unfolding paint read_stroke
 writes_paint n fits = grind (arith, ints, cond_both, cond-true, big_number-reads_back)
 
--- these bytes are read as these commands, whatever comes after them
-pub record Spells (bytes : List ℕ) (commands : List Stroke) : Type 0 where
-  pub few : length commands ≤ length bytes
-  pub read : (m n : ℕ) (rest : List ℕ) → m ≡ length commands + n
-      → strokes_within m (bytes ++ rest) ≡ option_map (λ others. commands ++ others) (strokes_within n rest)
+-- a machine that reads these bytes, up to the end of a character, makes these pixels black
+abbrev pub Draws : Machine → List ℕ → List Dot → Type 0
+Draws machine bytes ds = (n : ℕ) → length bytes ≤ n → option_map (pixels_of_strokes machine) (strokes_within n bytes) ≡ Some ds
 
--- the commands from one on, where n more of them may be read
-abbrev from_read : ℕ → Option Read → Option (List Stroke)
-from_read n next = elim next [
-  | None ↦ None
-  | Some read ↦ elim read.stroke [
-    | None ↦ strokes_at_end read.rest
-    | Some stroke ↦ option_map (λ strokes. stroke ∷ strokes) (strokes_within n read.rest)
-  ]
-]
+pub draws_eoc : (machine : Machine) → Draws machine (gf.eoc ∷ []) []
+unfolding pixels_of_strokes strokes_within read_stroke
+draws_eoc machine zero fits = absurd (omega (arith, fits))
+draws_eoc machine (suc n) fits = refl
 
-strokes_within-more : (m n : ℕ) (bytes rest : List ℕ) (stroke : Stroke) → m ≡ 1 + n → read_stroke bytes ≡ read_as stroke rest
-    → strokes_within m bytes ≡ option_map (λ others. stroke ∷ others) (strokes_within n rest)
+first_drawn : (machine : Machine) (stroke : Stroke) (ds : List Dot) (strokes : Option (List Stroke))
+    → option_map (pixels_of_strokes (machine_after machine stroke)) strokes ≡ Some ds
+    → option_map (pixels_of_strokes machine) (option_map (λ others. stroke ∷ others) strokes) ≡ Some (pixels_of_stroke machine stroke ++ ds)
+unfolding pixels_of_strokes
+first_drawn machine stroke ds None drawn = absurd (cc)
+first_drawn machine stroke ds (Some others) drawn = ap (option_map (λ es. pixels_of_stroke machine stroke ++ es)) drawn
+
+pub draws_first : (machine : Machine) (bytes : List ℕ) (stroke : Stroke) (rest : List ℕ) (ds : List Dot) → IsCommand bytes stroke
+    → Draws (machine_after machine stroke) rest ds → Draws machine (bytes ++ rest) (pixels_of_stroke machine stroke ++ ds)
 unfolding strokes_within
-strokes_within-more zero n bytes rest stroke same read = absurd (omega arith)
-strokes_within-more (suc m) n bytes rest stroke same read =
-    let less : m ≡ n = omega arith in ap (from_read m) read ∙ ap (λ fuel. option_map (λ others. stroke ∷ others) (strokes_within fuel rest)) less
-
-pub spells_one : (bytes : List ℕ) (stroke : Stroke) → IsCommand bytes stroke → Spells bytes (stroke ∷ [])
-spells_one bytes stroke writes = record {
-  few = writes.some;
-  read = λ m n rest same. strokes_within-more m n (bytes ++ rest) rest stroke same (writes.read rest);
-}
-
-all_of_both : (ss ts : List Stroke) (others : Option (List Stroke))
-    → option_map (λ more. ss ++ more) (option_map (λ more. ts ++ more) others) ≡ option_map (λ more. (ss ++ ts) ++ more) others
-all_of_both ss ts None = refl
-all_of_both ss ts (Some more) = ap (λ all. Some all) (sym (append_assoc ss ts more))
-
-pub spells_both : (before after : List ℕ) (ss ts : List Stroke) → Spells before ss → Spells after ts → Spells (before ++ after) (ss ++ ts)
-spells_both before after ss ts first second = record {
-  few = omega (arith, length-append before after, length-append ss ts, first.few, second.few);
-  read = λ m n rest same.
-      rw (append_assoc before after rest)
-      (first.read m (length ts + n) (after ++ rest) (omega (arith, same, length-append ss ts))
-      ∙ ap (option_map (λ more. ss ++ more)) (second.read (length ts + n) n rest refl)
-      ∙ all_of_both ss ts (strokes_within n rest));
-}
-
--- the same with the end of the character after them
-pub strokes-eoc : (bytes : List ℕ) (commands : List Stroke) → Spells bytes commands → strokes (bytes ++ gf.eoc ∷ []) ≡ Some commands
-unfolding strokes_within read_stroke
-strokes-eoc bytes commands spells =
-    let left = length bytes - length commands in
-    spells.read (length (bytes ++ gf.eoc ∷ [])) (suc left) (gf.eoc ∷ []) (omega (arith, spells.few, length-append bytes (gf.eoc ∷ [])))
-    ∙ ap (λ all. Some all) (append-nil commands)
+draws_first machine bytes stroke rest ds command others zero fits = absurd (omega (arith, fits, command.some, length-append bytes rest))
+draws_first machine bytes stroke rest ds command others (suc n) fits =
+    rw (command.read rest, option_map)
+    (first_drawn machine stroke ds (strokes_within n rest) (others n (omega (arith, fits, command.some, length-append bytes rest))))

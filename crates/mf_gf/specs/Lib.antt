@@ -1,4 +1,3 @@
-pub mod Ahead
 pub mod Boxes
 pub mod Files
 pub mod FontNumbers
@@ -9,5 +8,6 @@ pub mod Numbers
 pub mod Painting
 pub mod Pixels
 pub mod Pointers
+pub mod Rows
 pub mod Spelling
 pub mod Spellings

@@ -1,11 +1,12 @@
 -- The bytes of a character (The METAFONTbook, Appendix G).
-use Rattle.std.specs.Prelude.{◌+◌, ◌-◌, ◌==◌, ◌&&◌, Bool, ℕ, nat_le, ℤ, pos, negsuc, ◌+ℤ◌, ◌-ℤ◌, int_le, List, [], ◌∷◌, ◌++◌, Option, None, Some, if◌then◌else◌}
+use Rattle.std.specs.Prelude.{◌+◌, ◌==◌, ◌&&◌, Bool, ℕ, zero, suc, nat_le, ℤ, pos, negsuc, ◌+ℤ◌, ◌-ℤ◌, int_le, List, [], ◌∷◌, ◌++◌, Option, None, Some, option_map, flat_map, if◌then◌else◌}
 use Rattle.std.specs.Int.RustNames.{unsigned_abs}
 use Rattle.std.specs.Ordering.{int_eq}
 use Rattle.byteorder.specs.Endian.{big_bytes}
+use Rattle.mf_geom.specs.Coordinates.{field_size, last_in_field, least_coordinate}
 use Rattle.mf_rows.specs.declared.run.Run.{Run}
-use Rattle.mf_rows.specs.Dots.{Dot}
-use Rattle.mf_rows.specs.Runs.{runs_of}
+use Rattle.mf_rows.specs.BlackRows.{row_runs}
+use Rattle.mf_rows.specs.Dots.{Dot, weight_at}
 use Rattle.mf_gf.specs.declared.boxes.CharacterBox.{CharacterBox}
 use Rattle.mf_gf.specs.Boxes.{box_of_pixels}
 use Rattle.mf_gf.specs.Format as gf
@@ -27,22 +28,39 @@ skip n = if n == 0 then gf.skip0 ∷ [] else with_parameter gf.skip1 n
 abbrev pub new_row : ℕ → List ℕ
 new_row n = (gf.new_row_0 + n) ∷ []
 
--- the distance between two columns, or rows
+-- the number of columns between two of them
 abbrev pub distance : ℤ → ℤ → ℕ
 distance a b = unsigned_abs (a -ℤ b)
 
--- from a position to the start of a stretch of black pixels: within the same row with white; to the next row with new_row, where
--- the offset from the left end of the box allows it; else with a skip and white
-abbrev pub approach : ℤ → ℤ → ℤ → Run → List ℕ
-approach left row column r =
-    if int_eq r.y row then paint (distance r.x column)
-    else (if distance row r.y == 1 && nat_le (distance r.x left) gf.most_new_row then new_row (distance r.x left)
-    else skip (distance row r.y - 1) ++ paint (distance r.x left))
+-- the lengths of white and black stretches in turn, from a column to the end of the last of these runs
+unfoldable pub lengths : ℤ → List Run → List ℕ
+lengths x [] = []
+lengths x (r ∷ rs) = distance r.x x ∷ r.len ∷ lengths (r.x +ℤ pos r.len) rs
 
--- the bytes of stretches of black pixels, one after another, from a position on
-unfoldable pub stretches_text : ℤ → ℤ → ℤ → List Run → List ℕ
-stretches_text left row column [] = []
-stretches_text left row column (r ∷ rs) = approach left row column r ++ paint r.len ++ stretches_text left r.y (r.x +ℤ pos r.len) rs
+-- the lengths of white and black stretches of each row of the pixels at which f is not 0, where `left` is the left end of their box
+abbrev pub row_lengths : ℤ → (ℤ → ℤ → ℤ) → ℤ → List ℕ
+row_lengths left f y = lengths left (row_runs f y least_coordinate)
+
+-- how a row begins whose first black pixel has this offset: after a black row with new_row, where the offset allows it; else with a skip
+-- over the blank rows between, of which there are none at the first row, and with white
+abbrev pub row_start : Option ℕ → ℕ → List ℕ
+row_start None offset = paint offset
+row_start (Some blank) offset = if blank == 0 && nat_le offset gf.most_new_row then new_row offset else skip blank ++ paint offset
+
+-- the bytes of a row of such lengths; a blank row has none
+unfoldable pub row_text : Option ℕ → List ℕ → List ℕ
+row_text blank [] = []
+row_text blank (offset ∷ others) = row_start blank offset ++ flat_map paint others
+
+-- how many blank rows there are before the next row: none is counted above the first black row
+unfoldable pub blank_after : Option ℕ → List ℕ → Option ℕ
+blank_after blank [] = option_map suc blank
+blank_after blank (offset ∷ others) = Some 0
+
+-- the bytes of n rows from row y down, where f gives the lengths of each
+unfoldable pub rows_text : (ℤ → List ℕ) → ℤ → ℕ → Option ℕ → List ℕ
+rows_text f y zero blank = []
+rows_text f y (suc n) blank = row_text blank (f y) ++ rows_text f (y -ℤ pos 1) n (blank_after blank (f y))
 
 -- a number fits into one byte
 abbrev pub is_byte : ℤ → Bool
@@ -69,7 +87,10 @@ long_begin code p b = (gf.boc ∷ []) ++ word (pos code) ++ word p ++ word b.min
 abbrev pub begin : ℕ → ℤ → CharacterBox → List ℕ
 begin code p b = if int_eq p (negsuc 0) && is_short b then short_begin code b else long_begin code p b
 
+-- the bytes of all rows of the field, for a character whose first black column is `left`
+unfoldable pub pixels_text : ℤ → List Dot → List ℕ
+pixels_text left ds = rows_text (row_lengths left (weight_at ds)) last_in_field field_size None
+
 -- the bytes of a character with these black pixels; p is the place of the last earlier character with this code, or -1
 unfoldable pub spell : ℕ → ℤ → List Dot → List ℕ
-spell code p ds =
-    begin code p (box_of_pixels ds) ++ stretches_text (box_of_pixels ds).min_m (box_of_pixels ds).max_n (box_of_pixels ds).min_m (runs_of ds) ++ (gf.eoc ∷ [])
+spell code p ds = begin code p (box_of_pixels ds) ++ pixels_text (box_of_pixels ds).min_m ds ++ (gf.eoc ∷ [])

@@ -5,12 +5,12 @@ ghost use Rattle.mf_gf.specs.Boxes.{IsBoxInRange, box_of_pixels};
 ghost use Rattle.mf_gf.specs.Numbers.{word};
 ghost use Rattle.mf_gf.specs.Pixels.{black};
 ghost use Rattle.mf_gf.specs.Spelling.{begin, is_byte, is_short, long_begin, pointer, short_begin, spell};
-ghost use Rattle.mf_gf.specs.Spellings.{Holds};
+ghost use Rattle.mf_gf.specs.Spellings.{Holds, IsSpelling};
+ghost use Rattle.mf_rows.specs.Dots.{IsPicture};
 
 use crate::boxes::CharacterBox;
 use crate::rows::spell_rows;
 use crate::spelling::Spelling;
-use crate::stretches::Stretches;
 use mf_rows::Picture;
 
 /// boc, the command that begins a character (gftype.web).
@@ -31,13 +31,14 @@ pub(crate) fn spell(
     picture: &Picture,
     bounds: &CharacterBox,
 )
-    requires { bounds.now ≡ box_of_pixels (black picture.now) }
+    requires bounds { bounds.now ≡ box_of_pixels (black picture.now) }
+    requires lawful { IsPicture picture.now }
+    requires spelling { IsSpelling out.old }
     ensures held { (text : List ℕ) → Holds out.old text → Holds out.new (text ++ spell code (pointer earlier) (black picture.now)) }
     ensures room { out.new.room ≡ out.old.room }
 {
-    let stretches = Stretches::over(picture);
     put_begin(out, code, earlier, bounds);
-    spell_rows(out, stretches, bounds);
+    spell_rows(out, picture, bounds.min_m);
     out.put_byte(EOC);
 }
 

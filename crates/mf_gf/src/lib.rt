@@ -12,7 +12,6 @@ mod locator;
 mod locators;
 mod rows;
 mod spelling;
-mod stretches;
 mod strokes;
 
 pub use fault::{GfFault, WriteFault};

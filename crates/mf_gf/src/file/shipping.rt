@@ -7,6 +7,7 @@ ghost use Rattle.mf_gf.specs.Files.{Character, bytes_so_far, preamble};
 ghost use Rattle.mf_gf.specs.Keeping.{IsAppended, IsSameFile, Keeps, character, max_bytes_of};
 ghost use Rattle.mf_gf.specs.Numbers.{greatest_byte, greatest_word};
 ghost use Rattle.mf_gf.specs.Pixels.{black};
+ghost use Rattle.mf_rows.specs.Dots.{IsPicture};
 
 use super::{GF_ID, GfFile};
 use crate::boxes::CharacterBox;
@@ -110,7 +111,8 @@ impl GfFile {
         picture: &Picture,
         bounds: &CharacterBox,
     ) -> Result<Vec<u8>, GfFault>
-        requires { bounds.now ≡ box_of_pixels (black picture.now) }
+        requires bounds { bounds.now ≡ box_of_pixels (black picture.now) }
+        requires lawful { IsPicture picture.now }
         ensures bytes { IfOk result (λ bytes. bytes.items ≡ spelling.spell code (pointer earlier) (black picture.now)) }
         ensures too_long { (self.now.max_bytes < length (self.now.bytes.items ++ spelling.spell code (pointer earlier) (black picture.now)))
             ↔ (result ≡ Err GfFault.FileTooLong) }

@@ -1,12 +1,13 @@
 //! How bytes are written, or only counted.
-ghost use Rattle.std.specs.Prelude.{◌≡◌, ◌↔◌, ◌⊎◌, ◌+◌, ◌<◌, ◌≤◌, ◌^◌, ◌++◌, ◌∷◌, Err, IfErr, IfOk, IsTrue, List, ℕ, [], false, length, pos};
+ghost use Rattle.std.specs.Prelude.{◌≡◌, ◌↔◌, ◌⊎◌, ◌+◌, ◌<◌, ◌≤◌, ◌^◌, ◌++◌, ◌∷◌, Err, IfErr, IfOk, IsTrue, OnOk, List, ℕ, [], false, length, pos, ◌-◌, drop, take};
 ghost use Rattle.byteorder.specs.Endian.{big_bytes};
 ghost use Rattle.mf_gf.specs.Numbers.{word};
-ghost use Rattle.mf_gf.specs.Spellings.{Holds};
+ghost use Rattle.mf_gf.specs.Spellings.{HasPart, Holds, IsPart};
 
 use super::Spelling;
 use crate::fault::GfFault;
 use byteorder::{BigEndian, ByteOrder};
+use mf_base::OutOfMemory;
 use std::alloc::Global;
 
 impl Spelling {
@@ -84,6 +85,21 @@ impl Spelling {
         }
     }
 
+    /// Appends the bytes from `start` up to `end` once more. Without room or memory for all bytes so far, they are only counted.
+    pub(crate) fn repeat(&mut self, start: usize, end: usize)
+        requires { IsPart self.old start end }
+        ensures held { (before part after : List ℕ) → HasPart self.old start end before part after
+            → HasPart self.new start end before part (after ++ part) }
+        ensures room { self.new.room ≡ self.old.room }
+    {
+        if self.length > self.room {
+            return;
+        }
+        if self.count(end - start) && append_copy(&mut self.bytes, start, end).is_err() {
+            self.is_out_of_memory = true;
+        }
+    }
+
     /// Appends a number of two bytes, the higher byte first.
     pub(crate) fn put_halfword(&mut self, number: u16)
         ensures held { (text : List ℕ) → Holds self.old text → Holds self.new (text ++ big_bytes 2 number) }
@@ -129,4 +145,18 @@ impl Spelling {
         }
         Ok(self.bytes)
     }
+}
+
+/// Appends the bytes from `start` up to `end` to the others. `Vec::extend_from_within` takes a step for each byte.
+fn append_copy(bytes: &mut Vec<u8>, start: usize, end: usize) -> Result<(), OutOfMemory>
+    requires order { start ≤ end }
+    requires within { end ≤ length bytes.old.items }
+    requires few { length bytes.old.items ≤ 2 ^ 33 }
+    ensures { OnOk result (bytes.new.items ≡ bytes.old.items ++ take (end - start) (drop start bytes.old.items)) }
+{
+    let length = bytes.len();
+    bytes.resize(length + (end - start), 0)?;
+    let (old, new) = bytes.split_at_mut(length);
+    new.copy_from_slice(&old[start..end]);
+    Ok(())
 }

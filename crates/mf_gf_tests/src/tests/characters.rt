@@ -111,6 +111,33 @@ const CASES: &[Case] = &[
         bytes: b"\x43\x00\x00\x00\x01\xff\xff\xff\xff\x00\x00\x00\x00\x00\x00\x00\x01\x00\x00\x00\x00\x00\x00\x01\x01\x00\x01\x48\x01\x00\x00\x01\x45",
     },
     Case {
+        about: "four equal rows",
+        code: 1,
+        black: &[
+            (3, 0, 1),
+            (3, 3, 2),
+            (2, 0, 1),
+            (2, 3, 2),
+            (1, 0, 1),
+            (1, 3, 2),
+            (0, 0, 1),
+            (0, 3, 2),
+        ],
+        bytes: b"\x44\x01\x05\x05\x03\x03\x00\x01\x02\x02\x4a\x01\x02\x02\x4a\x01\x02\x02\x4a\x01\x02\x02\x45",
+    },
+    Case {
+        about: "equal rows at offset 165",
+        code: 1,
+        black: &[(3, 0, 1), (2, 165, 1), (1, 165, 1), (0, 165, 1)],
+        bytes: b"\x44\x01\xa6\xa6\x03\x03\x00\x01\x46\x40\xa5\x01\x46\x40\xa5\x01\x46\x40\xa5\x01\x45",
+    },
+    Case {
+        about: "equal rows below blank ones",
+        code: 1,
+        black: &[(4, 0, 1), (1, 0, 1), (1, 2, 1), (0, 0, 1), (0, 2, 1)],
+        bytes: b"\x44\x01\x03\x03\x04\x04\x00\x01\x47\x02\x00\x01\x01\x01\x4a\x01\x01\x01\x45",
+    },
+    Case {
         about: "right end 255",
         code: 1,
         black: &[(0, 254, 1)],

@@ -1,9 +1,11 @@
-use Rattle.mf_gf.specs.Ahead.{stretches_ahead}
-use Rattle.mf_gf.proofs.SpelledRows.{AreSpelled, text_of}
+use Rattle.mf_rows.specs.BlackRows.{black_weights, row_in}
+use Rattle.mf_rows.specs.Dots.{weight_at}
 use Rattle.mf_gf.proofs.rows.spell_rows.Given as goal
+use Rattle.mf_gf.proofs.SpelledRows.{AreSpelled, rows_left}
 
-abbrev pub invariant-loop-stretch : goal.invariant-loop-stretch
-invariant-loop-stretch l =
-    let left = l.bounds.min_m in
-    let all = text_of (record { left = left; row = l.bounds.max_n; column = left; runs = stretches_ahead l.fn.stretches }) in
-    AreSpelled l.initial.out l.out all (record { left = left; row = l.place.row; column = l.place.column; runs = stretches_ahead l.stretch-iterator })
+-- the rows above the one that is read are spelled
+abbrev pub invariant-loop-rows : goal.invariant-loop-rows
+invariant-loop-rows l = AreSpelled l.initial.out l.out l.left (black_weights (weight_at l.picture)) l.rows l.blank
+
+abbrev pub decreases-loop-rows : goal.decreases-loop-rows
+decreases-loop-rows l = rows_left (row_in l.rows)
