@@ -1,6 +1,6 @@
+pub mod CommandLine
 pub mod Faults
 pub mod Messages
 pub mod Output
 pub mod Statuses
 pub use Rattle.mf_options.specs.Values
-pub use Rattle.mf_words.specs.CommandLine

@@ -1,8 +1,8 @@
 -- What the program writes to standard output, and the font file that it makes.
 use Rattle.std.specs.Prelude.{◌≡◌, ℕ, List, Option, IsSome, option_map, pos, string_bytes}
 use Rattle.std.specs.Io.KnownBytes.{IsAtEnd}
-use Rattle.mf_words.specs.CommandLine.{gf_in, viewers_in}
-use Rattle.mf_words.specs.declared.words.Words.{Words}
+use Rattle.mf_cli.specs.CommandLine.{gf_in, viewers_in}
+use Rattle.mf_cli.specs.declared.words.Words.{Words}
 use Rattle.mf_desk.specs.Performances.{Performs, task}
 use Rattle.mf_desk.specs.Streams.{Streams}
 use Rattle.mf_desk.specs.declared.outcome.Outcome.{Outcome}

@@ -3,8 +3,9 @@
 
 mod fault;
 mod run;
+mod words;
 
 pub use fault::ProgramFault;
 pub use mf_options::WordsFault;
-pub use mf_words::{Words, read_words};
 pub use run::{program, report};
+pub use words::{USAGE, Words, read_words};

@@ -3,7 +3,7 @@ ghost use Rattle.std.specs.Io.KnownBytes.{IsAtEnd};
 ghost use Rattle.std.specs.Prelude.{◌≡◌, ◌<◌, ◌≤◌, ◌⊎◌, ℕ, IfErr, IfOk, OnOk, length};
 ghost use Rattle.mf_base.specs.Messages.{GetsFront};
 ghost use Rattle.mf_options.specs.Values.{texts_of};
-ghost use Rattle.mf_words.specs.CommandLine.{IsCommandLine, greatest_viewers};
+ghost use Rattle.mf_cli.specs.CommandLine.{IsCommandLine, greatest_viewers};
 ghost use Rattle.mf_cli.specs.Faults.{ReportsFault, TellsOfProgram};
 ghost use Rattle.mf_cli.specs.Messages.{message_of, usage};
 ghost use Rattle.mf_cli.specs.Output.{EndsWell, looks, request_in, request_of, settings};
@@ -12,12 +12,11 @@ ghost use Rattle.mf_desk.specs.Performances.{Performs, TellsOfRun, task};
 ghost use Rattle.mf_desk.specs.Streams.{Passes, streams};
 
 use crate::fault::ProgramFault;
-use mf_base::write_text;
+use crate::words::{USAGE, Words, read_words};
 use mf_desk::{OpenGate, Outcome, RunFault, Settings};
 use mf_gf::{FontWords, GfBytes};
-use mf_options::{BAD_WORDS, DONE, STREAM_FAULT, WANTING, WordsFault, refuse_words};
+use mf_options::{BAD_WORDS, DONE, STREAM_FAULT, WANTING, WordsFault, refuse_words, report_fault};
 use mf_session::{MAX_BYTES, MAX_OPS};
-use mf_words::{USAGE, Words, read_words};
 use std::alloc::Global;
 use std::io::{Read, Write};
 use std::rt::Files;
@@ -77,7 +76,8 @@ pub fn program<S: Wait + Threads + Files, R: Read, W: Write, E: Write>(
     }
 }
 
-/// Runs the script as the words ask for it, and then writes the font file where they ask for one.
+/// Runs the script as the words ask for it, and then writes the font file where they ask for one. Where the run ends with a fault,
+/// it flushes the writer.
 fn perform<S: Wait + Threads + Files, R: Read, W: Write>(
     rt: &S,
     alloc: Global,
@@ -91,42 +91,22 @@ fn perform<S: Wait + Threads + Files, R: Read, W: Write>(
     ensures fault { IfErr result (λ fault. TellsOfProgram (request_of words.now) fault
         (streams (R.remaining reader.old) (R.remaining reader.new) (W.contents writer.old) (W.contents writer.new))) }
 {
-    let Outcome { gf, .. } = run_and_flush(rt, alloc, reader, writer, words.viewers)?;
+    let gf = match run_script(rt, alloc, reader, writer, words.viewers) {
+        Ok(outcome) => outcome.gf,
+        // Nothing more goes out after a fault of the writer, whose number counts what did.
+        Err(RunFault::WriteFault(count)) => return Err(RunFault::WriteFault(count).into()),
+        Err(fault) => {
+            // The fault is told, and not that this fails.
+            let _ = writer.flush();
+            return Err(fault.into());
+        }
+    };
     let Some(path) = &words.gf else {
         return Ok(());
     };
     match gf {
         Some(file) => Ok(write_font(rt, path, &file)?),
         None => Err(ProgramFault::NoCharacters),
-    }
-}
-
-/// Runs the script beside this many viewers, and flushes the writer where it ends with a fault. But nothing more goes out after a
-/// fault of the writer, whose number counts what did.
-fn run_and_flush<S: Wait + Threads, R: Read, W: Write>(
-    rt: &S,
-    alloc: Global,
-    reader: &mut R,
-    writer: &mut W,
-    viewers: u32,
-) -> Result<Outcome, RunFault>
-    requires { viewers ≤ greatest_viewers }
-    ensures performance { IfOk result
-        (Performs (task settings viewers looks)
-        (streams (R.remaining reader.old) (R.remaining reader.new) (W.contents writer.old) (W.contents writer.new))) }
-    ensures fault { IfErr result (λ fault.
-        Passes (streams (R.remaining reader.old) (R.remaining reader.new) (W.contents writer.old) (W.contents writer.new))
-        (TellsOfRun settings viewers fault)) }
-    ensures end { OnOk result (IsAtEnd (R.remaining reader.new)) }
-{
-    match run_script(rt, alloc, reader, writer, viewers) {
-        Ok(outcome) => Ok(outcome),
-        Err(RunFault::WriteFault(count)) => Err(RunFault::WriteFault(count)),
-        Err(fault) => {
-            // The fault is told, and not that this fails.
-            let _ = writer.flush();
-            Err(fault)
-        }
     }
 }
 
@@ -169,27 +149,18 @@ pub fn report<E: Write>(errors: &mut E, fault: ProgramFault) -> u8
     ensures status { result ≡ status_of fault }
     ensures message { GetsFront (E.contents errors.old) (E.contents errors.new) (message_of fault) }
 {
-    write_text(errors, message_of(fault));
     match fault {
-        ProgramFault::Run(RunFault::OutOfMemory | RunFault::NoPlace | RunFault::NoLook) => WANTING,
-        ProgramFault::Run(RunFault::FileTooLong | RunFault::ReadFault | RunFault::WriteFault(_)) =>
-            STREAM_FAULT,
-        ProgramFault::NoCharacters => STREAM_FAULT,
-    }
-}
-
-/// The message of a fault: the program's name, and the name of the fault. It is a constant, and so is there even where an allocation
-/// fails.
-fn message_of(fault: ProgramFault) -> &'static str
-    ensures { result.now ≡ message_of fault }
-{
-    match fault {
-        ProgramFault::Run(RunFault::OutOfMemory) => "mfpic: OutOfMemory\n",
-        ProgramFault::Run(RunFault::NoPlace) => "mfpic: NoPlace\n",
-        ProgramFault::Run(RunFault::FileTooLong) => "mfpic: FileTooLong\n",
-        ProgramFault::Run(RunFault::ReadFault) => "mfpic: ReadFault\n",
-        ProgramFault::Run(RunFault::WriteFault(_)) => "mfpic: WriteFault\n",
-        ProgramFault::Run(RunFault::NoLook) => "mfpic: NoLook\n",
-        ProgramFault::NoCharacters => "mfpic: NoCharacters\n",
+        ProgramFault::Run(cause) => {
+            report_fault(errors, "mfpic", cause.name(), None);
+            if cause.is_of_stream() {
+                STREAM_FAULT
+            } else {
+                WANTING
+            }
+        }
+        ProgramFault::NoCharacters => {
+            report_fault(errors, "mfpic", "NoCharacters", None);
+            STREAM_FAULT
+        }
     }
 }

@@ -1,41 +1,49 @@
 -- The end of a script.
-use Rattle.std.proofs.Common.{◌≡◌, ℕ, List, [], Option, inr, sym, subst, ◌∙◌, append-nil}
+use Rattle.std.proofs.Common.{◌≡◌, [], ◌∙◌, append-nil, arith, inr, sym}
 use Rattle.std.specs.Io.KnownBytes.{IsAtEnd}
 use Rattle.std.specs.Str.Lines.{lines}
 use Rattle.mf_desk.specs.declared.ended_run.EndedRun.{EndedRun}
-use Rattle.mf_desk.specs.declared.fault.RunFault.{RunFault}
 use Rattle.mf_desk.specs.declared.fault.RunFault.TheVariants.{OutOfMemory}
 use Rattle.mf_desk.specs.declared.performer.Performer.{Performer}
-use Rattle.mf_desk.specs.EndedRuns.{IsEndOf, IsOver}
-use Rattle.mf_desk.specs.Fault.{Breaks}
-use Rattle.mf_desk.specs.Progress.{HasCounted, ReadsThrough}
-use Rattle.mf_desk.specs.Streams.{Gets, Passes, Streams}
+use Rattle.mf_desk.specs.EndedRuns.{EndsWith}
+use Rattle.mf_desk.specs.Faults.{Breaks}
+use Rattle.mf_desk.specs.Progress.{ReadsThrough}
+use Rattle.mf_desk.specs.Streams.{Passes, Streams}
+use Rattle.mf_session.specs.Endings.{HasEnded}
 use Rattle.mf_session.specs.Sessions.{limits}
-use Rattle.mf_session.specs.States.{Limits, answer_with, start}
-use Rattle.mf_session.specs.Transcript.{Perform}
 use Rattle.mf_desk.proofs.Stages.{first-text}
+use Rattle.mf_desk.proofs.ViewerLines.{lines-nobody}
 
--- the script has ended, and its picture is closed
-pub IsOver-ended : (held holds : Option (List ℕ)) (read : List ℕ) (performer : Performer) (run : EndedRun)
-    (through : HasCounted held (lines read) performer holds)
-    → IsEndOf performer through.done.last run → Gets held holds (IsOver (limits performer.session) read run)
-IsOver-ended held holds read performer run through end = (
-  through.done.text,
-  through.done.out,
-  record {
-    script = record { last = through.done.last; performed = through.done.performed };
-    published = end.ended.published;
-    file = end.ended.file_is.keeps;
-    max_bytes_is = end.ended.file_is.max_bytes_is;
-    counted = end.counted ∙ through.counted;
-  },
-)
+module _ (s : Streams) (performer : Performer) (reads : ReadsThrough s performer) where
+  -- the picture is closed
+  pub EndsWith-ended : (run : EndedRun) → HasEnded performer.session reads.2.done.last run.ended run.file → run.written ≡ performer.written
+      → EndsWith (limits performer.session) 0 s run
+  EndsWith-ended run ended written =
+      let (read, consumed, through) = reads in (
+        read,
+        consumed,
+        (
+          through.done.text,
+          through.done.out,
+          record {
+            complete = record {
+              transcript = through.done.text;
+              script = record { last = through.done.last; performed = through.done.performed };
+              is = grind (arith, lines-nobody, append-nil);
+            };
+            published = ended.published;
+            file = ended.file_is.keeps;
+            max_bytes_is = ended.file_is.max_bytes_is;
+            counted = written ∙ through.counted;
+          },
+        ),
+      )
 
--- the script has ended, but an allocation fails while its picture is closed
-pub Breaks-unended : (s : Streams) (l : Limits) (performer : Performer) → limits performer.session ≡ l → IsAtEnd s.left → ReadsThrough s performer
-    → (fault : RunFault) → fault ≡ OutOfMemory → Passes s (Breaks l fault)
-Breaks-unended s l performer same all_read (read, consumed, through) fault is =
-    let done = through.done in
-    let performed = subst (λ m. Perform m start (lines read) (answer_with done.text done.last)) same done.performed in
-    let first = first-text l s.left read (lines read) [] done.text done.last (inr (all_read, sym (append-nil (lines read)))) performed in
-    subst (λ f. Passes s (Breaks l f)) (sym is) (read, consumed, (done.text, done.out, first))
+  -- an allocation fails while it is closed
+  pub Breaks-unended : IsAtEnd s.left → Passes s (Breaks (limits performer.session) OutOfMemory)
+  Breaks-unended all_read =
+      let (read, consumed, through) = reads in
+      let done = through.done in
+      let first = first-text (limits performer.session) s.left read (lines read) [] done.text done.last (inr (all_read, sym (append-nil (lines read))))
+      done.performed in
+      (read, consumed, (done.text, done.out, first))

@@ -1,95 +1,94 @@
--- The lines of the viewers of a run whose script has ended, one after another.
-use Rattle.std.proofs.Common.{◌≡◌, ◌≤◌, ◌<◌, ◌+◌, ℕ, List, [], ◌++◌, Option, length, refl, sym, ap, ◌∙◌, arith}
-use Rattle.std.proofs.Common.{append_assoc, append-nil, length-append}
-use Rattle.std.specs.Io.KnownBytes.{Appends, Keeps}
-use Rattle.std.proofs.KnownBytes.{Appends-kept, Appends-nil, Appends-trans}
-use Rattle.mf_live.specs.declared.sheet.SheetFault.{SheetFault}
-use Rattle.mf_live.specs.declared.sheet.SheetFault.TheVariants as sheet
+-- The lines of the viewers, after the transcript of a script that has ended.
+use Rattle.std.proofs.Common.{◌≡◌, ◌+◌, ◌<◌, ◌⊎◌, ℕ, List, ◌++◌, Option, length, ⊎_elim, inr, sym, ap, ◌∙◌, arith}
+use Rattle.std.proofs.Common.{append-nil, append_assoc, length-append}
+use Rattle.std.specs.Io.KnownBytes.{Appends, IsAtEnd}
+use Rattle.std.proofs.KnownBytes.{Appends-trans}
 use Rattle.mf_desk.specs.declared.ended_run.EndedRun.{EndedRun}
+use Rattle.mf_desk.specs.declared.fault.RunFault.{RunFault}
+use Rattle.mf_desk.specs.declared.fault.RunFault.TheVariants.{OutOfMemory, NoLook, WriteFault}
 use Rattle.mf_desk.specs.declared.settings.Settings.{Settings}
-use Rattle.mf_desk.specs.declared.fault.RunFault.TheVariants.{OutOfMemory, WriteFault}
-use Rattle.mf_desk.specs.EndedRuns.{BreaksLooks, HasShown, IsOver, IsSameEnd, LastLooks, glance, last_looks}
-use Rattle.mf_desk.specs.Performances.{IsShownText, run_limits, viewer_line, viewer_lines}
-use Rattle.mf_desk.specs.Performer.{longest_text}
-use Rattle.mf_desk.specs.Streams.{Gets}
-use Rattle.mf_desk.specs.ViewerFaults.{run_fault_of_sheet}
+use Rattle.mf_desk.specs.EndedRuns.{EndsWith, IsOver, IsSameEnd, glance}
+use Rattle.mf_desk.specs.Faults.{BreaksOff}
+use Rattle.mf_desk.specs.Performances.{IsCompleteText, IsShownText, TellsOfRun, run_limits, viewer_lines}
+use Rattle.mf_desk.specs.Streams.{Gets, Passes, streams}
+use Rattle.mf_session.specs.States.{Limits}
 use Rattle.mf_watch.specs.Watchers.{glance_at}
-use Rattle.mf_desk.proofs.Performances.{complete, Appends-lines}
-use Rattle.mf_desk.proofs.ViewerLines.{lines-nobody, lines-more}
+use Rattle.mf_desk.proofs.ViewerLines.{lines-nobody}
 
--- at first no line has gone out
-pub HasShown-start : (run : EndedRun) (held : Option (List ℕ)) → HasShown (last_looks run 0 held held) run
-HasShown-start run held = grind (arith, lines-nobody, Appends-nil)
+pub IsSameEnd-trans : (a b c : EndedRun) → IsSameEnd a b → IsSameEnd b c → IsSameEnd a c
+IsSameEnd-trans a b c first then = record {
+  identity = then.identity ∙ first.identity;
+  published = then.published ∙ first.published;
+  file = then.file ∙ first.file;
+}
 
--- a run after these looks
-module _ (l : LastLooks) (now : EndedRun) (is : HasShown l now) where
-  abbrev lines : List ℕ
-  lines = viewer_lines l.viewers (glance l.run)
+-- after the transcript, the lines of some viewers
+abbrev complete-with : (l : Limits) (n : ℕ) (read : List ℕ) (run : EndedRun) (text lines : List ℕ) (over : IsOver l 0 read run text)
+    → lines ≡ viewer_lines n (glance run) → IsCompleteText l n read (text ++ lines)
+complete-with l n read run text lines over are =
+    let complete = over.complete in
+    let whole : text ≡ complete.transcript =
+    complete.is ∙ ap (λ none. complete.transcript ++ none) (lines-nobody _) ∙ append-nil complete.transcript in
+    record {
+      transcript = complete.transcript;
+      script = complete.script;
+      is = ap (λ t. t ++ lines) whole ∙ ap (λ more. complete.transcript ++ more) (are ∙ ap (λ L. viewer_lines n (glance_at L)) over.published);
+    }
 
-  -- with the line that is due, they are the lines of one more viewer
-  with_due : (line : List ℕ) → line ≡ viewer_line l.viewers (glance now) → lines ++ line ≡ viewer_lines (l.viewers + 1) (glance l.run)
-  with_due line due =
-      ap (λ more. lines ++ more) (due ∙ ap (λ L. viewer_line l.viewers (glance_at L)) is.same.published) ∙ sym (lines-more l.viewers (glance l.run))
+module _ (unread left held holds : Option (List ℕ)) (run : EndedRun) where
+  -- the lines of all viewers are written
+  pub EndsWith-lines : (l : Limits) (viewers : ℕ) (later : Option (List ℕ)) (after : EndedRun) (lines : List ℕ)
+      → EndsWith l 0 (streams unread left held holds) run → lines ≡ viewer_lines viewers (glance run) → Appends holds later lines
+      → after.written ≡ run.written + length lines → IsSameEnd run after → EndsWith l viewers (streams unread left held later) after
+  EndsWith-lines l viewers later after lines (read, consumed, (text, out, over)) are more counted same = (
+    read,
+    consumed,
+    (
+      text ++ lines,
+      Appends-trans held holds later text lines out more,
+      record {
+        complete = complete-with l viewers read run text lines over are;
+        published = same.published ∙ over.published;
+        file = rw same.file over.file;
+        max_bytes_is = rw same.file over.max_bytes_is;
+        counted = omega (arith, counted, over.counted, length-append text lines);
+      },
+    ),
+  )
 
-  -- one more line goes out
-  pub HasShown-next : (after : EndedRun) (later : Option (List ℕ)) (line : List ℕ) → IsSameEnd now after → line ≡ viewer_line l.viewers (glance now)
-      → Appends l.holds later line → after.written ≡ now.written + length line → length line ≤ longest_text
-      → HasShown (last_looks l.run (l.viewers + 1) l.held later) after
-  HasShown-next after later line same due out counted short = grind (arith, with_due, Appends-trans, length-append)
+  module _ (settings : Settings) (viewers : ℕ) (all_read : IsAtEnd left) (ends : EndsWith (run_limits settings) 0 (streams unread left held holds) run) where
+    -- a look fails before any of these lines is written
+    pub TellsOfRun-unshown : (fault : RunFault) → (fault ≡ OutOfMemory) ⊎ ((fault ≡ NoLook) × (0 < viewers))
+        → Passes (streams unread left held holds) (TellsOfRun settings viewers fault)
+    TellsOfRun-unshown fault why =
+        let (read, consumed, (text, out, over)) = ends in
+        let none : IsShownText (run_limits settings) viewers left read text = record { all_read = all_read; shown = 0; few = omega arith; complete = over.complete } in
+        ⊎_elim
+        (λ wanting. rw wanting (read, consumed, (text, out, inr none)))
+        (λ refused. rw (refused.0) (read, consumed, (text, out, (none, refused.1)))) why
 
-  -- there are so many viewers
-  module _ (viewers : ℕ) where
-    -- the looks of all viewers, once the writer holds this
-    abbrev looks : Option (List ℕ) → LastLooks
-    looks later = last_looks l.run viewers l.held later
-
-    module _ (settings : Settings) (first : Option (List ℕ)) (read : List ℕ) (over : Gets first l.held (IsOver (run_limits settings) read l.run)) where
-      -- the transcript, and the lines of the first viewers
-      abbrev shown_text : (shown : ℕ) (more : List ℕ) → shown ≤ viewers → more ≡ viewer_lines shown (glance l.run)
-          → IsShownText (run_limits settings) viewers read (over.0 ++ more)
-      shown_text shown more few are =
-          record { shown = shown; few = few; complete = complete settings viewers first l.held l.holds read l.run over shown more are }
-
-      -- after the transcript, these lines have gone out
-      out_lines : Appends first l.holds (over.0 ++ lines)
-      out_lines = Appends-lines settings viewers first l.held l.holds read l.run over lines is.out
-
-    -- an allocation fails after these lines
-    pub BreaksLooks-after : l.viewers ≤ viewers → BreaksLooks (looks l.holds) OutOfMemory
-    BreaksLooks-after few settings first left read over =
-        (over.0 ++ lines, out_lines settings first read over, shown_text settings first read over l.viewers lines few refl)
-
-    -- the last look of the next viewer fails
-    pub BreaksLooks-look : (fault : SheetFault) → l.viewers < viewers → BreaksLooks (looks l.holds) (run_fault_of_sheet fault)
-    BreaksLooks-look sheet.NoLook few = λ settings first left read over.
-        (over.0 ++ lines, out_lines settings first read over, (shown_text settings first read over l.viewers lines (omega arith) refl, few))
-    BreaksLooks-look sheet.OutOfMemory few = BreaksLooks-after (omega arith)
-
-    -- the writer fails after these lines and some more bytes, with which and maybe others they are the lines of some viewers
-    BreaksLooks-cut : (next count : ℕ) (rest more : List ℕ) (later : Option (List ℕ)) → next ≤ viewers → Appends l.holds later more
-        → count ≡ now.written + length more → lines ++ (more ++ rest) ≡ viewer_lines next (glance l.run)
-        → BreaksLooks (looks later) (WriteFault count)
-    BreaksLooks-cut next count rest more later few out counted are settings first left read over =
-        let gone = lines ++ more in
-        let all = append_assoc lines more rest ∙ are in (
-          over.0 ++ gone,
-          Appends-lines settings viewers first l.held later read l.run over gone (Appends-trans l.held l.holds later lines more is.out out),
+    -- they are cut
+    pub TellsOfRun-cut : (later : Option (List ℕ)) (lines : List ℕ) → lines ≡ viewer_lines viewers (glance run) → (fault : RunFault)
+        → Gets holds later (BreaksOff (λ text. text ≡ lines) run.written fault) → Passes (streams unread left held later) (TellsOfRun settings viewers fault)
+    TellsOfRun-cut later lines are OutOfMemory (front, more, none) =
+        let (read, consumed, (text, out, over)) = ends in
+        let complete = complete-with (run_limits settings) 0 read run text front over (none ∙ sym (lines-nobody (glance run))) in
+        let shown : IsShownText (run_limits settings) viewers left read (text ++ front) =
+        record { all_read = all_read; shown = 0; few = omega arith; complete = complete } in
+        (read, consumed, (text ++ front, Appends-trans held holds later text front out more, inr shown))
+    TellsOfRun-cut later lines are (WriteFault count) (front, more, (bytes, count_is, (counted, rest, whole))) =
+        let (read, consumed, (text, out, over)) = ends in
+        let all = complete-with (run_limits settings) viewers read run text (front ++ rest) over (whole ∙ are) in (
+          read,
+          consumed,
           (
-            omega (arith, counted, is.counted, over.2.counted, length-append over.0 gone, length-append lines more),
-            rest,
-            rw (append_assoc over.0 gone rest) (shown_text settings first read over next (gone ++ rest) few all),
+            text ++ front,
+            Appends-trans held holds later text front out more,
+            (
+              omega (arith, counted, count_is, over.counted, length-append text front),
+              rest,
+              inr (record { all_read = all_read; shown = viewers; few = omega arith; complete = rw (append_assoc text front rest) all }),
+            ),
           ),
         )
-
-    -- the writer fails in the next line
-    pub BreaksLooks-line : (later : Option (List ℕ)) (count : ℕ) (more rest line : List ℕ) → l.viewers < viewers → more ++ rest ≡ line
-        → line ≡ viewer_line l.viewers (glance now) → Appends l.holds later more → count ≡ now.written + length more
-        → BreaksLooks (looks later) (WriteFault count)
-    BreaksLooks-line later count more rest line few all due out counted =
-        BreaksLooks-cut (l.viewers + 1) count rest more later (omega arith) out counted (with_due (more ++ rest) (all ∙ due))
-
-    -- flushing these lines fails
-    pub BreaksLooks-unflushed : (later : Option (List ℕ)) → l.viewers ≤ viewers → Keeps l.holds later → BreaksLooks (looks later) (WriteFault now.written)
-    BreaksLooks-unflushed later few same =
-        BreaksLooks-cut l.viewers now.written [] [] later few (Appends-kept l.holds l.holds later [] (Appends-nil l.holds) same) (omega arith)
-        (append-nil lines)
+    TellsOfRun-cut later lines are fault (front, more, none) = absurd none

@@ -10,11 +10,13 @@ use Rattle.std.proofs.lemmas.List.{nil_from_length}
 use Rattle.mf_desk.specs.declared.fault.RunFault.{RunFault}
 use Rattle.mf_desk.specs.declared.fault.RunFault.TheVariants.{OutOfMemory, WriteFault}
 use Rattle.mf_desk.specs.declared.line_buffer.TheConstants.{MAX_KEPT}
+use Rattle.mf_desk.specs.declared.observer.Stopped.{Stopped}
+use Rattle.mf_desk.specs.declared.observer.Stopped.TheVariants.{Run, Observer}
 use Rattle.mf_desk.specs.declared.performer.Performer.{Performer}
 use Rattle.mf_desk.specs.declared.progress.Progress.{Progress}
 use Rattle.mf_session.specs.Answers.{Answers}
 use Rattle.mf_desk.specs.Ended.{ended_of_parts, last_part, ended_lines, unended_line}
-use Rattle.mf_desk.specs.Fault.{AreWholeLines, Breaks, BreaksOff, IsTextSoFar}
+use Rattle.mf_desk.specs.Faults.{AreWholeLines, Breaks, IsTextSoFar, Stops, StopsAfter}
 use Rattle.mf_desk.specs.Performer.{IsLineText, IsWritten}
 use Rattle.mf_desk.specs.Progress.{HasCounted, IsAfter}
 use Rattle.mf_desk.specs.Streams.{Gets, MakesPassage}
@@ -132,18 +134,18 @@ module _ (held holds : Option (List ℕ)) (read : List ℕ) (run : Progress) (af
       let first = ap ended_lines (append_assoc read bytes more) ∙ before in
       (so_far.text, so_far.out, first-text bounds left (read ++ bytes ++ more) (ended_lines read) others so_far.text so_far.last (inl first) so_far.performed)
 
-  -- the text of this line breaks off
-  abbrev BreaksLine : List ℕ → RunFault → Option (List ℕ) → Type 0
-  BreaksLine line fault later = Gets holds later (BreaksOff (IsLineText run.performer line) run.performer.written fault)
+  -- the run stops in the text of this line, or after it
+  abbrev StopsLine : {F : Type 0} → List ℕ → Stopped F → Option (List ℕ) → Type 0
+  StopsLine line stopped later = Gets holds later (StopsAfter (IsLineText run.performer line) run.performer.written stopped)
 
-  -- the first completely read lines are the performed ones, and then the one whose text breaks off
-  Breaks-text : (fault : RunFault) (left later : Option (List ℕ)) (bytes line : List ℕ) (others first following : List (List ℕ))
+  -- the first completely read lines are the performed ones, and then the one in whose text, or after which, the run stops
+  Stops-text : {F : Type 0} → (stopped : Stopped F) (left later : Option (List ℕ)) (bytes line : List ℕ) (others first following : List (List ℕ))
       → AreWholeLines left bytes (ended_lines read ++ others) → AreWholeLines left bytes (first ++ following) → Prolongs line first
-      → BreaksLine line fault later → Gets held later (MakesPassage (Breaks bounds fault) left bytes)
-  Breaks-text OutOfMemory left later bytes line others first following before with_line performs broken =
-      grind (arith, append-nil, Appends-trans, first-text, before, broken)
-  Breaks-text (WriteFault count) left later bytes line others first following before with_line performs broken =
-      let (written, out, (more, count_is, (counted, rest, prints))) = broken in
+      → StopsLine line stopped later → Gets held later (MakesPassage (Stops bounds stopped) left bytes)
+  Stops-text (Run OutOfMemory) left later bytes line others first following before with_line performs stops =
+      grind (arith, append-nil, Appends-trans, first-text, before, stops)
+  Stops-text (Run (WriteFault count)) left later bytes line others first following before with_line performs stops =
+      let (written, out, (more, count_is, (counted, rest, prints))) = stops in
       let (next, answer) = prints so_far.last so_far.stands in
       let all : Perform bounds start first (answer_with ((so_far.text ++ written) ++ rest) next) =
       rw (append_assoc so_far.text written rest) (performs (answer_with (written ++ rest) next) answer) in (
@@ -155,17 +157,24 @@ module _ (held holds : Option (List ℕ)) (read : List ℕ) (run : Progress) (af
           first-text bounds left bytes first following _ next with_line all,
         ),
       )
-  Breaks-text fault left later bytes line others first following before with_line performs broken =
-      let (written, out, none) = broken in absurd none
+  Stops-text (Run fault) left later bytes line others first following before with_line performs stops =
+      let (written, out, none) = stops in absurd none
+  Stops-text (Observer fault) left later bytes line others first following before with_line performs stops =
+      let (text, out, prints) = stops in
+      let (next, answer) = prints so_far.last so_far.stands in (
+        so_far.text ++ text,
+        Appends-trans held holds later so_far.text text so_far.out out,
+        first-text bounds left bytes first following _ next with_line (performs (answer_with text next) answer),
+      )
 
-  -- the text of a line that a line feed ends breaks off
-  pub Breaks-ended : (fault : RunFault) (left later : Option (List ℕ)) (more line : List ℕ) → StandsForEnded line
-      → BreaksLine line fault later → Gets held later (MakesPassage (Breaks bounds fault) left (read ++ 10 ∷ [] ++ more))
-  Breaks-ended fault left later more line whole broken =
+  -- the run stops in the text of a line that a line feed ends, or after it
+  pub Stops-ended : {F : Type 0} → (stopped : Stopped F) (left later : Option (List ℕ)) (more line : List ℕ) → StandsForEnded line
+      → StopsLine line stopped later → Gets held later (MakesPassage (Stops bounds stopped) left (read ++ 10 ∷ [] ++ more))
+  Stops-ended stopped left later more line whole stops =
       let (others, before) = ended_lines-front read (10 ∷ more) in
       let (following, with_line) = ended_lines-front (read ++ 10 ∷ []) more in
-      Breaks-text fault left later (read ++ 10 ∷ [] ++ more) line others (ended_lines (read ++ 10 ∷ [])) following
-      (inl (ap ended_lines (append_assoc read (10 ∷ []) more) ∙ before)) (inl with_line) (Prolongs-ended line whole) broken
+      Stops-text stopped left later (read ++ 10 ∷ [] ++ more) line others (ended_lines (read ++ 10 ∷ [])) following
+      (inl (ap ended_lines (append_assoc read (10 ∷ []) more) ∙ before)) (inl with_line) (Prolongs-ended line whole) stops
 
   -- there are bytes after the last line feed
   unended_line-some : eqb (length run.line) 0 ≡ false → eqb (length (unended_line read)) 0 ≡ false
@@ -178,10 +187,10 @@ module _ (held holds : Option (List ℕ)) (read : List ℕ) (run : Progress) (af
       (Prolongs-next (unended_line read) a
       (Answers-kept bounds so_far.last (unended_line read) a (subst (λ line. Answers bounds so_far.last line a) after.line answer)))
 
-  pub Breaks-last : (fault : RunFault) (left later : Option (List ℕ)) → IsAtEnd left → eqb (length run.line) 0 ≡ false
-      → BreaksLine run.line fault later → Gets held later (MakesPassage (Breaks bounds fault) left read)
-  Breaks-last fault left later all_read some =
-      Breaks-text fault left later read run.line (unended_line read ∷ []) (lines read) []
+  pub Stops-last : {F : Type 0} → (stopped : Stopped F) (left later : Option (List ℕ)) → IsAtEnd left → eqb (length run.line) 0 ≡ false
+      → StopsLine run.line stopped later → Gets held later (MakesPassage (Stops bounds stopped) left read)
+  Stops-last stopped left later all_read some =
+      Stops-text stopped left later read run.line (unended_line read ∷ []) (lines read) []
       (inr (all_read, lines-last read (unended_line-some some))) (inr (all_read, sym (append-nil _))) (Prolongs-last some)
 
   -- there is no byte after the last line feed
@@ -219,12 +228,12 @@ module _ (held holds : Option (List ℕ)) (read bytes : List ℕ) (old : Progres
       subst (λ all. IsAfter held all new later) (append_assoc read bytes (10 ∷ []))
       (IsAfter-ended held holds (read ++ bytes) with_bytes after_bytes later (strip_carriage_return bytes) new StandsForEnded-whole written same empty)
 
-  pub Breaks-whole : (fault : RunFault) (left later : Option (List ℕ)) (more : List ℕ)
-      → Gets holds later (BreaksOff (IsLineText old.performer (strip_carriage_return bytes)) old.performer.written fault)
-      → Gets held later (MakesPassage (Breaks (limits old.performer.session) fault) left (read ++ (bytes ++ 10 ∷ []) ++ more))
-  Breaks-whole fault left later more broken =
-      subst (λ front. Gets held later (MakesPassage (Breaks (limits old.performer.session) fault) left (front ++ more))) (append_assoc read bytes (10 ∷ []))
-      (Breaks-ended held holds (read ++ bytes) with_bytes after_bytes fault left later more (strip_carriage_return bytes) StandsForEnded-whole broken)
+  pub Stops-whole : {F : Type 0} → (stopped : Stopped F) (left later : Option (List ℕ)) (more : List ℕ)
+      → Gets holds later (StopsAfter (IsLineText old.performer (strip_carriage_return bytes)) old.performer.written stopped)
+      → Gets held later (MakesPassage (Stops (limits old.performer.session) stopped) left (read ++ (bytes ++ 10 ∷ []) ++ more))
+  Stops-whole stopped left later more stops =
+      subst (λ front. Gets held later (MakesPassage (Stops (limits old.performer.session) stopped) left (front ++ more))) (append_assoc read bytes (10 ∷ []))
+      (Stops-ended held holds (read ++ bytes) with_bytes after_bytes stopped left later more (strip_carriage_return bytes) StandsForEnded-whole stops)
 
 -- the writer is flushed
 pub HasCounted-flushed : (held holds later : Option (List ℕ)) (ls : List (List ℕ)) (performer : Performer) → Keeps holds later

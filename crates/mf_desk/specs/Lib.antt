@@ -1,6 +1,6 @@
 pub mod Ended
 pub mod EndedRuns
-pub mod Fault
+pub mod Faults
 pub mod Names
 pub mod ViewerFaults
 pub mod Performances

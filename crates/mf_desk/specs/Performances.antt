@@ -1,18 +1,19 @@
 -- What a run answers, with viewers or without.
-use Rattle.std.specs.Prelude.{◌≡◌, ◌≤◌, ◌<◌, ◌⊎◌, ℕ, zero, suc, All, List, [], ◌++◌, codes, decimal, length}
+use Rattle.std.specs.Prelude.{◌≡◌, ◌≤◌, ◌<◌, ◌⊎◌, ℕ, zero, suc, All, List, [], ◌++◌, Option, codes, decimal, length}
 use Rattle.std.specs.Fmt.{signed_decimal}
 use Rattle.std.specs.Io.KnownBytes.{Appends, IsAtEnd}
 use Rattle.mf_gf.specs.Files.{IsLongFile, file_if_any}
 use Rattle.mf_desk.specs.declared.fault.RunFault.{RunFault}
-use Rattle.mf_desk.specs.declared.fault.RunFault.TheVariants.{OutOfMemory, NoPlace, FileTooLong, WriteFault, NoLook}
+use Rattle.mf_desk.specs.declared.fault.RunFault.TheVariants.{OutOfMemory, NoPlace, FileTooLong, ReadFault, WriteFault, NoLook}
 use Rattle.mf_watch.specs.declared.glance.Glance.{Glance}
 use Rattle.mf_desk.specs.declared.outcome.Outcome.{Outcome}
 use Rattle.mf_desk.specs.declared.settings.Settings.{Settings}
 use Rattle.mf_session.specs.Endings.{complete_list}
-use Rattle.mf_desk.specs.Fault.{Breaks}
+use Rattle.mf_desk.specs.Ended.{ended_lines}
+use Rattle.mf_desk.specs.Faults.{IsTextSoFar}
 use Rattle.mf_desk.specs.Streams.{HasRead, IsCutAfter, Passage, Streams}
 use Rattle.mf_session.specs.States.{Limits, least_bytes, limits_of}
-use Rattle.mf_session.specs.Transcript.{IsTranscript}
+use Rattle.mf_session.specs.Transcript.{IsTextOf, IsTranscript}
 use Rattle.mf_watch.specs.Watchers.{HasSeen, glance_at}
 
 -- the limits of a session, from the settings of a run
@@ -61,36 +62,32 @@ pub record IsPerformance (t : Task) (outcome : Outcome) (s : Streams) (input : L
 abbrev pub Performs : Task → Streams → Outcome → Type 0
 Performs t s outcome = HasRead s (IsPerformance t outcome s)
 
--- this is the complete transcript, and the lines of the first of these viewers
-pub record IsShownText (limits : Limits) (viewers : ℕ) (read text : List ℕ) : Type 0 where
+-- the script was read to its end, and this is the complete transcript, and the lines of the first of these viewers
+pub record IsShownText (limits : Limits) (viewers : ℕ) (left : Option (List ℕ)) (read text : List ℕ) : Type 0 where
+  pub all_read : IsAtEnd left
   pub shown : ℕ
   pub few : shown ≤ viewers
   pub complete : IsCompleteText limits shown read text
 
--- with this fault a run can end before it has read or written anything: `NoPlace` only where viewers are to look on, and `FileTooLong`
--- only where the limit is below the length of the shortest preamble
-abbrev pub ComesFirst : Settings → ℕ → RunFault → Type 0
-ComesFirst settings viewers NoPlace = 0 < viewers
-ComesFirst settings viewers FileTooLong = settings.max_bytes < least_bytes
-ComesFirst settings viewers _ = ⊥
+-- what the first of the completely read lines print, or the complete transcript and the lines of the first of these viewers
+abbrev pub IsDueText : Limits → ℕ → Option (List ℕ) → List ℕ → List ℕ → Type 0
+IsDueText limits viewers left read text = IsTextSoFar limits left read text ⊎ IsShownText limits viewers left read text
 
--- what a fault says that comes after the end of the script, beside this many viewers: the transcript is complete, and the lines of the
--- first viewers follow it; after `WriteFault` this text may be cut, after `NoLook` the line of a viewer is not written, and after
--- `FileTooLong` all lines are written, and the font file would be too long
-abbrev pub TellsOfEnd : Settings → ℕ → RunFault → Passage → Type 0
-TellsOfEnd settings viewers OutOfMemory p = IsShownText (run_limits settings) viewers p.read p.written
-TellsOfEnd settings viewers FileTooLong p =
-    (all : IsCompleteText (run_limits settings) viewers p.read p.written)
-    × IsLongFile (run_limits settings).max_bytes settings.font [] all.script.last.characters
-TellsOfEnd settings viewers (WriteFault count) p = IsCutAfter count (IsShownText (run_limits settings) viewers p.read) p.written
-TellsOfEnd settings viewers NoLook p = (some : IsShownText (run_limits settings) viewers p.read p.written) × (some.shown < viewers)
-TellsOfEnd settings viewers _ p = ⊥
+-- nothing was read or written
+abbrev pub IsNothing : Passage → Type 0
+IsNothing p = (p.read ≡ []) × (p.written ≡ [])
 
--- what a fault says of a run that has begun, beside this many viewers: it has broken the script off, or came after its end
-abbrev pub TellsOfBegun : Settings → ℕ → RunFault → Passage → Type 0
-TellsOfBegun settings viewers fault p = Breaks (run_limits settings) fault p ⊎ (IsAtEnd p.left × TellsOfEnd settings viewers fault p)
-
--- what each fault says that ends a run beside this many viewers: where it came first, nothing was read or written
+-- what each fault says that ends a run beside this many viewers. After `OutOfMemory` a due text was written, and after `WriteFault` the
+-- start of one, with as many bytes as its number says; after `ReadFault` the texts of the lines that a line feed ended. After `NoLook`
+-- the line of a viewer is not written. After `FileTooLong` all is written, and the font file would be too long, or the limit is below the
+-- length of the shortest preamble, and nothing was read or written. After `NoPlace` nothing was, either
 abbrev pub TellsOfRun : Settings → ℕ → RunFault → Passage → Type 0
-TellsOfRun settings viewers fault p =
-    TellsOfBegun settings viewers fault p ⊎ (ComesFirst settings viewers fault × (p.read ≡ []) × (p.written ≡ []))
+TellsOfRun settings viewers OutOfMemory p = IsDueText (run_limits settings) viewers p.left p.read p.written
+TellsOfRun settings viewers (WriteFault count) p = IsCutAfter count (IsDueText (run_limits settings) viewers p.left p.read) p.written
+TellsOfRun settings viewers ReadFault p = IsTextOf (run_limits settings) (ended_lines p.read) p.written
+TellsOfRun settings viewers NoLook p = (some : IsShownText (run_limits settings) viewers p.left p.read p.written) × (some.shown < viewers)
+TellsOfRun settings viewers FileTooLong p =
+    (IsAtEnd p.left × (all : IsCompleteText (run_limits settings) viewers p.read p.written)
+    × IsLongFile (run_limits settings).max_bytes settings.font [] all.script.last.characters)
+    ⊎ ((settings.max_bytes < least_bytes) × IsNothing p)
+TellsOfRun settings viewers NoPlace p = (0 < viewers) × IsNothing p

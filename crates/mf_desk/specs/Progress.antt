@@ -2,14 +2,14 @@
 use Rattle.std.specs.Prelude.{ℕ, List, Option, ◌≡◌, ◌++◌, length, take}
 use Rattle.std.specs.Str.Lines.{lines}
 use Rattle.mf_desk.specs.Ended.{ended_lines, unended_line}
-use Rattle.mf_desk.specs.Fault.{Breaks}
+use Rattle.mf_desk.specs.Faults.{Stops}
 use Rattle.mf_desk.specs.Streams.{Gets, HasRead, MakesPassage, Streams}
 use Rattle.mf_session.specs.Sessions.{HasPerformed, limits}
 use Rattle.mf_session.specs.States.{start}
 use Rattle.mf_session.specs.Transcript.{due_lines}
-use Rattle.mf_desk.specs.declared.fault.RunFault.{RunFault}
 use Rattle.mf_desk.specs.declared.line_buffer.TheConstants.{MAX_KEPT}
 use Rattle.mf_desk.specs.declared.performer.Performer.{Performer}
+use Rattle.mf_desk.specs.declared.observer.Stopped.{Stopped}
 use Rattle.mf_desk.specs.declared.progress.Progress.{Progress}
 
 -- these lines have been performed from the start on, and the bytes of their texts are counted
@@ -42,7 +42,7 @@ intake before bytes held holds = record { before = before; bytes = bytes; held =
 abbrev pub GoesOn : Intake → Progress → Type 0
 GoesOn t after = (first : Option (List ℕ)) (read : List ℕ) → IsAfter first read t.before t.held → IsAfter first (read ++ t.bytes) after t.holds
 
--- whatever was read before these bytes, and whatever comes after them, the fault breaks the script off
-abbrev pub BreaksAfter : Intake → RunFault → Type 0
-BreaksAfter t fault = (first left : Option (List ℕ)) (read more : List ℕ) → IsAfter first read t.before t.held
-    → Gets first t.holds (MakesPassage (Breaks (limits t.before.performer.session) fault) left (read ++ t.bytes ++ more))
+-- whatever was read before these bytes, and whatever comes after them, the script is stopped
+abbrev pub StopsDuring : {F : Type 0} → Intake → Stopped F → Type 0
+StopsDuring t stopped = (first left : Option (List ℕ)) (read more : List ℕ) → IsAfter first read t.before t.held
+    → Gets first t.holds (MakesPassage (Stops (limits t.before.performer.session) stopped) left (read ++ t.bytes ++ more))

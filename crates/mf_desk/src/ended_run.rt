@@ -1,24 +1,32 @@
-//! A run whose script has ended: its viewers are shown the last picture.
-ghost use Rattle.std.specs.Io.KnownBytes.{Appends};
-ghost use Rattle.std.specs.Prelude.{◌≡◌, ◌+◌, ◌<◌, ◌≤◌, ◌∷◌, ◌++◌, [], ℕ, All, Err, IfErr, IfOk, List, OnOk, Option, length, map};
+//! A run whose script has ended: its viewers are shown the last picture, and its font file is finished.
+ghost use Rattle.std.specs.Prelude.{◌≡◌, ◌≢◌, ◌⊎◌, ◌+◌, ◌<◌, ◌≤◌, [], ℕ, All, Err, IfErr, IfOk, List, OnOk, Option, length, map, true};
+ghost use Rattle.std.specs.Io.KnownBytes.{Appends, IsAtEnd};
 ghost use Rattle.mf_live.specs.Desks.{most_places};
-ghost use Rattle.mf_live.specs.Writers.{ended_identity};
-ghost use Rattle.mf_desk.specs.EndedRuns.{BreaksLooks, HasSeenLast, HasShown, IsSameEnd, glance, glances_of, last_looks, whole_record};
-ghost use Rattle.mf_desk.specs.Performances.{viewer_lines};
-ghost use Rattle.mf_desk.specs.Performer.{longest_text, most_counted_bytes, most_written_bytes};
+ghost use Rattle.mf_live.specs.Entries.{is_closed};
+ghost use Rattle.mf_live.specs.Viewers.{notice_identity, told_list};
+ghost use Rattle.mf_live.specs.Writers.{ended_identity, ended_published_list};
+ghost use Rattle.mf_desk.specs.declared.settings.Settings.{Settings};
+ghost use Rattle.mf_desk.specs.EndedRuns.{EndsWith, HasSeenLast, IsSameEnd, glance, glances_of, whole_record};
+ghost use Rattle.mf_desk.specs.Performances.{Performs, TellsOfRun, run_limits, task, viewer_line, viewer_lines};
+ghost use Rattle.mf_desk.specs.Performer.{most_written_bytes};
+ghost use Rattle.mf_desk.specs.Faults.{BreaksOff};
+ghost use Rattle.mf_desk.specs.Streams.{Gets, Passes, Streams, streams};
+ghost use Rattle.mf_session.specs.States.{Limits};
 ghost use Rattle.mf_watch.specs.Watchers.{HasRoomFor, IsRecord, identity};
 
 use crate::fault::RunFault;
+use crate::outcome::Outcome;
 use crate::output::flush;
+use crate::settings::Settings;
 use mf_base::write_counted;
-use mf_gf::GfFile;
-use mf_live::{Ended, NoLook};
+use mf_gf::{GfFault, GfFile};
+use mf_live::{Ended, NoLook, Notice};
 use mf_watch::{Glance, Watcher};
 use std::alloc::{AllocError, Global};
 use std::io::Write;
 use std::sync::Wait;
 
-/// A run whose script has ended. It is not `Drop`, because its picture is not: end it with `file`.
+/// A run whose script has ended. It is not `Drop`, because its picture is not: end it with `conclude` or `discard`.
 pub struct EndedRun {
     pub ended: Ended,
     pub file: GfFile,
@@ -27,9 +35,20 @@ pub struct EndedRun {
 }
 
 impl EndedRun {
-    /// Lets each viewer look once more and writes its line, in the order of their numbers. Answers with the records of all looks.
-    /// Refused with `OutOfMemory` where an allocation fails, with `WriteFault` where the writer fails, and with `NoLook` where a
-    /// look is refused now or was refused in a thread.
+    /// A notice of the last picture, with the end mark.
+    pub fn notice(&mut self) -> Notice
+        ensures same { IsSameEnd self.old self.new }
+        ensures written { self.new.written ≡ self.old.written }
+        ensures identity { notice_identity result ≡ ended_identity self.old.ended }
+        ensures told { told_list result ≡ ended_published_list self.old.ended }
+        ensures closed { is_closed (told_list result) ≡ true }
+    {
+        self.ended.notice()
+    }
+
+    /// Lets each viewer look once more, in the order of their numbers, then writes their lines, and flushes the writer. Answers with
+    /// the records of all looks. Refused with `OutOfMemory` where an allocation fails, with `WriteFault` where the writer fails, and
+    /// with `NoLook` where a look is refused now or was refused in a thread.
     pub fn show<W: Write>(
         &mut self,
         alloc: Global,
@@ -40,90 +59,88 @@ impl EndedRun {
         requires rooms { IfOk joined (λ watchers. All (HasRoomFor 1) watchers.items) }
         requires few { IfOk joined (λ watchers. length watchers.items ≤ most_places) }
         requires short { self.old.written ≤ most_written_bytes }
-        ensures no_look { IfErr joined (λ _. result ≡ Err RunFault.NoLook) }
         ensures same { IsSameEnd self.old self.new }
-        ensures shown { IfOk result (λ seen.
-            Appends (W.contents writer.old) (W.contents writer.new) (viewer_lines (length seen.items) (glance self.old))) }
-        ensures count { IfOk result (λ seen. (viewers : ℕ) → IfOk joined (λ watchers. length watchers.items ≡ viewers) → length seen.items ≡ viewers) }
         ensures records { IfOk result (λ seen. IfOk joined (λ watchers. glances_of seen.items ≡ map (whole_record self.old) watchers.items)) }
         ensures seen { IfOk result (λ seen. (looks : ℕ) → IfOk joined (λ watchers. All (IsRecord looks) watchers.items)
             → All (HasSeenLast self.old looks) seen.items) }
-        ensures fault { IfErr result (λ fault. (viewers : ℕ) → IfOk joined (λ watchers. length watchers.items ≡ viewers)
-            → IfErr joined (λ _. 0 < viewers) → BreaksLooks (last_looks self.old viewers (W.contents writer.old) (W.contents writer.new)) fault) }
+        ensures count { IfOk result (λ seen. (viewers : ℕ) → IfOk joined (λ watchers. length watchers.items ≡ viewers) → length seen.items ≡ viewers) }
+        ensures over { IfOk result (λ seen. (limits : Limits) (unread left held : Option (List ℕ))
+            → EndsWith limits 0 (streams unread left held (W.contents writer.old)) self.old
+            → EndsWith limits (length seen.items) (streams unread left held (W.contents writer.new)) self.new) }
+        ensures fault { IfErr result (λ fault. (settings : Settings) (viewers : ℕ) (unread left held : Option (List ℕ)) → IsAtEnd left
+            → IfOk joined (λ watchers. length watchers.items ≡ viewers) → IfErr joined (λ _. 0 < viewers)
+            → EndsWith (run_limits settings) 0 (streams unread left held (W.contents writer.old)) self.old
+            → Passes (streams unread left held (W.contents writer.new)) (TellsOfRun settings viewers fault)) }
+        ensures placed { result ≢ Err RunFault.NoPlace }
     {
-        match joined {
-            Ok(watchers) => self.show_all(alloc, writer, watchers),
-            Err(NoLook) => Err(RunFault::NoLook),
-        }
+        let watchers = match joined {
+            Ok(watchers) => watchers,
+            Err(NoLook) => return Err(RunFault::NoLook),
+        };
+        let mut lines = Vec::new(alloc);
+        let seen = self.look_last(alloc, watchers, &mut lines)?;
+        self.write(writer, lines.as_slice())?;
+        Ok(seen)
     }
 
-    /// Lets each viewer look once more and writes its line. Then it flushes the writer.
-    fn show_all<W: Write>(
+    /// Lets each viewer look once more. Answers with their records, and appends their lines.
+    fn look_last(
         &mut self,
         alloc: Global,
-        writer: &mut W,
         watchers: Vec<Watcher>,
+        lines: &mut Vec<u8>,
     ) -> Result<Vec<Vec<Glance>>, RunFault>
         requires identities { All (λ w. identity w ≡ ended_identity self.old.ended) watchers.items }
         requires rooms { All (HasRoomFor 1) watchers.items }
         requires few { length watchers.items ≤ most_places }
-        requires short { self.old.written ≤ most_written_bytes }
+        requires none { lines.old.items ≡ [] }
         ensures same { IsSameEnd self.old self.new }
-        ensures shown { OnOk result (Appends (W.contents writer.old) (W.contents writer.new) (viewer_lines (length watchers.items) (glance self.old))) }
+        ensures written { self.new.written ≡ self.old.written }
+        ensures lines { OnOk result (lines.new.items ≡ viewer_lines (length watchers.items) (glance self.old)) }
         ensures count { IfOk result (λ seen. length seen.items ≡ length watchers.items) }
         ensures records { IfOk result (λ seen. glances_of seen.items ≡ map (whole_record self.old) watchers.items) }
         ensures seen { IfOk result (λ seen. (looks : ℕ) → All (IsRecord looks) watchers.items → All (HasSeenLast self.old looks) seen.items) }
-        ensures fault { IfErr result (BreaksLooks (last_looks self.old (length watchers.items) (W.contents writer.old) (W.contents writer.new))) }
+        ensures fault { IfErr result (λ fault. (fault ≡ RunFault.OutOfMemory) ⊎ ((fault ≡ RunFault.NoLook) × (0 < length watchers.items))) }
     {
         let mut seen = Vec::with_capacity(alloc, watchers.len())?;
         for watcher in watchers {
-            self.show_one(alloc, writer, &mut seen, watcher)?;
+            let mut watcher = watcher;
+            let glance = watcher.look_last(alloc, self.notice())?;
+            let line = viewer_line(alloc, seen.len() as u32, glance)?;
+            lines.extend_from_slice(&line)?;
+            seen.push(watcher.into_record())?;
         }
-        flush(writer, self.written)?;
         Ok(seen)
     }
 
-    /// Lets a viewer look once more, adds its record to those of the viewers before it, and writes its line.
-    fn show_one<W: Write>(
-        &mut self,
-        alloc: Global,
-        writer: &mut W,
-        seen: &mut Vec<Vec<Glance>>,
-        watcher: Watcher,
-    ) -> Result<(), RunFault>
-        requires identity { identity watcher ≡ ended_identity self.old.ended }
-        requires room { HasRoomFor 1 watcher }
-        requires few { length seen.old.items < most_places }
-        requires short { self.old.written + longest_text ≤ most_counted_bytes }
+    /// Writes the lines of the viewers, and flushes the writer.
+    fn write<W: Write>(&mut self, writer: &mut W, lines: &[u8]) -> Result<(), RunFault>
+        requires short { self.old.written ≤ most_written_bytes }
         ensures same { IsSameEnd self.old self.new }
-        ensures count { OnOk result (length seen.new.items ≡ length seen.old.items + 1) }
-        ensures added { OnOk result (glances_of seen.new.items ≡ glances_of seen.old.items ++ whole_record self.old watcher ∷ []) }
-        ensures seen { OnOk result ((run : EndedRun) (looks : ℕ) → IsSameEnd run self.old → IsRecord looks watcher
-            → All (HasSeenLast run looks) seen.old.items → All (HasSeenLast run looks) seen.new.items) }
-        ensures shown { OnOk result ((run : EndedRun) (held : Option (List ℕ))
-            → HasShown (last_looks run (length seen.old.items) held (W.contents writer.old)) self.old
-            → HasShown (last_looks run (length seen.old.items + 1) held (W.contents writer.new)) self.new) }
-        ensures fault { IfErr result (λ fault. (run : EndedRun) (held : Option (List ℕ)) (viewers : ℕ)
-            → HasShown (last_looks run (length seen.old.items) held (W.contents writer.old)) self.old
-            → length seen.old.items < viewers → BreaksLooks (last_looks run viewers held (W.contents writer.new)) fault) }
+        ensures written { OnOk result (self.new.written ≡ self.old.written + length lines.now) }
+        ensures all { OnOk result (Appends (W.contents writer.old) (W.contents writer.new) lines.now) }
+        ensures fault { IfErr result (λ fault. Gets (W.contents writer.old) (W.contents writer.new) (BreaksOff (λ text. text ≡ lines.now) self.old.written fault)) }
     {
-        let mut watcher = watcher;
-        let glance = watcher.look_last(alloc, self.ended.notice())?;
-        let number = seen.len() as u32;
-        let line = viewer_line(alloc, number, glance)?;
-        seen.push(watcher.into_record())?;
-        match write_counted(writer, line.as_slice()) {
-            Ok(()) => {
-                self.written += line.len() as u128;
-                Ok(())
-            }
-            Err(count) => Err(RunFault::WriteFault(self.written + count as u128)),
+        match write_counted(writer, lines) {
+            Ok(()) => self.written += lines.len() as u128,
+            Err(count) => return Err(RunFault::WriteFault(self.written + count as u128)),
         }
+        flush(writer, self.written)
     }
 
-    /// Ends the picture, and hands out the font file. Nobody looks any more, so it waits for nobody.
-    pub fn file<S: Wait>(self, rt: &S) -> GfFile
-        ensures { result ≡ self.file }
+    /// Ends the picture, and finishes the font file, if a character was shipped. Nobody looks any more, so it waits for nobody. Refused
+    /// with `FileTooLong` where the file would have more bytes than it may have, and with `OutOfMemory` where an allocation fails.
+    pub fn conclude<S: Wait>(
+        self,
+        rt: &S,
+        settings: &Settings,
+        seen: Vec<Vec<Glance>>,
+    ) -> Result<Outcome, RunFault>
+        ensures performance { IfOk result (λ outcome. (looks : ℕ) (s : Streams) → All (HasSeenLast self looks) seen.items
+            → EndsWith (run_limits settings.now) (length seen.items) s self → Performs (task settings.now (length seen.items) looks) s outcome) }
+        ensures fault { IfErr result (λ fault. (s : Streams) → IsAtEnd s.left → EndsWith (run_limits settings.now) (length seen.items) s self
+            → Passes s (TellsOfRun settings.now (length seen.items) fault)) }
+        ensures placed { result ≢ Err RunFault.NoPlace }
     {
         let EndedRun {
             ended,
@@ -131,13 +148,27 @@ impl EndedRun {
             written: _,
         } = self;
         ended.discard(rt);
-        file
+        match file.finish_if_any(settings.font) {
+            Ok(gf) => Ok(Outcome { gf, seen }),
+            Err(GfFault::FileTooLong) => Err(RunFault::FileTooLong),
+            Err(_) => Err(RunFault::OutOfMemory),
+        }
+    }
+
+    /// Ends the picture. It may wait for looks that are held.
+    pub fn discard<S: Wait>(self, rt: &S) {
+        let EndedRun {
+            ended,
+            file: _,
+            written: _,
+        } = self;
+        ended.discard(rt);
     }
 }
 
 /// The line of the viewer with this number, whose last glance is this.
 fn viewer_line(alloc: Global, number: u32, glance: Glance) -> Result<Vec<u8>, AllocError>
-    ensures { IfOk result (λ line. line.items ≡ Rattle.mf_desk.specs.Performances.viewer_line number glance) }
+    ensures { IfOk result (λ line. line.items ≡ viewer_line number glance) }
 {
     let Glance { revision, total } = glance;
     let line = format!(in alloc; "viewer {number} revision {revision} totalweight {total}\n")?;

@@ -1,5 +1,6 @@
 //! The faults that end a run.
 ghost use Rattle.std.specs.Prelude.{◌≡◌};
+ghost use Rattle.mf_desk.specs.Names.{is_of_stream, run_fault_text};
 ghost use Rattle.mf_desk.specs.declared.fault.RunFault.TheVariants.{OutOfMemory as NoMemory};
 
 use mf_base::OutOfMemory;
@@ -32,21 +33,39 @@ pub enum RunFault {
     NoLook,
 }
 
+impl RunFault {
+    /// The name of the fault.
+    pub fn name(self) -> &'static str
+        ensures { result.now ≡ run_fault_text self }
+    {
+        match self {
+            RunFault::OutOfMemory => "OutOfMemory",
+            RunFault::NoPlace => "NoPlace",
+            RunFault::FileTooLong => "FileTooLong",
+            RunFault::ReadFault => "ReadFault",
+            RunFault::WriteFault(_) => "WriteFault",
+            RunFault::NoLook => "NoLook",
+        }
+    }
+
+    /// Whether a stream or a file failed, where otherwise memory, a place or a look was missing.
+    pub fn is_of_stream(self) -> bool
+        ensures { result ≡ is_of_stream self }
+    {
+        match self {
+            RunFault::FileTooLong | RunFault::ReadFault | RunFault::WriteFault(_) => true,
+            RunFault::OutOfMemory | RunFault::NoPlace | RunFault::NoLook => false,
+        }
+    }
+}
+
 impl fmt::Display for RunFault {
     ghost use Rattle.std.specs.Prelude.{Some};
-    ghost use Rattle.mf_desk.specs.Names.{run_fault_text};
 
     ghost output = { λ fault. Some (run_fault_text fault) };
 
     fn fmt<W: fmt::Write>(&self, f: &mut fmt::Formatter<W>) -> fmt::Result {
-        match self {
-            RunFault::OutOfMemory => write!(f, "{OutOfMemory}"),
-            RunFault::NoPlace => f.write_str("NoPlace"),
-            RunFault::FileTooLong => f.write_str("FileTooLong"),
-            RunFault::ReadFault => f.write_str("ReadFault"),
-            RunFault::WriteFault(_) => f.write_str("WriteFault"),
-            RunFault::NoLook => f.write_str("NoLook"),
-        }
+        f.write_str(self.name())
     }
 }
 

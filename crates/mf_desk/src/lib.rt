@@ -4,6 +4,7 @@
 mod ended_run;
 mod fault;
 mod line_buffer;
+mod observer;
 mod outcome;
 mod output;
 mod performance;
@@ -12,11 +13,14 @@ mod progress;
 mod script;
 mod settings;
 
+pub use ended_run::EndedRun;
 pub use fault::RunFault;
 pub use mf_base::OutOfMemory;
 pub use mf_session::{EndFault, Session};
 pub use mf_watch::{Gate, Glance, OpenGate};
+pub use observer::{Effect, Observer, PerformedLine, Stopped};
 pub use outcome::Outcome;
 pub use performance::perform;
-pub use script::run;
+pub use progress::Progress;
+pub use script::{CHUNK_SIZE, run};
 pub use settings::Settings;

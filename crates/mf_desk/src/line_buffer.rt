@@ -2,7 +2,6 @@
 ghost use Rattle.std.specs.Prelude.{◌≡◌, ◌==◌, ◌++◌, [], OnErr, OnOk, length, take};
 ghost use Rattle.std.specs.Str.Lines.{strip_carriage_return};
 
-use mf_session::before_line_feed;
 use std::alloc::{AllocError, Global};
 use std::marker::Model;
 
@@ -73,5 +72,16 @@ impl LineBuffer {
         ensures { result.now ≡ strip_carriage_return self.now }
     {
         before_line_feed(self.kept.as_slice())
+    }
+}
+
+/// The bytes of a line that a line feed follows, without the carriage return at their end, if there is one: it is not part of the
+/// line.
+pub fn before_line_feed(bytes: &[u8]) -> &[u8]
+    ensures { result.now ≡ strip_carriage_return bytes.now }
+{
+    match bytes {
+        [line @ .., b'\r'] => line,
+        line => line,
     }
 }

@@ -1,8 +1,8 @@
 //! A run beside viewers in threads.
 ghost use Rattle.std.specs.Io.KnownBytes.{IsAtEnd};
-ghost use Rattle.std.specs.Prelude.{◌≡◌, ◌⊎◌, ◌<◌, ◌≤◌, ℕ, [], Err, IfErr, IfOk, List, OnOk, Option, length};
+ghost use Rattle.std.specs.Prelude.{◌≡◌, ◌≢◌, ◌⊎◌, ◌<◌, ◌≤◌, ℕ, [], Err, IfErr, IfOk, List, OnOk, Option, length};
 ghost use Rattle.mf_live.specs.Desks.{most_places};
-ghost use Rattle.mf_desk.specs.Performances.{Performs, TellsOfBegun, TellsOfRun, run_limits, task};
+ghost use Rattle.mf_desk.specs.Performances.{Performs, TellsOfRun, run_limits, task};
 ghost use Rattle.mf_desk.specs.Performer.{longest_read};
 ghost use Rattle.mf_desk.specs.Progress.{IsAfter};
 ghost use Rattle.mf_desk.specs.Streams.{Passes, streams};
@@ -13,7 +13,7 @@ ghost use Rattle.mf_watch.specs.Watching.{AreStarted, viewer_count};
 use crate::fault::RunFault;
 use crate::outcome::Outcome;
 use crate::progress::Progress;
-use crate::script::{CHUNK_SIZE, finish};
+use crate::script::CHUNK_SIZE;
 use crate::settings::Settings;
 use mf_watch::{Gate, Watching};
 use std::alloc::Global;
@@ -101,15 +101,18 @@ fn perform_beside_viewers<S: Wait + Threads, R: Read, W: Write>(
     ensures end { OnOk result (IsAtEnd (R.remaining reader.new)) }
     ensures fault { IfErr result (λ fault.
         Passes (streams (R.remaining reader.old) (R.remaining reader.new) (W.contents writer.old) (W.contents writer.new))
-        (TellsOfBegun settings.now (viewer_count watching) fault)) }
+        (TellsOfRun settings.now (viewer_count watching) fault)) }
+    ensures placed { result ≢ Err RunFault.NoPlace }
 {
     let completed = progress.complete(rt, alloc, reader, writer, chunk);
     // A fault has ended the picture by now, so that looks are refused and the threads end early.
     let joined = watching.join(rt);
     let mut ended = completed?;
-    let shown = ended.show(alloc, writer, joined);
-    let file = ended.file(rt);
-    let seen = shown?;
-    let gf = finish(file, settings.font)?;
-    Ok(Outcome { gf, seen })
+    match ended.show(alloc, writer, joined) {
+        Ok(seen) => ended.conclude(rt, settings, seen),
+        Err(fault) => {
+            ended.discard(rt);
+            Err(fault)
+        }
+    }
 }

@@ -5,23 +5,25 @@ ghost use Rattle.std.specs.Prelude.{◌≡◌, ◌≢◌, ◌⊎◌, ◌+◌, �
 ghost use Rattle.mf_live.specs.Desks.{desk_identity, most_places, remaining_viewers};
 ghost use Rattle.mf_live.specs.Writers.{ended_identity};
 ghost use Rattle.mf_desk.specs.EndedRuns.{EndsWith};
-ghost use Rattle.mf_desk.specs.Fault.{Breaks};
+ghost use Rattle.mf_desk.specs.Faults.{Breaks, Stops};
 ghost use Rattle.mf_desk.specs.Performances.{run_limits};
 ghost use Rattle.mf_desk.specs.Performer.{longest_read, longest_text, most_counted_bytes, most_written_bytes};
-ghost use Rattle.mf_desk.specs.Progress.{BreaksAfter, GoesOn, HasCounted, IsAfter, ReadsThrough, intake};
-ghost use Rattle.mf_desk.specs.Streams.{Gets, Passes, MakesPassage, streams};
+ghost use Rattle.mf_desk.specs.Progress.{GoesOn, HasCounted, IsAfter, ReadsThrough, StopsDuring, intake};
+ghost use Rattle.mf_desk.specs.Streams.{Gets, Passes, MakesPassage, Streams, streams};
 ghost use Rattle.mf_session.specs.Sessions.{identity, limits};
 ghost use Rattle.mf_session.specs.States.{least_bytes};
 
 use crate::ended_run::EndedRun;
 use crate::fault::RunFault;
-use crate::line_buffer::LineBuffer;
+use crate::line_buffer::{LineBuffer, before_line_feed};
+use crate::observer::{Observer, Stopped};
 use crate::output::flush;
 use crate::performer::Performer;
 use crate::settings::Settings;
 use memchr::memchr;
+use mf_gf::GfFault;
 use mf_live::Desk;
-use mf_session::before_line_feed;
+use mf_session::Session;
 use std::alloc::Global;
 use std::io::{ErrorKind, Read, Write};
 use std::sync::Wait;
@@ -54,14 +56,24 @@ impl Progress {
         ensures too_long { (settings.now.max_bytes < least_bytes) ↔ (result ≡ Err RunFault.FileTooLong) }
         ensures fault { IfErr result (λ fault. (fault ≡ RunFault.FileTooLong) ⊎ (fault ≡ RunFault.OutOfMemory)) }
     {
-        let (performer, desk) = Performer::new(rt, alloc, settings, viewers)?;
-        let line = LineBuffer::new(alloc);
-        Ok((Progress { performer, line }, desk))
+        match Session::new(rt, alloc, viewers, settings.max_ops, settings.max_bytes) {
+            Ok((session, desk)) => {
+                let performer = Performer {
+                    session,
+                    written: 0,
+                    lines: 0,
+                };
+                let line = LineBuffer::new(alloc);
+                Ok((Progress { performer, line }, desk))
+            }
+            Err(GfFault::FileTooLong) => Err(RunFault::FileTooLong),
+            Err(_) => Err(RunFault::OutOfMemory),
+        }
     }
 
-    /// Reads a script to its end, performs its lines, writes their texts, and closes its picture. `chunk` is the buffer for
-    /// reads.
-    pub fn complete<S: Wait, R: Read, W: Write>(
+    /// Reads a script to its end, performs its lines, writes their texts, and closes its picture; nobody else is told of a line.
+    /// `chunk` is the buffer for reads.
+    pub(crate) fn complete<S: Wait, R: Read, W: Write>(
         self,
         rt: &S,
         alloc: Global,
@@ -73,7 +85,7 @@ impl Progress {
         requires unwritten { self.performer.written ≡ 0 }
         requires some { 0 < length chunk.old }
         requires few { length chunk.old ≤ longest_read }
-        ensures over { IfOk result (λ run. EndsWith (limits self.performer.session)
+        ensures over { IfOk result (λ run. EndsWith (limits self.performer.session) 0
             (streams (R.remaining reader.old) (R.remaining reader.new) (W.contents writer.old) (W.contents writer.new)) run) }
         ensures identity { IfOk result (λ run. ended_identity run.ended ≡ identity self.performer.session) }
         ensures short { IfOk result (λ run. run.written ≤ most_written_bytes) }
@@ -83,28 +95,26 @@ impl Progress {
             (Breaks (limits self.performer.session) fault)) }
     {
         let mut progress = self;
-        match progress.read_all(rt, alloc, reader, writer, chunk) {
-            Ok(()) => {
-                let Progress { performer, line: _ } = progress;
-                performer.finish(rt)
-            }
-            Err(fault) => {
+        match progress.read_all(rt, alloc, reader, writer, chunk, &mut ()) {
+            Ok(()) => progress.finish(rt),
+            Err(stopped) => {
                 progress.discard(rt);
-                Err(fault)
+                Err(stopped.into_fault())
             }
         }
     }
 
-    /// Reads a script to its end, performs its lines and writes their texts. The writer is flushed before each read: whoever
-    /// gives the script may be waiting for these texts. A read that was interrupted counts, and is tried again.
-    fn read_all<S: Wait, R: Read, W: Write>(
+    /// Reads a script to its end, performs its lines, writes their texts, and tells the observer of each. The writer is flushed before
+    /// each read: whoever gives the script may be waiting for these texts. A read that was interrupted counts, and is tried again.
+    pub fn read_all<S: Wait, R: Read, W: Write, O: Observer>(
         &mut self,
         rt: &S,
         alloc: Global,
         reader: &mut R,
         writer: &mut W,
         chunk: &mut [u8],
-    ) -> Result<(), RunFault>
+        observer: &mut O,
+    ) -> Result<(), Stopped<O::Fault>>
         requires start { (held : Option (List ℕ)) → IsAfter held [] self.old held }
         requires unwritten { self.old.performer.written ≡ 0 }
         requires some { 0 < length chunk.old }
@@ -116,9 +126,9 @@ impl Progress {
         ensures limits { limits self.new.performer.session ≡ limits self.old.performer.session }
         ensures identity { identity self.new.performer.session ≡ identity self.old.performer.session }
         ensures end { OnOk result (IsAtEnd (R.remaining reader.new)) }
-        ensures fault { IfErr result (λ fault.
+        ensures fault { IfErr result (λ stopped.
             Passes (streams (R.remaining reader.old) (R.remaining reader.new) (W.contents writer.old) (W.contents writer.new))
-            (Breaks (limits self.old.performer.session) fault)) }
+            (Stops (limits self.old.performer.session) stopped)) }
     {
         'reads: for _ in 0..MAX_READS {
             flush(writer, self.performer.written)?;
@@ -127,123 +137,167 @@ impl Progress {
                     if fault.kind() == ErrorKind::Interrupted {
                         continue 'reads;
                     }
-                    return Err(RunFault::ReadFault);
+                    return Err(RunFault::ReadFault.into());
                 }
-                Ok(0) => return self.finish(rt, alloc, writer),
-                Ok(count) => self.take(rt, alloc, writer, &chunk[..count])?,
+                Ok(0) => return self.end_script(rt, alloc, writer, observer),
+                Ok(count) => self.take(rt, alloc, writer, &chunk[..count], observer)?,
             }
         }
-        Err(RunFault::ReadFault)
+        Err(RunFault::ReadFault.into())
     }
 
     /// Takes the next bytes of the script: performs each line that a line feed ends, and writes its text before it performs the
     /// next.
-    fn take<S: Wait, W: Write>(
+    fn take<S: Wait, W: Write, O: Observer>(
         &mut self,
         rt: &S,
         alloc: Global,
         writer: &mut W,
         bytes: &[u8],
-    ) -> Result<(), RunFault>
+        observer: &mut O,
+    ) -> Result<(), Stopped<O::Fault>>
         requires { self.old.performer.written + length bytes.now * longest_text ≤ most_counted_bytes }
         ensures after { OnOk result (GoesOn (intake self.old bytes.now (W.contents writer.old) (W.contents writer.new)) self.new) }
         ensures at_most { OnOk result (self.new.performer.written ≤ self.old.performer.written + length bytes.now * longest_text) }
         ensures limits { limits self.new.performer.session ≡ limits self.old.performer.session }
         ensures identity { identity self.new.performer.session ≡ identity self.old.performer.session }
-        ensures fault { IfErr result (BreaksAfter (intake self.old bytes.now (W.contents writer.old) (W.contents writer.new))) }
+        ensures fault { IfErr result (StopsDuring (intake self.old bytes.now (W.contents writer.old) (W.contents writer.new))) }
     {
         let mut rest = bytes;
         'lines: while let Some(place) = memchr(b'\n', rest) {
-            self.take_line(rt, alloc, writer, &rest[..place])?;
+            self.take_line(rt, alloc, writer, &rest[..place], observer)?;
             rest = &rest[place + 1..];
         }
-        self.keep(rest)
+        Ok(self.keep(rest)?)
     }
 
     /// Takes the bytes before a line feed, and the line feed: performs the line that it ends, and writes its text. A line of
     /// which no byte was kept is performed in place, without a copy.
-    fn take_line<S: Wait, W: Write>(
+    fn take_line<S: Wait, W: Write, O: Observer>(
         &mut self,
         rt: &S,
         alloc: Global,
         writer: &mut W,
         bytes: &[u8],
-    ) -> Result<(), RunFault>
+        observer: &mut O,
+    ) -> Result<(), Stopped<O::Fault>>
         requires room { self.old.performer.written + longest_text ≤ most_counted_bytes }
         requires unbroken { All (λ byte. byte ≢ 10) bytes.now }
         ensures after { OnOk result (GoesOn (intake self.old (bytes.now ++ 10 ∷ []) (W.contents writer.old) (W.contents writer.new)) self.new) }
         ensures at_most { OnOk result (self.new.performer.written ≤ self.old.performer.written + longest_text) }
         ensures limits { limits self.new.performer.session ≡ limits self.old.performer.session }
         ensures identity { identity self.new.performer.session ≡ identity self.old.performer.session }
-        ensures fault { IfErr result (BreaksAfter (intake self.old (bytes.now ++ 10 ∷ []) (W.contents writer.old) (W.contents writer.new))) }
+        ensures fault { IfErr result (StopsDuring (intake self.old (bytes.now ++ 10 ∷ []) (W.contents writer.old) (W.contents writer.new))) }
     {
         if self.line.is_empty() {
             let line = before_line_feed(bytes);
-            return self.performer.perform(rt, alloc, writer, line);
+            return self.performer.perform(rt, alloc, writer, line, observer);
         }
         self.keep(bytes)?;
-        self.end_line(rt, alloc, writer)
+        self.end_line(rt, alloc, writer, observer)
     }
 
     /// Ends the script: the bytes after its last line feed are a line, if there are any. The writer is flushed after its text.
-    fn finish<S: Wait, W: Write>(
+    fn end_script<S: Wait, W: Write, O: Observer>(
         &mut self,
         rt: &S,
         alloc: Global,
         writer: &mut W,
-    ) -> Result<(), RunFault>
+        observer: &mut O,
+    ) -> Result<(), Stopped<O::Fault>>
         requires { self.old.performer.written + longest_text ≤ most_counted_bytes }
         ensures done { OnOk result ((held : Option (List ℕ)) (read : List ℕ) → IsAfter held read self.old (W.contents writer.old)
             → HasCounted held (lines read) self.new.performer (W.contents writer.new)) }
         ensures at_most { OnOk result (self.new.performer.written ≤ self.old.performer.written + longest_text) }
         ensures limits { limits self.new.performer.session ≡ limits self.old.performer.session }
         ensures identity { identity self.new.performer.session ≡ identity self.old.performer.session }
-        ensures fault { IfErr result (λ fault. (held left : Option (List ℕ)) (read : List ℕ) → IsAtEnd left
+        ensures fault { IfErr result (λ stopped. (held left : Option (List ℕ)) (read : List ℕ) → IsAtEnd left
             → IsAfter held read self.old (W.contents writer.old)
-            → Gets held (W.contents writer.new) (MakesPassage (Breaks (limits self.old.performer.session) fault) left read)) }
+            → Gets held (W.contents writer.new) (MakesPassage (Stops (limits self.old.performer.session) stopped) left read)) }
     {
         if self.line.is_empty() {
             return Ok(());
         }
         self.performer
-            .perform(rt, alloc, writer, self.line.at_end())?;
-        flush(writer, self.performer.written)
+            .perform(rt, alloc, writer, self.line.at_end(), observer)?;
+        Ok(flush(writer, self.performer.written)?)
     }
 
     /// Performs the kept line, which a line feed ends, and writes its text.
-    fn end_line<S: Wait, W: Write>(
+    fn end_line<S: Wait, W: Write, O: Observer>(
         &mut self,
         rt: &S,
         alloc: Global,
         writer: &mut W,
-    ) -> Result<(), RunFault>
+        observer: &mut O,
+    ) -> Result<(), Stopped<O::Fault>>
         requires { self.old.performer.written + longest_text ≤ most_counted_bytes }
         ensures after { OnOk result (GoesOn (intake self.old (10 ∷ []) (W.contents writer.old) (W.contents writer.new)) self.new) }
         ensures at_most { OnOk result (self.new.performer.written ≤ self.old.performer.written + longest_text) }
         ensures limits { limits self.new.performer.session ≡ limits self.old.performer.session }
         ensures identity { identity self.new.performer.session ≡ identity self.old.performer.session }
-        ensures fault { IfErr result (BreaksAfter (intake self.old (10 ∷ []) (W.contents writer.old) (W.contents writer.new))) }
+        ensures fault { IfErr result (StopsDuring (intake self.old (10 ∷ []) (W.contents writer.old) (W.contents writer.new))) }
     {
         self.performer
-            .perform(rt, alloc, writer, self.line.at_line_feed())?;
+            .perform(rt, alloc, writer, self.line.at_line_feed(), observer)?;
         self.line.clear();
         Ok(())
     }
 
-    /// Keeps bytes that have no line feed.
+    /// Keeps bytes that have no line feed. Refused with `OutOfMemory`.
     fn keep(&mut self, bytes: &[u8]) -> Result<(), RunFault>
         requires { All (λ byte. byte ≢ 10) bytes.now }
         ensures after { OnOk result ((holds : Option (List ℕ)) → GoesOn (intake self.old bytes.now holds holds) self.new) }
         ensures same { self.new.performer ≡ self.old.performer }
-        ensures fault { IfErr result (λ fault. (holds : Option (List ℕ)) → BreaksAfter (intake self.old bytes.now holds holds) fault) }
+        ensures fault { IfErr result (λ fault. fault ≡ RunFault.OutOfMemory) }
     {
         self.line.extend(bytes)?;
         Ok(())
     }
 
+    /// The session as the lines so far have left it.
+    pub fn session(&self) -> &Session
+        ensures { result.now ≡ self.now.performer.session }
+    {
+        &self.performer.session
+    }
+
+    /// Closes the picture of a script that was read to its end. Refused with `OutOfMemory` where an allocation fails.
+    pub fn finish<S: Wait>(self, rt: &S) -> Result<EndedRun, RunFault>
+        ensures over { IfOk result (λ run. (s : Streams) → ReadsThrough s self.performer → EndsWith (limits self.performer.session) 0 s run) }
+        ensures identity { IfOk result (λ run. (s : Streams) → ReadsThrough s self.performer
+            → ended_identity run.ended ≡ identity self.performer.session) }
+        ensures written { IfOk result (λ run. run.written ≡ self.performer.written) }
+        ensures fault { IfErr result (λ fault. (s : Streams) → IsAtEnd s.left → ReadsThrough s self.performer
+            → Passes s (Breaks (limits self.performer.session) fault)) }
+    {
+        let Progress { performer, line: _ } = self;
+        let Performer {
+            session,
+            written,
+            lines: _,
+        } = performer;
+        match session.finish(rt) {
+            Ok((ended, file)) => Ok(EndedRun {
+                ended,
+                file,
+                written,
+            }),
+            Err(fault) => {
+                fault.discard(rt);
+                Err(RunFault::OutOfMemory)
+            }
+        }
+    }
+
     /// Ends the run without closing its picture.
     pub fn discard<S: Wait>(self, rt: &S) {
         let Progress { performer, line: _ } = self;
-        performer.discard(rt);
+        let Performer {
+            session,
+            written: _,
+            lines: _,
+        } = performer;
+        session.discard(rt);
     }
 }

@@ -1,8 +1,6 @@
 //! A run without viewers: reads a script to its end, writes its transcript, and makes the font file of what it ships.
 ghost use Rattle.std.specs.Io.KnownBytes.{IsAtEnd};
-ghost use Rattle.std.specs.Prelude.{◌≡◌, ◌⊎◌, ◌<◌, ◌↔◌, ℕ, [], Err, IfErr, IfOk, OnOk, List};
-ghost use Rattle.mf_gf.specs.Files.{Character, IsLongFile, file_if_any};
-ghost use Rattle.mf_gf.specs.Keeping.{Keeps, max_bytes_of};
+ghost use Rattle.std.specs.Prelude.{◌≡◌, ◌⊎◌, ◌<◌, ℕ, Err, IfErr, IfOk, OnOk};
 ghost use Rattle.mf_desk.specs.Performances.{Performs, TellsOfRun, task};
 ghost use Rattle.mf_desk.specs.Streams.{Passes, streams};
 ghost use Rattle.mf_session.specs.States.{least_bytes};
@@ -11,7 +9,6 @@ use crate::fault::RunFault;
 use crate::outcome::Outcome;
 use crate::progress::Progress;
 use crate::settings::Settings;
-use mf_gf::{FontWords, GfBytes, GfFault, GfFile};
 use std::alloc::Global;
 use std::io::{Read, Write};
 use std::sync::Wait;
@@ -46,24 +43,5 @@ pub fn run<S: Wait, R: Read, W: Write>(
     let mut memory = vec![in alloc; 0u8; CHUNK_SIZE]?;
     let (progress, _) = Progress::new(rt, alloc, settings, 0)?;
     let ended = progress.complete(rt, alloc, reader, writer, memory.as_mut_slice())?;
-    let gf = finish(ended.file(rt), settings.font)?;
-    Ok(Outcome {
-        gf,
-        seen: Vec::new(alloc),
-    })
-}
-
-/// The font file of the shipped characters, if there are any. Refused with `FileTooLong` where it would have more bytes than it
-/// may have, and with `OutOfMemory` where an allocation fails.
-pub fn finish(file: GfFile, font: FontWords) -> Result<Option<GfBytes>, RunFault>
-    ensures some { IfOk result (λ gf. (characters : List Character) → Keeps file [] characters → gf ≡ file_if_any font [] characters) }
-    ensures too_long { (characters : List Character) → Keeps file [] characters
-        → IsLongFile (max_bytes_of file) font [] characters ↔ (result ≡ Err RunFault.FileTooLong) }
-    ensures fault { IfErr result (λ fault. (fault ≡ RunFault.FileTooLong) ⊎ (fault ≡ RunFault.OutOfMemory)) }
-{
-    match file.finish_if_any(font) {
-        Ok(bytes) => Ok(bytes),
-        Err(GfFault::FileTooLong) => Err(RunFault::FileTooLong),
-        Err(_) => Err(RunFault::OutOfMemory),
-    }
+    ended.conclude(rt, settings, Vec::new(alloc))
 }

@@ -8,8 +8,7 @@ use Rattle.mf_geom.specs.Field.{IsColumnOrRow}
 use Rattle.mf_rows.specs.declared.bounds.Box4.{Box4}
 use Rattle.mf_rows.specs.declared.run.Run.{Run}
 use Rattle.mf_rows.specs.Order.{IsRun}
-use Rattle.mf_rows.specs.Boxes.{IsBoxOfField}
-use Rattle.mf_show.specs.Grid.{extent}
+use Rattle.mf_rows.specs.Boxes.{IsBoxOfField, extent}
 use Rattle.mf_frame.specs.declared.window.Window.{Window}
 use Rattle.mf_frame.specs.Canvases.{Size, IsSize, picture_lines}
 use Rattle.mf_frame.specs.Cells.{cell_of}

@@ -7,8 +7,7 @@ ghost use Rattle.mf_frame.specs.Windows.{IsScale, IsWindow, line_of, window_at, 
 
 use crate::canvas::Canvas;
 use mf_geom::MAX_COORDINATE;
-use mf_rows::Box4;
-use mf_show::extent;
+use mf_rows::{Box4, extent};
 
 /// The scale at which each picture fits: the field is then two cells wide and two lines high.
 const MAX_SCALE: i32 = MAX_COORDINATE;

@@ -8,7 +8,7 @@ use Rattle.mf_rows.specs.declared.run.Run.{Run}
 use Rattle.mf_rows.specs.Dots.{Dot}
 use Rattle.mf_rows.specs.Order.{IsRun}
 use Rattle.mf_rows.specs.Runs.{runs_of}
-use Rattle.mf_show.specs.Grid.{extent}
+use Rattle.mf_rows.specs.Boxes.{extent}
 use Rattle.mf_show.proofs.Pieces.{piece_more, pieces_all}
 use Rattle.mf_show.proofs.ShownRows.{extent-next, extent-none}
 use Rattle.mf_show.proofs.WrittenRuns.{first_is_lawful}

@@ -13,8 +13,7 @@ use Rattle.mf_rows.specs.Order.{IsRun}
 use Rattle.mf_rows.specs.Runs.{dots_of, runs_of}
 use Rattle.mf_rows.proofs.RunsLemmas.{dots_of-runs_of}
 use Rattle.mf_rows.proofs.PassedRuns.{runs_are_lawful}
-use Rattle.mf_rows.specs.Boxes.{IsBoxOfField, box_of_dots}
-use Rattle.mf_show.specs.Grid.{extent}
+use Rattle.mf_rows.specs.Boxes.{IsBoxOfField, box_of_dots, extent}
 use Rattle.mf_rows.proofs.BoxesOfDots.{least_box_of_dots, least_box_of_field}
 use Rattle.mf_image.specs.declared.svg_image.ViewBox.{ViewBox}
 use Rattle.mf_image.specs.Boxes.{image_box}

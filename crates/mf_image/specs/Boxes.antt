@@ -2,8 +2,7 @@
 use Rattle.std.specs.Prelude.{◌≡◌, ℕ, pos, List, [], ◌∷◌}
 use Rattle.mf_rows.specs.declared.bounds.Box4.{Box4}
 use Rattle.mf_rows.specs.Dots.{Dot}
-use Rattle.mf_rows.specs.Boxes.{IsBoxOfField, box_of_dots}
-use Rattle.mf_show.specs.Grid.{IsLargerThan}
+use Rattle.mf_rows.specs.Boxes.{IsBoxOfField, IsLargerThan, box_of_dots}
 
 -- the box of the pixel at the origin
 abbrev pub origin : Box4

@@ -6,7 +6,8 @@ use Rattle.std.specs.Int.RustNames.{unsigned_abs}
 use Rattle.std.specs.Ordering.{int_eq}
 use Rattle.mf_rows.specs.declared.bounds.Box4.{Box4}
 use Rattle.mf_rows.specs.Dots.{Dot}
-use Rattle.mf_show.specs.Grid.{extent, shown_at, shown_box}
+use Rattle.mf_show.specs.Grid.{shown_at, shown_box}
+use Rattle.mf_rows.specs.Boxes.{extent}
 use Rattle.mf_image.specs.Boxes.{image_box}
 
 -- the greatest gray value (Netpbm: maxval), which is white; the step between the gray values of 1, 2 and 3; and the number to which the

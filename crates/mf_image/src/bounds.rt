@@ -3,7 +3,6 @@ ghost use Rattle.std.specs.Prelude.{◌↔◌, IfSome, IsNone};
 ghost use Rattle.mf_image.specs.Boxes.{IsImageBox, IsTooLargeForImage};
 
 use mf_rows::{Box4, Picture};
-use mf_show::is_larger_than;
 
 /// The greatest number of columns, and of rows, of an image.
 const MAX_IMAGE_SIDE: u32 = 4096;
@@ -26,7 +25,7 @@ pub(crate) fn image_box(picture: &Picture) -> Option<Box4>
     let Some(bounds) = picture.bounds() else {
         return Some(ORIGIN);
     };
-    if is_larger_than(&bounds, MAX_IMAGE_SIDE) {
+    if bounds.is_larger_than(MAX_IMAGE_SIDE) {
         return None;
     }
     Some(bounds)

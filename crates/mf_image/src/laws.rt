@@ -2,7 +2,7 @@
 //! contract of a function names it.
 ghost use Rattle.std.specs.Prelude.{◌≡◌, ◌<◌, ◌+◌, ◌*◌, ℕ, ℤ, pos, ◌≤ℤ◌, ◌+ℤ◌, ◌-ℤ◌, List, get_or, length};
 ghost use Rattle.mf_rows.specs.Dots.{Dot, IsPicture, weight_at};
-ghost use Rattle.mf_show.specs.Grid.{extent};
+ghost use Rattle.mf_rows.specs.Boxes.{extent};
 ghost use Rattle.mf_image.specs.Boxes.{image_box};
 ghost use Rattle.mf_image.specs.Pgm.{gray_value, greatest_distinct_weight, least_distinct_weight, pgm_bytes, pgm_head};
 ghost use Rattle.mf_image.specs.Reading.{read_svg, weight_of_gray_value};

@@ -1,16 +1,16 @@
 //! PGM images.
 ghost use Rattle.std.specs.Prelude.{◌≡◌, ◌↔◌, ◌≤ℤ◌, ◌++◌, Err, IfOk};
 ghost use Rattle.mf_geom.specs.Coordinates.{least_coordinate, last_in_field};
-ghost use Rattle.mf_rows.specs.Boxes.{IsBoxOfField};
-ghost use Rattle.mf_show.specs.Grid.{extent, shown_at, shown_row};
+ghost use Rattle.mf_rows.specs.Boxes.{IsBoxOfField, extent};
+ghost use Rattle.mf_show.specs.Grid.{shown_at, shown_row};
 ghost use Rattle.mf_image.specs.Boxes.{IsImageBox, IsTooLargeForImage};
 ghost use Rattle.mf_image.specs.Pgm.{gray_value, pgm_bytes, pgm_head};
 
 use crate::bounds::image_box;
 use crate::fault::ImageFault;
 use mf_base::OutOfMemory;
-use mf_rows::{Box4, Picture};
-use mf_show::{extent, push_number};
+use mf_rows::{Box4, Picture, extent};
+use mf_show::push_number;
 use std::alloc::Global;
 
 /// The PGM image of a picture (Netpbm's portable graymap, `P5`, maxval 255): the gray value of each pixel of its least box in a

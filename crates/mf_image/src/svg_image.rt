@@ -11,8 +11,8 @@ ghost use Rattle.mf_image.specs.Svg.{paths, rectangle, rectangle_of, svg_text, v
 use crate::bounds::image_box;
 use crate::fault::ImageFault;
 use mf_base::OutOfMemory;
-use mf_rows::{Box4, Picture, Run};
-use mf_show::{extent, push_number};
+use mf_rows::{Box4, Picture, Run, extent};
+use mf_show::push_number;
 use std::alloc::Global;
 
 /// What ends the line with the size of the image, and the pattern of the grid.

@@ -4,7 +4,7 @@ ghost use Rattle.std.specs.Prelude.{◌≡◌, ◌⊎◌, ◌≤◌, true, false
 ghost use Rattle.mf_live.specs.Entries.{Entry, revision_at, is_closed, picture_at, IsUnrefused};
 ghost use Rattle.mf_live.specs.Events.{Event};
 ghost use Rattle.mf_live.specs.Prefixes.{IsWholePrefix, HasWholePublishes};
-ghost use Rattle.mf_live.specs.Sheets.{HasLearnt, HasLookedAt, IsLastNotTaken, sheet_identity, sheet_list};
+ghost use Rattle.mf_live.specs.Sheets.{HasLearnt};
 ghost use Rattle.mf_live.specs.Viewers as viewers;
 ghost use Rattle.mf_live.specs.Writers as writers;
 ghost use Rattle.mf_live.specs.World.{EverySchedule, IsPending, published_list_of};
@@ -12,10 +12,8 @@ ghost use Rattle.mf_live.specs.World.{EverySchedule, IsPending, published_list_o
 use crate::closing::{Closing, Ended};
 use crate::look::{Look, NoLook};
 use crate::notice::Notice;
-use crate::sheet::{Sheet, SheetFault};
 use crate::viewer::Viewer;
 use crate::writer::Writer;
-use std::alloc::Global;
 
 /// Take any list of events of one writer and any number of viewers, in any order in which each of them can happen. Before and after
 /// each event no accepted operation is refused, and there are at most `max_ops`; what is published is a whole prefix of what is
@@ -122,20 +120,4 @@ pub fn last_look(viewer: Viewer, notice: Notice) -> Result<Look, (Viewer, NoLook
     let mut viewer = viewer;
     viewer.learn(notice);
     viewer.look()
-}
-
-/// The sheet of a viewer that has learnt of the end is the last picture, and everything that the viewer had seen is a whole
-/// prefix of the complete list. After `NoLook` the viewer has not looked, but has learnt of the end. After `OutOfMemory` it has
-/// looked at the complete list, and what it had seen before is a whole prefix of it then, too. Requires what `last_look` requires.
-pub fn last_sheet(viewer: &mut Viewer, alloc: Global, notice: Notice) -> Result<Sheet, SheetFault>
-    requires identity { viewers.notice_identity notice ≡ viewers.identity viewer.old }
-    requires closed { is_closed (viewers.told_list notice) ≡ true }
-    ensures identity { viewers.identity viewer.new ≡ viewers.identity viewer.old }
-    ensures sheet { IfOk result (λ sheet. (sheet_identity sheet ≡ viewers.identity viewer.old) × (sheet_list sheet ≡ viewers.told_list notice)) }
-    ensures extends { OnOk result (viewers.Extends viewer.old (viewers.told_list notice)) }
-    ensures looked { OnOk result (HasLookedAt (viewers.told_list notice) viewer.new) }
-    ensures not_taken { IfErr result (IsLastNotTaken viewer.old (viewers.told_list notice) viewer.new) }
-{
-    viewer.learn(notice);
-    viewer.sheet(alloc)
 }

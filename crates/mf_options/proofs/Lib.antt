@@ -1,3 +1,4 @@
 mod Faults
+mod Messages
 mod ValuesRead
 pub mod ValuesTyped

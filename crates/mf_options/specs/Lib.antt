@@ -1,3 +1,4 @@
 pub mod Faults
+pub mod Messages
 pub mod Options
 pub mod Values

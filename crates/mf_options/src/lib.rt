@@ -10,6 +10,6 @@ mod words;
 
 pub use command::{find_matches, new_command, with_file, with_flag, with_number};
 pub use fault::WordsFault;
-pub use statuses::{BAD_WORDS, DONE, STREAM_FAULT, WANTING, refuse_words};
+pub use statuses::{BAD_WORDS, DONE, STREAM_FAULT, WANTING, refuse_words, report_fault};
 pub use values::{file, flag, number};
 pub use words::words_of;

@@ -1,7 +1,9 @@
-//! The exit statuses that both programs have, and how both refuse words.
-ghost use Rattle.std.specs.Prelude.{◌≡◌};
+//! The exit statuses that both programs have, and how both refuse words and report faults.
+ghost use Rattle.std.specs.Prelude.{◌≡◌, flat_map};
 ghost use Rattle.mf_base.specs.Messages.{GetsFront};
+ghost use Rattle.mf_options.specs.Messages.{fault_message};
 
+use itoa::Buffer;
 use mf_base::write_text;
 use std::io::Write;
 
@@ -25,4 +27,30 @@ pub fn refuse_words<E: Write>(errors: &mut E, usage: &str) -> u8
 {
     write_text(errors, usage);
     BAD_WORDS
+}
+
+/// Reports a fault: writes the names of the program and of the fault, and the number of the fault if it has one, or a front of that
+/// where `errors` fails. It allocates nothing, so that each fault can be told.
+pub fn report_fault<E: Write>(errors: &mut E, program: &str, name: &str, number: Option<u32>)
+    ensures { GetsFront (E.contents errors.old) (E.contents errors.new) (fault_message program.now name.now number) }
+{
+    let mut buffer = Buffer::new();
+    match number {
+        None => write_texts(errors, &[program, ": ", name, "\n"]),
+        Some(number) => write_texts(
+            errors,
+            &[program, ": ", name, " ", buffer.format(number), "\n"],
+        ),
+    }
+}
+
+/// Writes the texts one after another, or a front of all where `errors` fails: nothing follows a text that was cut.
+fn write_texts<E: Write>(errors: &mut E, texts: &[&str])
+    ensures { GetsFront (E.contents errors.old) (E.contents errors.new) (flat_map (λ text. text.now) texts.now) }
+{
+    for text in texts {
+        if !write_text(errors, text) {
+            return;
+        }
+    }
 }

@@ -1,6 +1,7 @@
--- Boxes as values: the one round two others, and the least box of a picture.
-use Rattle.std.specs.Prelude.{◌≤ℤ◌, List, [], ◌∷◌, Option, None, Some}
+-- Boxes as values: the one round two others, the least box of a picture, and how large a box is.
+use Rattle.std.specs.Prelude.{◌<◌, ◌⊎◌, ◌≤ℤ◌, ◌+ℤ◌, ◌-ℤ◌, ℕ, ℤ, List, [], ◌∷◌, Option, None, Some, pos}
 use Rattle.std.specs.Int.{int_max, int_min}
+use Rattle.std.specs.Int.RustNames.{unsigned_abs}
 use Rattle.mf_geom.specs.Coordinates.{least_coordinate, last_in_field}
 use Rattle.mf_rows.specs.declared.bounds.Box4.{Box4}
 use Rattle.mf_rows.specs.Dots.{Dot}
@@ -36,3 +37,11 @@ pub record IsBoxOfField (b : Box4) : Type 0 where
   pub top : b.max_y ≤ℤ last_in_field
   pub columns : b.min_x ≤ℤ b.max_x
   pub rows : b.min_y ≤ℤ b.max_y
+
+-- the number of columns, or rows, from the first to the last, both inclusive
+abbrev pub extent : ℤ → ℤ → ℕ
+extent first last = unsigned_abs ((last -ℤ first) +ℤ pos 1)
+
+-- a box has more columns, or more rows, than this
+abbrev pub IsLargerThan : ℕ → Box4 → Type 0
+IsLargerThan most b = (most < extent b.min_x b.max_x) ⊎ (most < extent b.min_y b.max_y)

@@ -1,6 +1,8 @@
 //! Boxes of pixels.
-ghost use Rattle.std.specs.Prelude.{◌≡◌};
+ghost use Rattle.std.specs.Prelude.{◌≡◌, ◌≤ℤ◌, ◌↔◌, IsTrue};
+ghost use Rattle.mf_geom.specs.Coordinates.{last_in_field, least_coordinate};
 ghost use Rattle.mf_rows.specs.Bounds.{is_among, with_box};
+ghost use Rattle.mf_rows.specs.Boxes.{IsBoxOfField, IsLargerThan, extent};
 
 /// A box of pixels, ends included: columns `min_x` to `max_x`, rows `min_y` to `max_y`. The box of a picture lies in
 /// the field: all four are in -4095..=4094 (mf.web keeps such bounds in the header of an edge structure).
@@ -48,4 +50,23 @@ impl Box4 {
             None => self,
         }
     }
+
+    /// Whether it has more columns, or more rows, than this. Requires a box that is not empty, with columns and rows in -4095..=4094.
+    pub fn is_larger_than(&self, most: u32) -> bool
+        requires { IsBoxOfField self.now }
+        ensures { IsTrue result ↔ IsLargerThan most self.now }
+    {
+        extent(self.min_x, self.max_x) > most || extent(self.min_y, self.max_y) > most
+    }
+}
+
+/// The number of columns, or rows, from the first to the last, both inclusive: 1 to 8190. Requires that they are in the field, in
+/// -4095..=4094, and that the first is not greater than the last.
+pub fn extent(first: i32, last: i32) -> u32
+    requires least { least_coordinate ≤ℤ first }
+    requires greatest { last ≤ℤ last_in_field }
+    requires order { first ≤ℤ last }
+    ensures { result ≡ extent first last }
+{
+    (last - first) as u32 + 1
 }

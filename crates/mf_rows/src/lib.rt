@@ -12,7 +12,7 @@ mod sign;
 mod walk;
 
 pub use black_rows::BlackRows;
-pub use bounds::Box4;
+pub use bounds::{Box4, extent};
 pub use builder::RowBuilder;
 pub use mf_base::OutOfMemory;
 pub use mf_strips::{AddFault, Corner};

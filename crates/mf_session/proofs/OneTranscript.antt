@@ -40,7 +40,7 @@ one_answer limits s line a b (inl p) (inr q) = absurd (given_or_refused line p.c
 one_answer limits s line a b (inr p) (inl q) = absurd (given_or_refused line q.command p.fault p.printable q.given p.refused)
 one_answer limits s line a b (inr p) (inr q) = grind (arith, refused_once, sym)
 
-performs_once : (limits : Limits) (s : State) (lines : List (List ℕ)) (a b : Answer) → Perform limits s lines a → Perform limits s lines b → a ≡ b
+pub performs_once : (limits : Limits) (s : State) (lines : List (List ℕ)) (a b : Answer) → Perform limits s lines a → Perform limits s lines b → a ≡ b
 performs_once limits s [] a b p q = p ∙ sym q
 performs_once limits s (line ∷ more) a b (first, rest, answer, performed, is) (first_too, rest_too, answer_too, performed_too, is_too) =
     let same = one_answer limits s line first first_too answer answer_too in

@@ -4,12 +4,10 @@
 
 pub mod laws;
 mod limits;
-mod line;
 mod refusal;
 mod registers;
 mod session;
 mod variables;
 
 pub use limits::{MAX_BYTES, MAX_OPS};
-pub use line::before_line_feed;
 pub use session::{EndFault, Session};

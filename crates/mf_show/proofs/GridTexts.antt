@@ -4,10 +4,10 @@ use Rattle.std.specs.Prelude.{MatchOption, ◌↔◌}
 use Rattle.std.proofs.lemmas.Bool.{cases_lt, false≢true}
 use Rattle.mf_rows.specs.declared.bounds.Box4.{Box4}
 use Rattle.mf_rows.specs.Bounds.{IsLeastBox}
-use Rattle.mf_rows.specs.Boxes.{box_of}
+use Rattle.mf_rows.specs.Boxes.{IsLargerThan, box_of, extent}
 use Rattle.mf_rows.specs.Dots.{Dot}
 use Rattle.mf_rows.proofs.BoxesOfDots.{least_box_is, no_box}
-use Rattle.mf_show.specs.Grid.{IsLargerThan, IsTooLargeForGrid, box_text, extent, greatest_grid_side, grid_text, grid_text_in}
+use Rattle.mf_show.specs.Grid.{IsTooLargeForGrid, box_text, greatest_grid_side, grid_text, grid_text_in}
 
 pub grid_of_box : (ds : List Dot) (b : Box4) → IsLeastBox ds b → grid_text ds ≡ box_text ds b
 unfolding grid_text

@@ -5,7 +5,8 @@ use lib.Seq.{get_or-append-add}
 use Rattle.std.proofs.lemmas.Int.{ints}
 use Rattle.std.proofs.lemmas.List.{get_or_append_left}
 use Rattle.mf_rows.specs.declared.bounds.Box4.{Box4}
-use Rattle.mf_show.specs.Grid.{extent, shown_box, shown_line, shown_row, shown_rows}
+use Rattle.mf_show.specs.Grid.{shown_box, shown_line, shown_row, shown_rows}
+use Rattle.mf_rows.specs.Boxes.{extent}
 
 row_length : (f : ℤ → ℕ) (x : ℤ) (n : ℕ) → length (shown_row f x n) ≡ n
 unfolding shown_row

@@ -2,8 +2,8 @@
 use Rattle.std.proofs.Common.{◌≡◌, ℕ, suc, ℤ, pos, ◌+ℤ◌, ◌-ℤ◌, ◌≤ℤ◌, List, [], ◌∷◌, ◌++◌, refl, ap, append_assoc, arith}
 use Rattle.std.proofs.lemmas.Int.{ints}
 use Rattle.mf_rows.specs.declared.bounds.Box4.{Box4}
-use Rattle.mf_rows.specs.Boxes.{IsBoxOfField}
-use Rattle.mf_show.specs.Grid.{extent, shown_box, shown_line, shown_row, shown_rows}
+use Rattle.mf_rows.specs.Boxes.{IsBoxOfField, extent}
+use Rattle.mf_show.specs.Grid.{shown_box, shown_line, shown_row, shown_rows}
 use Rattle.mf_show.proofs.Pieces.{piece_more, pieces_all}
 
 pub extent-next : (x last : ℤ) → x ≤ℤ last → extent x last ≡ suc (extent (x +ℤ pos 1) last)

@@ -4,7 +4,7 @@ use Rattle.std.specs.Prelude.{List, [], ◌∷◌, ◌++◌, codes, Option, None
 use Rattle.std.specs.Int.RustNames.{unsigned_abs}
 use Rattle.std.specs.Ordering.{int_eq}
 use Rattle.mf_rows.specs.declared.bounds.Box4.{Box4}
-use Rattle.mf_rows.specs.Boxes.{box_of}
+use Rattle.mf_rows.specs.Boxes.{IsLargerThan, box_of, extent}
 use Rattle.mf_rows.specs.Dots.{Dot, weight_at}
 
 -- the characters of a grid: those of weight 0 and of weights beyond the greatest digit, `0` and the one before `a`, from which the
@@ -38,14 +38,6 @@ grid_character w =
     else (if int_lt (pos greatest_digit) w then plus_sign
     else (if int_lt w (pos 0 -ℤ pos greatest_digit) then minus_sign
     else (if int_lt (pos 0) w then digit_zero + unsigned_abs w else before_a + unsigned_abs w)))
-
--- the number of columns, or rows, from the first to the last, both inclusive
-abbrev pub extent : ℤ → ℤ → ℕ
-extent first last = unsigned_abs ((last -ℤ first) +ℤ pos 1)
-
--- a box has more columns, or more rows, than this
-abbrev pub IsLargerThan : ℕ → Box4 → Type 0
-IsLargerThan most b = (most < extent b.min_x b.max_x) ⊎ (most < extent b.min_y b.max_y)
 
 -- the number that shows the pixel in row y and column x, where each weight has its number
 abbrev pub shown_at : (ℤ → ℕ) → List Dot → ℤ → ℤ → ℕ

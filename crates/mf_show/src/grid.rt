@@ -2,10 +2,10 @@
 ghost use Rattle.std.specs.Prelude.{◌≡◌, ◌≤ℤ◌, ◌+ℤ◌, ◌++◌, ◌↔◌, Err, IfOk, IsTrue, codes, pos};
 ghost use Rattle.mf_geom.specs.Coordinates.{least_coordinate, last_in_field};
 ghost use Rattle.mf_rows.specs.Bounds.{IsLeastBox};
-ghost use Rattle.mf_rows.specs.Boxes.{IsBoxOfField};
+ghost use Rattle.mf_rows.specs.Boxes.{IsBoxOfField, IsLargerThan, extent};
 ghost use Rattle.mf_rows.specs.Dots.{place};
 ghost use Rattle.mf_rows.specs.Order.{AreRuns};
-ghost use Rattle.mf_show.specs.Grid.{IsLargerThan, IsTooLargeForGrid, extent, grid_character, grid_text, row_text};
+ghost use Rattle.mf_show.specs.Grid.{IsTooLargeForGrid, grid_character, grid_text, row_text};
 ghost use Rattle.mf_show.specs.RunsAhead.{runs_ahead, dots_ahead, AreSameFrom};
 
 mod weights;
@@ -13,7 +13,7 @@ mod weights;
 use crate::fault::GridFault;
 use crate::grid::weights::Weights;
 use mf_base::OutOfMemory;
-use mf_rows::{Box4, Picture};
+use mf_rows::{Box4, Picture, extent};
 use std::alloc::Global;
 
 /// The greatest number of columns, and of rows, of a grid.
@@ -31,7 +31,7 @@ pub fn proof_grid(alloc: Global, picture: &Picture) -> Result<Vec<u8>, GridFault
     let Some(bounds) = picture.bounds() else {
         return Ok(blank(alloc)?);
     };
-    if is_larger_than(&bounds, MAX_GRID_SIDE) {
+    if bounds.is_larger_than(MAX_GRID_SIDE) {
         return Err(GridFault::ProofTooLarge);
     }
     Ok(box_text(alloc, picture, &bounds)?)
@@ -42,25 +42,6 @@ fn blank(alloc: Global) -> Result<Vec<u8>, OutOfMemory>
     ensures { IfOk result (λ text. text.items ≡ codes "blank\n") }
 {
     Ok(Vec::from_slice(alloc, b"blank\n")?)
-}
-
-/// The number of columns, or rows, from the first to the last, both inclusive: 1 to 8190. Requires that they are in the field, in
-/// -4095..=4094, and that the first is not greater than the last.
-pub fn extent(first: i32, last: i32) -> u32
-    requires least { least_coordinate ≤ℤ first }
-    requires greatest { last ≤ℤ last_in_field }
-    requires order { first ≤ℤ last }
-    ensures { result ≡ extent first last }
-{
-    (last - first) as u32 + 1
-}
-
-/// Whether a box has more columns, or more rows, than this. Requires a box that is not empty, with columns and rows in -4095..=4094.
-pub fn is_larger_than(bounds: &Box4, most: u32) -> bool
-    requires { IsBoxOfField bounds.now }
-    ensures { IsTrue result ↔ IsLargerThan most bounds.now }
-{
-    extent(bounds.min_x, bounds.max_x) > most || extent(bounds.min_y, bounds.max_y) > most
 }
 
 /// The number of bytes in the grid text of a box.

@@ -4,8 +4,8 @@ ghost use Rattle.std.specs.Prelude.{◌≡◌, ◌<◌, ◌+◌, ◌*◌, ℕ, p
 ghost use Rattle.mf_rows.specs.declared.bounds.Box4.{Box4};
 ghost use Rattle.mf_rows.specs.Bounds.{IsLeastBox};
 ghost use Rattle.mf_rows.specs.Dots.{Dot, weight_at};
-ghost use Rattle.mf_rows.specs.Boxes.{box_of, box_of_dots};
-ghost use Rattle.mf_show.specs.Grid.{box_text, extent, grid_character, grid_text, line_feed};
+ghost use Rattle.mf_rows.specs.Boxes.{box_of, box_of_dots, extent};
+ghost use Rattle.mf_show.specs.Grid.{box_text, grid_character, grid_text, line_feed};
 
 /// The box of a picture that is computed from its dots, for grids, images and frames, is its least box, and there is no other least
 /// box. The blank picture has none.

@@ -8,6 +8,6 @@ mod number;
 mod run_text;
 
 pub use fault::GridFault;
-pub use grid::{extent, is_larger_than, proof_grid};
+pub use grid::proof_grid;
 pub use number::push_number;
 pub use run_text::show_runs;

@@ -1,6 +1,4 @@
-mod Broken
 mod Drawn
-mod FontsAsked
-mod Messages
+mod Images
 mod Reports
 mod Shown

@@ -1,48 +1,44 @@
--- How faults that end a run are reported.
-use Rattle.std.proofs.Common.{◌≡◌, ◌⊎◌, ℕ, inl, inr, List, Option, refl, sym, arith, ⊎_elim}
+-- How faults that end the program are reported.
+use Rattle.std.proofs.Common.{◌≡◌, ◌⊎◌, ◌∙◌, ℕ, inl, inr, List, Option, sym, subst, arith, ⊎_elim}
 use Rattle.clap.specs.Words.{Text}
-use Rattle.mf_base.specs.Messages.{GetsFront, receipt}
-use Rattle.mf_view.specs.Faults.{EndsScript, GetsPartOfText, ReportsFaultLast}
-use Rattle.mf_view.specs.Messages.{message_of}
-use Rattle.mf_view.specs.Performances.{ScreenStreams}
-use Rattle.mf_view.specs.Statuses.{status_of}
+use Rattle.mf_base.specs.Messages.{GetsFront}
+use Rattle.mf_desk.specs.Streams.{Streams, streams}
+use Rattle.mf_session.specs.States.{limits_of, most_bytes, most_operations}
+use Rattle.mf_view.specs.Endings.{EndsShow, ReportsFault, transcript_in}
+use Rattle.mf_view.specs.Messages.{message_of, status_of}
 use Rattle.mf_view.specs.declared.fault.ProgramFault.{ProgramFault}
-use Rattle.mf_view.specs.declared.fault.ProgramFault.TheVariants.{OutOfMemory, NoPlace, WriteFault}
+use Rattle.mf_view.proofs.Shown.{nothing_is_told_into}
 use Rattle.mf_view_words.specs.Requests.{IsRequest}
 use Rattle.mf_view_words.specs.declared.words.Request.TheVariants.{Show}
 use Rattle.mf_view_words.specs.declared.words.Words.{Words}
 
--- memory was missing before anything was drawn or told
-pub ReportsFaultLast-memory : (words : List Text) (status : ℕ) (IsUnread : Type 0) (s : ScreenStreams) → s.screen.holds ≡ s.screen.held
-    → status ≡ status_of OutOfMemory
-    → GetsFront s.transcript.held s.transcript.holds (message_of OutOfMemory) → ReportsFaultLast words status IsUnread s
-ReportsFaultLast-memory words status IsUnread s drawn is message = record {
-  fault = OutOfMemory;
-  status_is = sym is;
-  between = s.transcript.held;
-  ends = inl (refl, (drawn, refl));
-  message = message;
-  unread = λ same. absurd (cc);
-}
+module _ (words : List Text) (fault : ProgramFault) (status : ℕ) (is : status ≡ status_of fault) where
+  -- nothing was read, and no transcript was written
+  pub ReportsFault-nothing : (unread held holds : Option (List ℕ)) → GetsFront held holds (message_of fault)
+      → ReportsFault words status (streams unread unread held holds)
+  ReportsFault-nothing unread held holds message = record {
+    fault = fault;
+    status_is = sym is;
+    between = held;
+    message = message;
+    told = λ asked request. nothing_is_told_into (transcript_in asked) (limits_of most_operations most_bytes) fault unread held;
+  }
 
--- a text that was asked for went out, or was cut
-pub text_reports_its_fault : (words : List Text) (status : ℕ) (IsUnread : Type 0) (s : ScreenStreams) → (status ≡ 3 → GetsPartOfText words s)
-    → (status ≡ 0) ⊎ (status ≡ 3) → (status ≡ 3) ⊎ ((status ≡ 4) ⊎ (status ≡ 5))
-    → (status ≡ 3 → GetsFront s.transcript.held s.transcript.holds (message_of WriteFault)) → ReportsFaultLast words status IsUnread s
-text_reports_its_fault words status IsUnread s text (inl done) bad got =
-    absurd (⊎_elim (λ three. omega (arith, done, three)) (⊎_elim (λ four. omega (arith, done, four)) (λ five. omega (arith, done, five))) bad)
-text_reports_its_fault words status IsUnread s text (inr failed) bad got = record {
-  fault = WriteFault;
-  status_is = sym failed;
-  between = s.transcript.held;
-  ends = inr (inl (refl, text failed, refl));
-  message = got failed;
-  unread = λ same. absurd (cc);
-}
-
-module _ (words : List Text) (asked : Words) (request : IsRequest words (Show asked)) where
   -- the script has ended with this fault, after which the stream of messages had some bytes
-  pub ReportsFaultLast-script : (fault : ProgramFault) (status : ℕ) (IsUnread : Type 0) (between : Option (List ℕ)) (s : ScreenStreams)
-      → EndsScript asked (record s { transcript = receipt s.transcript.held between }) fault → (fault ≡ NoPlace → IsUnread)
-      → status ≡ status_of fault → GetsFront between s.transcript.holds (message_of fault) → ReportsFaultLast words status IsUnread s
-  ReportsFaultLast-script fault status IsUnread between s ends unread is message = grind (arith, sym)
+  pub ReportsFault-script : (between : Option (List ℕ)) (s : Streams) (asked : Words) → IsRequest words (Show asked)
+      → EndsShow (transcript_in asked) fault (record s { holds = between }) → GetsFront between s.holds (message_of fault) → ReportsFault words status s
+  ReportsFault-script between s asked (_, _, are) ends message = record {
+    fault = fault;
+    status_is = sym is;
+    between = between;
+    message = message;
+    told = λ others (_, _, same). subst (λ t. EndsShow t fault (record s { holds = between })) (are.transcript ∙ sym same.transcript) ends;
+  }
+
+-- a text that was asked for went out, or did not
+pub text_reports_its_fault : (words : List Text) (status : ℕ) (unread held holds : Option (List ℕ))
+    → (status ≡ 0) ⊎ ((fault : ProgramFault) × (status ≡ status_of fault) × GetsFront held holds (message_of fault))
+    → (status ≡ 3) ⊎ ((status ≡ 4) ⊎ (status ≡ 5)) → ReportsFault words status (streams unread unread held holds)
+text_reports_its_fault words status unread held holds (inl done) bad =
+    absurd (⊎_elim (λ three. omega (arith, done, three)) (⊎_elim (λ four. omega (arith, done, four)) (λ five. omega (arith, done, five))) bad)
+text_reports_its_fault words status unread held holds (inr (fault, is, message)) bad = ReportsFault-nothing words fault status is unread held holds message

@@ -1,68 +1,78 @@
--- What the program has written where it ends well.
-use Rattle.std.specs.Prelude.{◌≡◌, ◌≢◌, ◌⊎◌, Bool, true, false, ℕ, List, [], Option, None, Some, String, IsSome, option_map, string_bytes}
-use Rattle.std.specs.Global.{Global}
+-- What the program has written where it ends, well or with a fault.
+use Rattle.std.specs.Prelude.{◌≡◌, Bool, true, false, ℕ, List, Option, None, Some, IsSome, option_map, string_bytes}
 use Rattle.std.specs.Io.KnownBytes.{Appends}
 use Rattle.clap.specs.Words.{Text}
-use Rattle.mf_base.specs.Messages.{Receipt}
-use Rattle.mf_easel.specs.Easels.{Manner, manner}
-use Rattle.mf_frame.specs.Canvases.{size_in}
+use Rattle.mf_base.specs.Messages.{GetsFront, Receipt}
+use Rattle.mf_desk.specs.Streams.{Passes, Streams, streams}
+use Rattle.mf_desk.specs.declared.outcome.Outcome.{Outcome}
+use Rattle.mf_desk.specs.declared.settings.Settings.{Settings}
+use Rattle.mf_frame.specs.Canvases.{IsLargeEnough, size_in}
 use Rattle.mf_frame.specs.declared.tile.Style.{Style}
 use Rattle.mf_frame.specs.declared.tile.Style.TheVariants.{Colored, Plain}
-use Rattle.mf_gf.specs.declared.file.GfFile.{GfFile}
-use Rattle.mf_gf.specs.Files.{Character, IsLongFile}
-use Rattle.mf_gf.specs.Keeping.{Keeps, max_bytes_of}
-use Rattle.mf_stage.specs.declared.plate.Plates.{Plates}
+use Rattle.mf_session.specs.States.{limits_of, most_bytes, most_operations}
+use Rattle.mf_view.specs.Easels.{manner}
 use Rattle.mf_view.specs.Fonts.{font_words}
-use Rattle.mf_view.specs.Performances.{Shows, ScreenStreams}
+use Rattle.mf_view.specs.Messages.{message_of, status_of}
+use Rattle.mf_view.specs.Performances.{Shows, TellsOfShow}
+use Rattle.mf_view.specs.declared.fault.ProgramFault.{ProgramFault}
 use Rattle.mf_view_words.specs.Requests.{IsRequest}
 use Rattle.mf_view_words.specs.Texts.{help_text, version_text}
 use Rattle.mf_view_words.specs.declared.words.Request.{Request}
 use Rattle.mf_view_words.specs.declared.words.Request.TheVariants.{Help, Show, Version}
 use Rattle.mf_view_words.specs.declared.words.Words.{Words}
 
+-- the limits of a script, and the numbers of a font (here as well as in the code, so that a wrong constant there is not proved)
+abbrev pub settings_with : ℕ → ℕ → Settings
+settings_with design_size resolution =
+    record { max_ops = most_operations; max_bytes = most_bytes; font = font_words design_size resolution }
+
 -- the style of frames, which may follow one another
 abbrev pub style_in : Bool → Style
 style_in true = Plain
 style_in false = Colored
 
--- where plates go, if a folder is given for them, and whether each has a PGM image, too
-abbrev pub plates_in : Option (String Global) → Bool → Option Plates
-plates_in folder pgm = option_map (λ path. record { folder = path; pgm = pgm }) folder
+-- where the words ask for the transcript
+abbrev pub transcript_in : Words → Option (List ℕ)
+transcript_in words = option_map string_bytes words.transcript
 
--- a script was performed and shown: where no path is given, with its transcript in the stream of messages; with a path that stream is as
--- it was, and nothing is said of where the transcript went, since no contract knows what a file holds
-abbrev pub IsShownInto : Option (List ℕ) → Option Plates → Manner → ScreenStreams → GfFile → Type 0
-IsShownInto None plates m s file = Shows plates m s file
-IsShownInto (Some path) plates m s file =
-    (s.transcript.holds ≡ s.transcript.held) × (filed : Receipt) × Shows plates m (record s { transcript = filed }) file
+-- this is true of a run with its transcript in the stream of messages where no path is given; with a path that stream is as it was, and
+-- nothing is said of where the transcript went, since no contract knows what a file holds
+abbrev pub WithTranscript : Option (List ℕ) → Streams → (Streams → Type 0) → Type 0
+WithTranscript None s IsSuch = IsSuch s
+WithTranscript (Some path) s IsSuch = (s.holds ≡ s.held) × (held holds : Option (List ℕ)) × IsSuch (streams s.unread s.left held holds)
 
--- how the words ask for frames to be drawn
-abbrev pub manner_for : Words → Manner
-manner_for words = manner (style_in words.frames) (size_in words.columns words.rows)
-
--- a script was performed and shown as the words ask for it, and this is its font file
-abbrev pub IsShownFor : Words → ScreenStreams → GfFile → Type 0
-IsShownFor words = IsShownInto (option_map string_bytes words.transcript) (plates_in words.plates words.pgm) (manner_for words)
-
--- the script was performed and shown as the words ask for it; its font file is not too long, and where the words ask for it, it has a
--- character
-pub record IsWatched (words : Words) (s : ScreenStreams) : Type 0 where
-  pub file : GfFile
-  pub shown : IsShownFor words s file
-  pub some : (characters : List Character) → Keeps file [] characters → IsSome words.gf → characters ≢ []
-  pub fits : (characters : List Character) → Keeps file [] characters
-      → IsLongFile (max_bytes_of file) (font_words words.design_size words.resolution) [] characters → ⊥
-
--- these words ask for the help text or for the version, and not for a script
-abbrev pub AsksForText : List Text → Type 0
-AsksForText words = IsRequest words Help ⊎ IsRequest words Version
+-- the script was performed and shown as the words ask for it, and there is a font file where they ask for it
+pub record IsWatched (words : Words) (screen : Receipt) (s : Streams) : Type 0 where
+  pub outcome : Outcome
+  pub shown : WithTranscript (transcript_in words) s
+      (Shows (settings_with words.design_size words.resolution) (manner (style_in words.frames) (size_in words.columns words.rows)) screen outcome)
+  pub some : IsSome words.gf → IsSome outcome.gf
 
 -- what was asked for is written: the help text, the version, or what a performance writes
-abbrev pub EndsAs : Request → ScreenStreams → Type 0
-EndsAs Help s = (s.transcript.holds ≡ s.transcript.held) × Appends s.screen.held s.screen.holds help_text
-EndsAs Version s = (s.transcript.holds ≡ s.transcript.held) × Appends s.screen.held s.screen.holds version_text
-EndsAs (Show words) s = IsWatched words s
+abbrev pub EndsAs : Request → Receipt → Streams → Type 0
+EndsAs Help screen s = (s.holds ≡ s.held) × Appends screen.held screen.holds help_text
+EndsAs Version screen s = (s.holds ≡ s.held) × Appends screen.held screen.holds version_text
+EndsAs (Show words) screen s = IsWatched words screen s
 
 -- these are the words of a request, and what it asks for is written
-abbrev pub Fulfils : List Text → ScreenStreams → Type 0
-Fulfils words s = (request : Request) × IsRequest words request × EndsAs request s
+abbrev pub Fulfils : List Text → Receipt → Streams → Type 0
+Fulfils words screen s = (request : Request) × IsRequest words request × EndsAs request screen s
+
+-- with this fault a script ended whose transcript is asked for here
+abbrev pub EndsShow : Option (List ℕ) → ProgramFault → Streams → Type 0
+EndsShow transcript fault s = WithTranscript transcript s (λ s. Passes s (TellsOfShow (limits_of most_operations most_bytes) fault))
+
+-- with these words the program ended with some fault, which has this status; the stream of messages has got its message last, and what was
+-- read and written before it is what the fault says, where the words ask for a script
+pub record ReportsFault (words : List Text) (status : ℕ) (s : Streams) : Type 0 where
+  pub fault : ProgramFault
+  pub status_is : status_of fault ≡ status
+  pub between : Option (List ℕ)
+  pub message : GetsFront between s.holds (message_of fault)
+  pub told : (asked : Words) → IsRequest words (Show asked) → EndsShow (transcript_in asked) fault (record s { holds = between })
+
+-- these words ask for a script to be drawn in too few columns or rows
+pub record LacksRoom (words : List Text) : Type 0 where
+  pub asked : Words
+  pub request : IsRequest words (Show asked)
+  pub small : IsLargeEnough asked.columns asked.rows → ⊥

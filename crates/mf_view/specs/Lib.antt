@@ -1,10 +1,7 @@
-pub mod Broken
-pub mod Causes
 pub mod Drawings
+pub mod Easels
 pub mod Endings
-pub mod Faults
 pub mod Fonts
 pub mod Messages
 pub mod Performances
-pub mod Sides
-pub mod Statuses
+pub mod Plates

@@ -1,46 +1,39 @@
 -- What a performance has written.
-use Rattle.std.specs.Prelude.{◌≡◌, ℕ, List, [], Option}
-use Rattle.std.specs.Io.KnownBytes.{Appends}
-use Rattle.std.specs.Str.Lines.{lines}
+use Rattle.std.specs.Prelude.{ℕ, List, ◌++◌}
+use Rattle.std.specs.Io.KnownBytes.{IsAtEnd}
 use Rattle.mf_base.specs.Messages.{Receipt}
-use Rattle.mf_easel.specs.Easels.{Manner}
-use Rattle.mf_gf.specs.declared.file.GfFile.{GfFile}
-use Rattle.mf_gf.specs.Keeping.{Keeps, max_bytes_of}
+use Rattle.mf_desk.specs.Faults.{IsTextSoFar}
+use Rattle.mf_desk.specs.Performances.{IsPerformance, task}
+use Rattle.mf_desk.specs.Streams.{HasRead, Passage, Streams}
+use Rattle.mf_desk.specs.declared.fault.RunFault.TheVariants.{WriteFault}
+use Rattle.mf_desk.specs.declared.observer.Stopped.{Stopped}
+use Rattle.mf_desk.specs.declared.observer.Stopped.TheVariants as stopped
+use Rattle.mf_desk.specs.declared.outcome.Outcome.{Outcome}
+use Rattle.mf_desk.specs.declared.settings.Settings.{Settings}
 use Rattle.mf_session.specs.Endings.{complete_list}
-use Rattle.mf_session.specs.States.{Limits, limits_of, most_bytes, most_operations, start}
-use Rattle.mf_session.specs.Transcript.{IsTranscript}
-use Rattle.mf_stage.specs.Publications.{HasNoLargeImage, PublishNoLargeImages}
-use Rattle.mf_stage.specs.Scripts.{HoldsOfInput}
-use Rattle.mf_stage.specs.declared.plate.Plates.{Plates}
+use Rattle.mf_session.specs.States.{Limits}
 use Rattle.mf_view.specs.Drawings.{ShowsLast}
+use Rattle.mf_view.specs.Easels.{Manner}
+use Rattle.mf_view.specs.declared.fault.ProgramFault.{ProgramFault}
+use Rattle.mf_view.specs.declared.fault.ProgramFault.TheVariants.{Run}
 
--- the limits of a script (here as well as in the code, so that a wrong constant there is not proved)
-abbrev pub script_limits : Limits
-script_limits = limits_of most_operations most_bytes
-
--- what a reader had, where this is known, and what a screen and a transcript have received
-pub record ScreenStreams : Type 0 where
-  pub unread : Option (List ℕ)
-  pub screen : Receipt
-  pub transcript : Receipt
-
--- the streams with these three, in this order
-abbrev pub screen_streams : Option (List ℕ) → Receipt → Receipt → ScreenStreams
-screen_streams unread screen transcript = record { unread = unread; screen = screen; transcript = transcript }
-
--- the script of these bytes was performed: the transcript is written, the screen has got frames of the picture, the last of them
--- that of the last picture, and the font file keeps the characters that were shipped, and may have as many bytes as the limits of a
--- script say; where plates are asked for, no picture that was published is too large for an image, nor is the last one
-pub record IsShown (plates : Option Plates) (manner : Manner) (s : ScreenStreams) (file : GfFile) (input : List ℕ) : Type 0 where
-  pub text : List ℕ
-  pub script : IsTranscript script_limits input text
-  pub out : Appends s.transcript.held s.transcript.holds text
-  pub shown : ShowsLast manner (complete_list script.last.pictures) s.screen
-  pub images : PublishNoLargeImages script_limits plates start (lines input)
-  pub last_image : HasNoLargeImage plates script.last.pictures.accepted
-  pub file_is : Keeps file [] script.last.characters
-  pub max_bytes_is : max_bytes_of file ≡ script_limits.max_bytes
+-- the script of these bytes was performed to its end, and the screen has got frames of its picture, the last of them that of the last one
+pub record IsShown (settings : Settings) (manner : Manner) (screen : Receipt) (outcome : Outcome) (s : Streams) (read : List ℕ) : Type 0 where
+  pub all_read : IsAtEnd s.left
+  pub performed : IsPerformance (task settings 0 0) outcome s read
+  pub shown : ShowsLast manner (complete_list performed.complete.script.last.pictures) screen
 
 -- a script was performed and shown, that of the reader
-abbrev pub Shows : Option Plates → Manner → ScreenStreams → GfFile → Type 0
-Shows plates manner s file = HoldsOfInput s.unread (IsShown plates manner s file)
+abbrev pub Shows : Settings → Manner → Receipt → Outcome → Streams → Type 0
+Shows settings manner screen outcome s = HasRead s (IsShown settings manner screen outcome s)
+
+-- the fault of a performance that is stopped while it reads its script
+abbrev pub fault_of_stop : Stopped ProgramFault → ProgramFault
+fault_of_stop (stopped.Run fault) = Run fault
+fault_of_stop (stopped.Observer fault) = fault
+
+-- what a fault says of the transcript: it has got what the first of the completely read lines print, which may be cut after a `WriteFault`,
+-- as that may be a fault of the transcript
+abbrev pub TellsOfShow : Limits → ProgramFault → Passage → Type 0
+TellsOfShow limits (Run (WriteFault count)) p = (rest : List ℕ) × IsTextSoFar limits p.left p.read (p.written ++ rest)
+TellsOfShow limits _ p = IsTextSoFar limits p.left p.read p.written

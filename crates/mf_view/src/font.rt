@@ -1,12 +1,10 @@
-//! The font file: its numbers, its bytes, and how it is written.
-ghost use Rattle.std.specs.Prelude.{◌≡◌, ◌⊎◌, ◌≤◌, ◌↔◌, [], Err, IfErr, IfOk, IfSome, List, None, pos};
-ghost use Rattle.mf_gf.specs.Files.{Character, IsLongFile, file_if_any};
-ghost use Rattle.mf_gf.specs.Keeping.{Keeps, max_bytes_of};
+//! The font file: its numbers, and how it is written.
+ghost use Rattle.std.specs.Prelude.{◌≡◌, ◌≤◌, pos};
 ghost use Rattle.mf_view.specs.Fonts.{font_words, pixels_per_point};
 ghost use Rattle.mf_view_words.specs.Ranges.{greatest_design_size, greatest_resolution};
 
-use crate::fault::ProgramFault;
-use mf_gf::{FontWords, GfBytes, GfFault, GfFile};
+use mf_desk::RunFault;
+use mf_gf::{FontWords, GfBytes};
 use std::rt::Files;
 
 /// Units of the design size in a point (gftype.web).
@@ -37,32 +35,11 @@ fn pixels_per_point(resolution: u32) -> i32
     ((resolution as u64 * 13_107_200 + 7_227) / 14_454) as i32
 }
 
-/// The font file of the shipped characters, if there are any. Refused with `FileTooLong` where it would have more bytes than it
-/// may have, and with `OutOfMemory` where an allocation fails.
-pub fn finish(file: GfFile, font: FontWords) -> Result<Option<GfBytes>, ProgramFault>
-    ensures some { IfOk result (λ gf. (characters : List Character) → Keeps file [] characters → gf ≡ file_if_any font [] characters) }
-    ensures too_long { (characters : List Character) → Keeps file [] characters
-        → IsLongFile (max_bytes_of file) font [] characters ↔ (result ≡ Err ProgramFault.FileTooLong) }
-    ensures fault { IfErr result (λ fault. (fault ≡ ProgramFault.FileTooLong) ⊎ (fault ≡ ProgramFault.OutOfMemory)) }
-{
-    match file.finish_if_any(font) {
-        Ok(bytes) => Ok(bytes),
-        Err(GfFault::FileTooLong) => Err(ProgramFault::FileTooLong),
-        Err(_) => Err(ProgramFault::OutOfMemory),
-    }
-}
-
-/// Writes a font file, and replaces what was there. Refused with `NoCharacters` where there is none, and with `WriteFault` where
-/// it cannot be created, or not be written to its end, or not be stored.
-pub fn write_font<S: Files>(rt: &S, path: &str, file: Option<GfBytes>) -> Result<(), ProgramFault>
-    ensures none { file ≡ None ↔ (result ≡ Err ProgramFault.NoCharacters) }
-    ensures fault { IfSome file (λ _. IfErr result (λ fault. fault ≡ ProgramFault.WriteFault)) }
-{
-    let Some(file) = file else {
-        return Err(ProgramFault::NoCharacters);
-    };
+/// Writes a font file, and replaces what was there. Refused with `WriteFault` where it cannot be created, or not be written to its
+/// end, or not be stored.
+pub fn write_font<S: Files>(rt: &S, path: &str, file: &GfBytes) -> Result<(), RunFault> {
     match file.write_file(rt, path) {
         Ok(()) => Ok(()),
-        Err(_) => Err(ProgramFault::WriteFault),
+        Err(fault) => Err(RunFault::WriteFault(fault.0)),
     }
 }

@@ -2,15 +2,18 @@
 //! line, its statuses and its messages.
 #![tactic(auto)]
 
-mod drawing;
+mod easel;
 mod fault;
 mod font;
 pub mod laws;
+mod observer;
 mod pace;
 mod performance;
+mod plate;
 pub mod program;
 
 pub use fault::ProgramFault;
 pub use font::font_words;
-pub use pace::Rest;
+pub use pace::Pace;
 pub use performance::{Showing, perform};
+pub use plate::Plates;

@@ -1,17 +1,20 @@
 //! The pace of a performance: how long it waits after a publish, and between two looks.
-use mf_stage::Pace;
 use std::thread::sleep;
 use std::time::{Clock, Duration};
 
 /// Milliseconds between two looks, so that there are some thirty looks a second.
 const REST: u64 = 33;
 
-/// Learns, on the viewer's side, of each frame but the one drawn after the end, and waits between two looks.
-pub trait Rest {
-    /// Takes note that the frame of this revision was drawn.
+/// Learns of the publishes and the frames of a performance, and waits.
+pub trait Pace {
+    /// Takes note, on the writer's side, that this revision was published, after its plate was written. It may wait: the next line
+    /// is read after it.
+    fn note_publish(&self, revision: u32);
+
+    /// Takes note, on the viewer's side, that the frame of this revision was drawn. The one drawn after the end is not noted.
     fn note_frame(&self, revision: u32);
 
-    /// Waits before the next look.
+    /// Waits, on the viewer's side, before the next look.
     fn rest(&self);
 }
 
@@ -27,9 +30,7 @@ impl<C: Clock> Pace for Timed<'_, C> {
     fn note_publish(&self, _revision: u32) {
         sleep(self.clock, Duration::from_millis(self.pause as u64));
     }
-}
 
-impl<C: Clock> Rest for Timed<'_, C> {
     fn note_frame(&self, _revision: u32) {}
 
     fn rest(&self) {

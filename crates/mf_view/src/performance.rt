@@ -1,32 +1,28 @@
 //! The performance of a script beside the viewer that draws its picture.
-ghost use Rattle.std.specs.Prelude.{◌≡◌, ◌≢◌, Err, IfErr, IfOk, IsErr, IsErrAnd, IsSome, None, OnErr, OnOk};
+ghost use Rattle.std.specs.Prelude.{◌≡◌, ◌<◌, ◌≤◌, [], ℕ, IfErr, IfOk, IsOk, List, OnOk, Option, length};
+ghost use Rattle.std.specs.Io.KnownBytes.{IsAtEnd};
 ghost use denote.Param.Send.{IsSync, IsSend};
-ghost use Rattle.mf_base.specs.Messages.{receipt_of};
-ghost use Rattle.mf_easel.specs.Easels as easels;
-ghost use Rattle.mf_easel.specs.Screens.{screen_of};
+ghost use Rattle.mf_base.specs.Messages.{receipt, receipt_of};
+ghost use Rattle.mf_desk.specs.EndedRuns.{EndsWith};
+ghost use Rattle.mf_desk.specs.Faults.{Stops};
+ghost use Rattle.mf_desk.specs.Performances.{run_limits};
+ghost use Rattle.mf_desk.specs.Performer.{longest_read};
+ghost use Rattle.mf_desk.specs.Progress.{IsAfter, ReadsThrough};
+ghost use Rattle.mf_desk.specs.Streams.{Passes, Streams, streams};
 ghost use Rattle.mf_live.specs.Writers.{ended_identity, ended_published_list};
-ghost use Rattle.mf_session.specs.Endings.{IsFileOf, complete_list};
-ghost use Rattle.mf_session.specs.States.{State, start};
-ghost use Rattle.mf_stage.specs.Stages as stages;
-ghost use Rattle.mf_stage.specs.Stages.{StandsFor, limits};
-ghost use Rattle.mf_stage.specs.Publications.{HasNoLargeImage};
-ghost use Rattle.mf_stage.specs.Scripts.{act_of};
-ghost use Rattle.mf_view.specs.Broken.{IsBrokenOff, IsOfEnd};
-ghost use Rattle.mf_view.specs.Causes.{fault_of_stage};
-ghost use Rattle.mf_view.specs.Faults.{ConcernsPlate, IsToldAfter};
-ghost use Rattle.mf_view.specs.Drawings.{EndsDrawing, HasDrawnPart, LeavesPart};
-ghost use Rattle.mf_view.specs.Performances.{Shows, screen_streams, script_limits};
-ghost use Rattle.mf_view.specs.Sides.{DrawsBeside, PerformsBeside, easel_act};
+ghost use Rattle.mf_session.specs.Sessions as sessions;
+ghost use Rattle.mf_session.specs.States.{Limits};
+ghost use Rattle.mf_view.specs.Drawings.{DrawsMore, HasDrawn, ShowsLast};
+ghost use Rattle.mf_view.specs.Easels.{HasSameManner, identity, manner, manner_of};
+ghost use Rattle.mf_view.specs.Performances.{Shows, TellsOfShow};
 
-use crate::drawing::{draw, draw_last, draw_on};
+use crate::easel::Easel;
 use crate::fault::ProgramFault;
-use crate::pace::Rest;
-use mf_easel::{Easel, EaselFault};
+use crate::observer::{PlateWriter, write_plate};
+use crate::pace::Pace;
+use crate::plate::Plates;
+use mf_desk::{CHUNK_SIZE, EndedRun, Outcome, Progress, RunFault, Settings, Stopped};
 use mf_frame::{Canvas, Style};
-use mf_gf::GfFile;
-use mf_live::Ended;
-use mf_session::{MAX_BYTES, MAX_OPS};
-use mf_stage::{Pace, Plates, Stage, StageFault};
 use std::alloc::Global;
 use std::io::{Read, Write};
 use std::rt::Files;
@@ -47,8 +43,8 @@ pub struct Showing {
 
 /// What the two sides of a performance have come to.
 struct Sides {
-    drawn: Result<(), EaselFault>,
-    performed: Result<(), StageFault>,
+    drawn: Result<(), RunFault>,
+    performed: Result<(), Stopped<ProgramFault>>,
 }
 
 /// Performs the script that `reader` gives, line by line, while a viewer draws its picture on `screen` in a thread of its own.
@@ -56,17 +52,16 @@ struct Sides {
 /// script is read, and the last picture after it has ended, unless that is the one drawn last. Answers with the font file of the
 /// shipped characters. A fault of the screen ends the drawing, and not the script.
 ///
-/// Refused with the fault of the script or of its end, else of the drawing, else of the last look; with `NoPlace` where there is
-/// no place for the viewer. After each fault the thread is joined, and what was written stays; of the frames, only the last may be
-/// cut. No clause says that the blank picture is drawn first, that the script goes on after a fault of the screen, or which fault
-/// comes before another: tests do.
-#[tactic(auto, using(crate::proofs::Drawn::nothing_is_a_part))]
+/// Refused with the fault of the script or of its end, else of the drawing, else of the last look, else of the font file; with
+/// `NoPlace` where there is no place for the viewer. After each fault the thread is joined, and what was written stays. No clause
+/// says that plates are written, that the script goes on after a fault of the screen, or which fault comes before another: tests do.
+#[tactic(auto, using(std::proofs::lemmas::Result::err_from_is_err_and))]
 pub fn perform<
     S: Wait + Threads + Files + Sync,
     R: Read,
     W: Write + Send,
     T: Write,
-    P: Pace + Rest + Sync,
+    P: Pace + Sync,
 >(
     rt: &S,
     alloc: Global,
@@ -75,102 +70,89 @@ pub fn perform<
     transcript: &mut T,
     pace: &P,
     showing: Showing,
-) -> Result<GfFile, ProgramFault>
-    ensures shown { IfOk result (Shows showing.plates (easels.manner showing.style showing.canvas)
-        (screen_streams (R.remaining reader.old) (receipt_of W.contents screen.old screen.new) (receipt_of T.contents transcript.old transcript.new))) }
-    ensures fault { IfErr result (IsBrokenOff (R.remaining reader.old) (receipt_of T.contents transcript.old transcript.new)) }
-    ensures part { OnErr result (HasDrawnPart (easels.manner showing.style showing.canvas) (receipt_of W.contents screen.old screen.new)) }
-    ensures plates { IfErr result (λ fault. ConcernsPlate fault → IsSome showing.plates) }
-    ensures no_place { result ≡ Err ProgramFault.NoPlace
-        → (reader.new ≡ reader.old) × (screen.new ≡ screen.old) × (transcript.new ≡ transcript.old) }
+    settings: &Settings,
+) -> Result<Outcome, ProgramFault>
+    ensures shown { IfOk result (λ outcome.
+        Shows settings.now (manner showing.style showing.canvas) (receipt_of W.contents screen.old screen.new) outcome
+        (streams (R.remaining reader.old) (R.remaining reader.new) (T.contents transcript.old) (T.contents transcript.new))) }
+    ensures fault { IfErr result (λ fault.
+        Passes (streams (R.remaining reader.old) (R.remaining reader.new) (T.contents transcript.old) (T.contents transcript.new))
+        (TellsOfShow (run_limits settings.now) fault)) }
 {
+    // Memory for reads comes first: where it fails, nothing was read or written.
+    let mut memory = vec![in alloc; 0u8; CHUNK_SIZE]?;
+    let (progress, mut desk) = Progress::new(rt, alloc, settings, 1)?;
     let Showing {
         canvas,
         style,
         plates,
     } = showing;
-    let (stage, mut desk) = Stage::new(rt, alloc, MAX_OPS, MAX_BYTES, plates)?;
     match desk.viewer() {
         Ok(viewer) => {
             let easel = Easel::new(viewer, canvas, style);
-            show(rt, alloc, stage, easel, reader, screen, transcript, pace)
+            let chunk = memory.as_mut_slice();
+            show(
+                rt, alloc, progress, easel, plates, reader, screen, transcript, pace, chunk,
+                settings,
+            )
         }
         Err(_) => {
-            stage.discard(rt);
-            Err(ProgramFault::NoPlace)
+            progress.discard(rt);
+            Err(RunFault::NoPlace.into())
         }
     }
 }
 
-/// Performs the script on a stage on which nothing was performed, while an easel that has drawn nothing draws its picture. The blank
-/// picture is drawn before the thread starts, so that the first frame is the same in every order of the threads.
-fn show<
-    S: Wait + Threads + Files + Sync,
-    R: Read,
-    W: Write + Send,
-    T: Write,
-    P: Pace + Rest + Sync,
->(
+/// Performs the script while an easel that has drawn nothing draws its picture. The blank picture is drawn before the thread starts, so
+/// that the first frame is the same in every order of the threads. `chunk` is the buffer for reads.
+fn show<S: Wait + Threads + Files + Sync, R: Read, W: Write + Send, T: Write, P: Pace + Sync>(
     rt: &S,
     alloc: Global,
-    stage: Stage,
+    progress: Progress,
     easel: Easel,
+    plates: Option<Plates>,
     reader: &mut R,
     screen: &mut W,
     transcript: &mut T,
     pace: &P,
-) -> Result<GfFile, ProgramFault>
-    requires identity { easels.identity easel ≡ stages.identity stage }
-    requires start { StandsFor stage start }
-    requires limits { limits stage ≡ script_limits }
-    requires blank { easels.revision_of easel ≡ None }
-    ensures shown { IfOk result (Shows (stages.plates_of stage) (easels.manner_of easel)
-        (screen_streams (R.remaining reader.old) (receipt_of W.contents screen.old screen.new) (receipt_of T.contents transcript.old transcript.new))) }
-    ensures fault { IfErr result (IsBrokenOff (R.remaining reader.old) (receipt_of T.contents transcript.old transcript.new)) }
-    ensures part { OnErr result (HasDrawnPart (easels.manner_of easel) (receipt_of W.contents screen.old screen.new)) }
-    ensures plates { IfErr result (λ fault. ConcernsPlate fault → IsSome (stages.plates_of stage)) }
-    ensures placed { result ≢ Err ProgramFault.NoPlace }
+    chunk: &mut [u8],
+    settings: &Settings,
+) -> Result<Outcome, ProgramFault>
+    requires identity { identity easel ≡ sessions.identity progress.performer.session }
+    requires limits { sessions.limits progress.performer.session ≡ run_limits settings.now }
+    requires start { (held : Option (List ℕ)) → IsAfter held [] progress held }
+    requires unwritten { progress.performer.written ≡ 0 }
+    requires some { 0 < length chunk.old }
+    requires few { length chunk.old ≤ longest_read }
+    requires blank { (held : Option (List ℕ)) → HasDrawn easel (receipt held held) }
+    ensures shown { IfOk result (λ outcome.
+        Shows settings.now (manner_of easel) (receipt_of W.contents screen.old screen.new) outcome
+        (streams (R.remaining reader.old) (R.remaining reader.new) (T.contents transcript.old) (T.contents transcript.new))) }
+    ensures fault { IfErr result (λ fault.
+        Passes (streams (R.remaining reader.old) (R.remaining reader.new) (T.contents transcript.old) (T.contents transcript.new))
+        (TellsOfShow (run_limits settings.now) fault)) }
 {
-    let mut stage = stage;
+    let mut progress = progress;
     let mut easel = easel;
-    let first = draw(alloc, &mut easel, screen, pace);
+    let first = easel.look(alloc, screen, pace);
     let Sides { drawn, performed } = perform_beside(
-        rt, alloc, &mut stage, &mut easel, first, reader, screen, transcript, pace,
+        rt,
+        alloc,
+        &mut progress,
+        &mut easel,
+        &plates,
+        first,
+        reader,
+        screen,
+        transcript,
+        pace,
+        chunk,
     );
-    let drawn = first.and(drawn);
-    conclude(rt, alloc, stage, easel, screen, performed, drawn)
-}
-
-/// Ends a performance whose two sides have come to this. A fault of the script comes before one of the drawing.
-#[tactic(auto, using(crate::proofs::Shown::drawing_has_a_part))]
-fn conclude<S: Wait + Files, W: Write>(
-    rt: &S,
-    alloc: Global,
-    stage: Stage,
-    easel: Easel,
-    screen: &mut W,
-    performed: Result<(), StageFault>,
-    drawn: Result<(), EaselFault>,
-) -> Result<GfFile, ProgramFault>
-    requires identity { easels.identity easel ≡ stages.identity stage }
-    requires stands { OnOk performed ((s : State) × StandsFor stage s) }
-    ensures script { IfErr performed (λ fault. result ≡ Err (fault_of_stage fault)) }
-    ensures late { OnOk performed (IfErr result (λ fault. (s : State) → StandsFor stage s → IsOfEnd s.pictures.accepted fault)) }
-    ensures plates { OnOk performed (IfErr result (λ fault. ConcernsPlate fault → IsSome (stages.plates_of stage))) }
-    ensures drawing { IfErr drawn (λ _. IsErr result) }
-    ensures told { OnOk performed (IfErr drawn (λ cause. IsErrAnd result (IsToldAfter cause))) }
-    ensures file { IfOk result (λ file. (s : State) → StandsFor stage s → IsFileOf (stages.session_of stage) s file) }
-    ensures image { OnOk result ((s : State) → StandsFor stage s → HasNoLargeImage (stages.plates_of stage) s.pictures.accepted) }
-    ensures shown { OnOk result ((s : State) → StandsFor stage s
-        → EndsDrawing drawn easel (complete_list s.pictures) (receipt_of W.contents screen.old screen.new)) }
-    ensures part { OnErr result (LeavesPart drawn easel (receipt_of W.contents screen.old screen.new)) }
-    ensures placed { result ≢ Err ProgramFault.NoPlace }
-{
     match performed {
-        Ok(()) => end(rt, alloc, stage, easel, screen, drawn),
-        Err(fault) => {
-            stage.discard(rt);
-            Err(fault.into())
+        Ok(()) => end(rt, alloc, progress, easel, &plates, screen, drawn, settings),
+        Err(stopped) => {
+            progress.discard(rt);
+            Err(stopped.into())
         }
     }
 }
@@ -182,39 +164,68 @@ fn perform_beside<
     R: Read,
     W: Write + Send,
     T: Write,
-    P: Pace + Rest + Sync,
+    P: Pace + Sync,
 >(
     rt: &S,
     alloc: Global,
-    stage: &mut Stage,
+    progress: &mut Progress,
     easel: &mut Easel,
-    first: Result<(), EaselFault>,
+    plates: &Option<Plates>,
+    first: Result<(), RunFault>,
     reader: &mut R,
     screen: &mut W,
     transcript: &mut T,
     pace: &P,
+    chunk: &mut [u8],
 ) -> Sides
-    ensures drawing { DrawsBeside first (easel_act easel.old easel.new (screen_of W.contents screen.old screen.new)) result.drawn }
-    ensures script { PerformsBeside (act_of stage.old stage.new (T.contents transcript.old) (T.contents transcript.new))
-        (R.remaining reader.old) result.performed }
+    requires start { (held : Option (List ℕ)) → IsAfter held [] progress.old held }
+    requires unwritten { progress.old.performer.written ≡ 0 }
+    requires some { 0 < length chunk.old }
+    requires few { length chunk.old ≤ longest_read }
+    ensures viewer { identity easel.new ≡ identity easel.old }
+    ensures manner { HasSameManner easel.old easel.new }
+    ensures drawn { OnOk result.drawn (IsOk first × DrawsMore easel.old easel.new (receipt_of W.contents screen.old screen.new)) }
+    ensures identity { sessions.identity progress.new.performer.session ≡ sessions.identity progress.old.performer.session }
+    ensures limits { sessions.limits progress.new.performer.session ≡ sessions.limits progress.old.performer.session }
+    ensures end { OnOk result.performed (IsAtEnd (R.remaining reader.new)) }
+    ensures through { OnOk result.performed (ReadsThrough (streams (R.remaining reader.old) (R.remaining reader.new)
+        (T.contents transcript.old) (T.contents transcript.new)) progress.new.performer) }
+    ensures stopped { IfErr result.performed (λ stop. Passes (streams (R.remaining reader.old) (R.remaining reader.new)
+        (T.contents transcript.old) (T.contents transcript.new)) (Stops (sessions.limits progress.old.performer.session) stop)) }
 {
+    let mut observer = PlateWriter {
+        rt,
+        alloc,
+        plates,
+        pace,
+    };
     let ended = AtomicBool::new(false);
     let (drawn, performed) = join_mut(
         rt,
-        &mut || -> Result<(), EaselFault>
+        &mut || -> Result<(), RunFault>
             requires { IsSync S.row × IsSync P.row × IsSend W.row }
-            ensures { DrawsBeside first (easel_act easel.entry.now easel.exit.now (screen_of W.contents screen.entry.now screen.exit.now)) result }
+            ensures viewer { identity easel.exit.now ≡ identity easel.entry.now }
+            ensures manner { HasSameManner easel.entry.now easel.exit.now }
+            ensures drawn { OnOk result (IsOk first
+                × DrawsMore easel.entry.now easel.exit.now (receipt_of W.contents screen.entry.now screen.exit.now)) }
         {
-            match first {
-                Ok(()) => draw_on(rt, alloc, easel, screen, pace, &ended),
-                Err(cut) => Err(cut),
-            }
+            first?;
+            easel.draw_on(rt, alloc, screen, pace, &ended)
         },
-        &mut || -> Result<(), StageFault>
-            ensures { PerformsBeside (act_of stage.entry.now stage.exit.now (T.contents transcript.entry.now) (T.contents transcript.exit.now))
-                (R.remaining reader.entry.now) result }
+        &mut || -> Result<(), Stopped<ProgramFault>>
+            requires start { (held : Option (List ℕ)) → IsAfter held [] progress.now held }
+            requires unwritten { progress.now.performer.written ≡ 0 }
+            requires some { 0 < length chunk.now }
+            requires few { length chunk.now ≤ longest_read }
+            ensures identity { sessions.identity progress.exit.now.performer.session ≡ sessions.identity progress.entry.now.performer.session }
+            ensures limits { sessions.limits progress.exit.now.performer.session ≡ sessions.limits progress.entry.now.performer.session }
+            ensures end { OnOk result (IsAtEnd (R.remaining reader.exit.now)) }
+            ensures through { OnOk result (ReadsThrough (streams (R.remaining reader.entry.now) (R.remaining reader.exit.now)
+                (T.contents transcript.entry.now) (T.contents transcript.exit.now)) progress.exit.now.performer) }
+            ensures stopped { IfErr result (λ stop. Passes (streams (R.remaining reader.entry.now) (R.remaining reader.exit.now)
+                (T.contents transcript.entry.now) (T.contents transcript.exit.now)) (Stops (sessions.limits progress.entry.now.performer.session) stop)) }
         {
-            let performed = stage.perform(rt, alloc, &mut *reader, transcript, pace);
+            let performed = progress.read_all(rt, alloc, reader, transcript, chunk, &mut observer);
             ended.store(true, Ordering::SeqCst);
             performed
         },
@@ -222,52 +233,55 @@ fn perform_beside<
     Sides { drawn, performed }
 }
 
-/// Ends a script that was performed, draws its last picture, and hands out its font file.
+/// Ends a script that was read to its end: writes the plate of the last picture, again if it was written before, closes the picture,
+/// draws it, and makes the font file.
 fn end<S: Wait + Files, W: Write>(
     rt: &S,
     alloc: Global,
-    stage: Stage,
+    progress: Progress,
     easel: Easel,
+    plates: &Option<Plates>,
     screen: &mut W,
-    drawn: Result<(), EaselFault>,
-) -> Result<GfFile, ProgramFault>
-    requires identity { easels.identity easel ≡ stages.identity stage }
-    requires stands { (s : State) × StandsFor stage s }
-    ensures told { IfErr drawn (λ cause. IsErrAnd result (IsToldAfter cause)) }
-    ensures late { IfErr result (λ fault. (s : State) → StandsFor stage s → IsOfEnd s.pictures.accepted fault) }
-    ensures plates { IfErr result (λ fault. ConcernsPlate fault → IsSome (stages.plates_of stage)) }
-    ensures file { IfOk result (λ file. (s : State) → StandsFor stage s → IsFileOf (stages.session_of stage) s file) }
-    ensures image { OnOk result ((s : State) → StandsFor stage s → HasNoLargeImage (stages.plates_of stage) s.pictures.accepted) }
-    ensures shown { OnOk result ((s : State) → StandsFor stage s
-        → EndsDrawing drawn easel (complete_list s.pictures) (receipt_of W.contents screen.old screen.new)) }
-    ensures part { OnErr result (LeavesPart drawn easel (receipt_of W.contents screen.old screen.new)) }
-    ensures placed { result ≢ Err ProgramFault.NoPlace }
+    drawn: Result<(), RunFault>,
+    settings: &Settings,
+) -> Result<Outcome, ProgramFault>
+    requires identity { identity easel ≡ sessions.identity progress.performer.session }
+    requires limits { sessions.limits progress.performer.session ≡ run_limits settings.now }
+    requires through { (s : Streams) × ReadsThrough s progress.performer }
+    ensures shown { IfOk result (λ outcome. (first : Option (List ℕ)) (s : Streams) → IsAtEnd s.left → ReadsThrough s progress.performer
+        → OnOk drawn (HasDrawn easel (receipt first (W.contents screen.old)))
+        → Shows settings.now (manner_of easel) (receipt first (W.contents screen.new)) outcome s) }
+    ensures fault { IfErr result (λ fault. (s : Streams) → IsAtEnd s.left → ReadsThrough s progress.performer
+        → Passes s (TellsOfShow (run_limits settings.now) fault)) }
 {
-    let (mut ended, file) = stage.finish(rt, alloc)?;
-    let shown = show_last(alloc, easel, screen, &mut ended, drawn);
-    ended.discard(rt);
-    match shown {
-        Ok(()) => Ok(file),
-        Err(fault) => Err(fault.into()),
+    if let Err(fault) = write_plate(rt, alloc, plates, progress.session()) {
+        progress.discard(rt);
+        return Err(fault);
+    }
+    let mut run = progress.finish(rt)?;
+    match show_last(alloc, easel, screen, &mut run, drawn) {
+        Ok(()) => Ok(run.conclude(rt, settings, Vec::new(alloc))?),
+        Err(fault) => {
+            run.discard(rt);
+            Err(fault.into())
+        }
     }
 }
 
-/// Draws the last picture of a script that has ended, unless the drawing had failed before.
+/// Draws the last picture of a run that has ended, unless the drawing had failed before.
 fn show_last<W: Write>(
     alloc: Global,
     easel: Easel,
     screen: &mut W,
-    ended: &mut Ended,
-    drawn: Result<(), EaselFault>,
-) -> Result<(), EaselFault>
-    requires identity { easels.identity easel ≡ ended_identity ended.old }
-    ensures drawing { IfErr drawn (λ fault. result ≡ Err fault) }
-    ensures shown { OnOk result (EndsDrawing drawn easel (ended_published_list ended.old) (receipt_of W.contents screen.old screen.new)) }
-    ensures part { OnErr result (LeavesPart drawn easel (receipt_of W.contents screen.old screen.new)) }
+    run: &mut EndedRun,
+    drawn: Result<(), RunFault>,
+) -> Result<(), RunFault>
+    requires identity { identity easel ≡ ended_identity run.old.ended }
+    ensures over { (limits : Limits) (s : Streams) → EndsWith limits 0 s run.old → EndsWith limits 0 s run.new }
+    ensures shown { OnOk result ((first : Option (List ℕ)) → OnOk drawn (HasDrawn easel (receipt first (W.contents screen.old)))
+        → ShowsLast (manner_of easel) (ended_published_list run.new.ended) (receipt first (W.contents screen.new))) }
 {
+    drawn?;
     let mut easel = easel;
-    match drawn {
-        Ok(()) => draw_last(alloc, &mut easel, screen, ended.notice()),
-        Err(fault) => Err(fault),
-    }
+    easel.look_last(alloc, screen, run.notice())
 }

@@ -1,4 +1,4 @@
-//! Tests of `mf_view`, and through it of `mf_easel` and `mf_stage`.
+//! Tests of `mf_view`, whose parts are reached through its calls.
 #![tactic(auto)]
 
 #[cfg(test)]

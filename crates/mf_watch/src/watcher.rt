@@ -9,7 +9,6 @@ ghost use Rattle.mf_watch.specs.Watchers.{HasRoomFor, HasSeen, IsRecord, IsWatch
 use crate::gate::Gate;
 use crate::glance::Glance;
 use mf_base::OutOfMemory;
-use mf_live::laws::last_sheet;
 use mf_live::{NoLook, Notice, SheetFault, Viewer};
 use std::alloc::Global;
 
@@ -85,7 +84,7 @@ impl Watcher {
         ensures looked { OnOk result (HasLookedAt (viewers.told_list notice) (viewer_of self.new)) }
         ensures missed { IfErr result (IsLastNotTaken (viewer_of self.old) (viewers.told_list notice) (viewer_of self.new)) }
     {
-        let sheet = last_sheet(&mut self.viewer, alloc, notice)?;
+        let sheet = self.viewer.last_sheet(alloc, notice)?;
         let glance = Glance::of(sheet.revision(), sheet.picture());
         let Ok(()) = self.seen.push(glance) else {
             unreachable!()

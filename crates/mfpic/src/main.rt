@@ -1,10 +1,9 @@
 //! The program `mfpic`: reads a script of picture commands, and writes its transcript and the font file of what it ships.
 #![tactic(auto)]
 
-use mf_cli::{ProgramFault, program, report};
+use mf_cli::{ProgramFault, USAGE, program, report};
 use mf_desk::RunFault;
 use mf_options::{refuse_words, words_of};
-use mf_words::USAGE;
 use std::io::{self, BufWriter, ErrorKind};
 use std::process::ExitCode;
 use std::rt::Stdout;

@@ -1,8 +1,8 @@
 //! The program `mfview`: performs a script of picture commands, and draws the picture while the script changes it.
 #![tactic(auto)]
 
+use mf_desk::RunFault;
 use mf_options::{refuse_words, words_of};
-use mf_view::ProgramFault;
 use mf_view::program::{program, report};
 use mf_view_words::USAGE;
 use std::io::ErrorKind;
@@ -21,7 +21,7 @@ fn main(rt: HostRuntime) -> ExitCode {
         ),
         Err(fault) if fault.kind() == ErrorKind::OutOfMemory => report(
             &mut errors,
-            ProgramFault::OutOfMemory,
+            RunFault::OutOfMemory.into(),
         ),
         Err(_) => refuse_words(&mut errors, USAGE),
     };

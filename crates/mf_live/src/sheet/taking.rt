@@ -1,8 +1,8 @@
 //! Taking sheets.
-ghost use Rattle.std.specs.Prelude.{◌≡◌, MatchResult};
-ghost use Rattle.mf_live.specs.Entries.{picture_at, revision_at};
-ghost use Rattle.mf_live.specs.Sheets.{IsTaken, IsNotTaken, sheet_identity, sheet_list};
-ghost use Rattle.mf_live.specs.Viewers.{identity, notice_identity, told_list};
+ghost use Rattle.std.specs.Prelude.{◌≡◌, true, IfErr, IfOk, MatchResult, OnOk};
+ghost use Rattle.mf_live.specs.Entries.{is_closed, picture_at, revision_at};
+ghost use Rattle.mf_live.specs.Sheets.{HasLookedAt, IsLastNotTaken, IsTaken, IsNotTaken, sheet_identity, sheet_list};
+ghost use Rattle.mf_live.specs.Viewers.{Extends, identity, notice_identity, told_list};
 
 use super::{Sheet, SheetFault};
 use crate::notice::Notice;
@@ -61,5 +61,21 @@ impl Viewer {
         ensures taken { MatchResult result (λ sheet. IsTaken self.old self.new sheet) (λ fault. IsNotTaken self.old self.new fault) }
     {
         replace_with(self, alloc, |viewer, alloc| take_sheet(viewer, alloc))
+    }
+
+    /// Learns of the end, and takes the sheet of the last picture. Everything that the viewer had seen is a whole prefix of the
+    /// complete list. After `NoLook` the viewer has not looked, but has learnt of the end. After `OutOfMemory` it has looked at the
+    /// complete list. Requires a notice of the viewer's own picture, with the end mark.
+    pub fn last_sheet(&mut self, alloc: Global, notice: Notice) -> Result<Sheet, SheetFault>
+        requires identity { notice_identity notice ≡ identity self.old }
+        requires closed { is_closed (told_list notice) ≡ true }
+        ensures identity { identity self.new ≡ identity self.old }
+        ensures sheet { IfOk result (λ sheet. (sheet_identity sheet ≡ identity self.old) × (sheet_list sheet ≡ told_list notice)) }
+        ensures extends { OnOk result (Extends self.old (told_list notice)) }
+        ensures looked { OnOk result (HasLookedAt (told_list notice) self.new) }
+        ensures not_taken { IfErr result (IsLastNotTaken self.old (told_list notice) self.new) }
+    {
+        self.learn(notice);
+        self.sheet(alloc)
     }
 }

@@ -6,7 +6,10 @@ ghost use Rattle.mf_desk.specs.Streams.{streams};
 
 use super::fonts::NO_WORDS;
 use crate::tests::assertions::assert_same;
-use mf_desk::{Gate, Glance, OpenGate, Outcome, RunFault, Settings, perform, run};
+use mf_desk::{
+    CHUNK_SIZE, Effect, EndedRun, Gate, Glance, Observer, OpenGate, Outcome, PerformedLine,
+    Progress, RunFault, Session, Settings, Stopped, perform, run,
+};
 use mf_gf::GfBytes;
 use std::alloc::Global;
 use std::io::{Read, Write};
@@ -138,5 +141,92 @@ fn performs_a_script_beside_a_viewer(rt: HostRuntime) {
         record_at(&rt, rt.alloc(), Passage),
         Some(last),
         "another gate",
+    );
+}
+
+/// Notes a digit for what each line has done, and ends the run after the line with this number.
+#[derive(Drop)]
+struct Notes {
+    digits: u64,
+    last: u64,
+}
+
+impl Observer for Notes {
+    type Fault = u64;
+
+    fn note_line(&mut self, line: PerformedLine, session: &Session) -> Result<(), u64> {
+        let PerformedLine { number, effect } = line;
+        let digit = match effect {
+            Effect::Published => 1,
+            Effect::Shipped => 2,
+            Effect::Refused => 3,
+            Effect::Other => 4,
+        };
+        let revision: u32 = session.revision();
+        self.digits = self
+            .digits
+            .wrapping_mul(10)
+            .wrapping_add(digit)
+            .wrapping_add(u64::from(revision));
+        if number == self.last {
+            Err(number)
+        } else {
+            Ok(())
+        }
+    }
+}
+
+/// Lines that publish, ship, are refused, do nothing, and print.
+const OBSERVED: &[u8] = b"publish\nshipout a code 0 dx 0 width 0\nshow\n\nshow totalweight a";
+
+/// What an observer has noted that ends the run after a line, with which number it has, if it has, and the transcript.
+fn observe<S: Abort + Wait>(rt: &S, alloc: Global, last: u64) -> (u64, Option<u64>, Vec<u8>) {
+    let (mut reader, mut writer): (&[u8], Vec<u8>) = (OBSERVED, Vec::new(alloc));
+    let mut notes = Notes { digits: 0, last };
+    let mut chunk = vec![in alloc; 0u8; CHUNK_SIZE].expect(rt, "there is room for a read");
+    let (mut progress, _) = Progress::new(rt, alloc, &SETTINGS, 0).expect(
+        rt,
+        "there is room for a run",
+    );
+    let stopped: Result<(), Stopped<u64>> = progress.read_all(
+        rt,
+        alloc,
+        &mut reader,
+        &mut writer,
+        chunk.as_mut_slice(),
+        &mut notes,
+    );
+    match stopped {
+        Ok(()) => {
+            let ended: EndedRun = progress.finish(rt).expect(rt, "there is room for the end");
+            let outcome = ended.conclude(rt, &SETTINGS, Vec::new(alloc));
+            assert_same(rt, outcome.is_ok(), true, "the outcome");
+            (notes.digits, None, writer)
+        }
+        Err(Stopped::Observer(number)) => {
+            progress.discard(rt);
+            (notes.digits, Some(number), writer)
+        }
+        Err(Stopped::Run(fault)) => {
+            progress.discard(rt);
+            panic!(rt; "{:?}", parts_of(fault))
+        }
+    }
+}
+
+/// The third line is refused, the fourth is empty.
+#[test]
+fn an_observer_is_told_of_each_line(rt: HostRuntime) {
+    let alloc = rt.alloc();
+    let (digits, number, whole) = observe(&rt, alloc, 0);
+    assert_same(&rt, (digits, number), (12_344, None), "all lines");
+    let (digits, number, front) = observe(&rt, alloc, 3);
+    assert_same(&rt, (digits, number), (123, Some(3)), "the first three");
+    let rest = whole.strip_prefix(front.as_slice());
+    assert_same(
+        &rt,
+        rest,
+        Some(b"totalweight 0\n".as_slice()),
+        "the last text",
     );
 }

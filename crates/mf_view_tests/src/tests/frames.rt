@@ -1,6 +1,6 @@
 //! The frames of a script whose publishes are held until they are drawn: each published revision, rising, and the last one.
 use super::assertions::assert_same;
-use super::paces::Held;
+use super::paces::{Held, SETTINGS};
 use mf_frame::{Canvas, Style};
 use mf_view::{Showing, perform};
 use std::alloc::Global;
@@ -78,6 +78,7 @@ fn assert_draws<S: Abort + Wait + Threads + Files + Sync>(
         &mut transcript,
         &Held::new(),
         showing,
+        &SETTINGS,
     );
     assert_same(rt, performed.is_ok(), true, "performed");
     assert_same(rt, screen.as_slice(), drawn.as_bytes(), "drawn");

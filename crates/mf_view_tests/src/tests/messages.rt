@@ -1,5 +1,6 @@
 //! Messages: the text and the status of each fault, which of two faults is told, and a stream of messages that fails.
 use super::assertions::assert_same;
+use mf_desk::RunFault;
 use mf_options::{BAD_WORDS, STREAM_FAULT, WANTING, refuse_words};
 use mf_testing::{FailsOnce, Pieces, Sink, words_of};
 use mf_view::ProgramFault;
@@ -14,23 +15,23 @@ use std::time::Clock;
 
 const USAGE: &[u8] = b"usage: mfview [OPTION..] < SCRIPT (mfview --help lists the options)\n";
 
-/// Each fault with its message and its status.
-const FAULTS: [(ProgramFault, &str, u8); 10] = [
-    (ProgramFault::OutOfMemory, "mfview: OutOfMemory\n", WANTING),
-    (ProgramFault::NoPlace, "mfview: NoPlace\n", WANTING),
-    (ProgramFault::NoLook, "mfview: NoLook\n", WANTING),
-    (ProgramFault::TooSmall, "mfview: TooSmall\n", TOO_SMALL),
+/// Each fault of a run, and with it its message and its status.
+const RUN_FAULTS: [(RunFault, &str, u8); 6] = [
+    (RunFault::OutOfMemory, "mfview: OutOfMemory\n", WANTING),
+    (RunFault::NoPlace, "mfview: NoPlace\n", WANTING),
+    (RunFault::NoLook, "mfview: NoLook\n", WANTING),
+    (RunFault::FileTooLong, "mfview: FileTooLong\n", STREAM_FAULT),
+    (RunFault::ReadFault, "mfview: ReadFault\n", STREAM_FAULT),
     (
-        ProgramFault::FileTooLong,
-        "mfview: FileTooLong\n",
-        STREAM_FAULT,
-    ),
-    (ProgramFault::ReadFault, "mfview: ReadFault\n", STREAM_FAULT),
-    (
-        ProgramFault::WriteFault,
+        RunFault::WriteFault(7),
         "mfview: WriteFault\n",
         STREAM_FAULT,
     ),
+];
+
+/// The same of the other faults.
+const FAULTS: [(ProgramFault, &str, u8); 4] = [
+    (ProgramFault::TooSmall, "mfview: TooSmall\n", TOO_SMALL),
     (
         ProgramFault::ImageTooLarge(70),
         "mfview: ImageTooLarge 70\n",
@@ -50,6 +51,9 @@ const FAULTS: [(ProgramFault, &str, u8); 10] = [
 
 #[test]
 fn faults_are_reported(rt: HostRuntime) {
+    for (fault, message, status) in RUN_FAULTS {
+        assert_reported(&rt, rt.alloc(), fault.into(), message, status);
+    }
     for (fault, message, status) in FAULTS {
         assert_reported(&rt, rt.alloc(), fault, message, status);
     }
@@ -84,6 +88,9 @@ fn assert_breaks_off(
 
 #[test]
 fn messages_break_off(rt: HostRuntime) {
+    for (fault, message, status) in RUN_FAULTS {
+        assert_breaks_off(&rt, rt.alloc(), fault.into(), message, status);
+    }
     for (fault, message, status) in FAULTS {
         assert_breaks_off(&rt, rt.alloc(), fault, message, status);
     }

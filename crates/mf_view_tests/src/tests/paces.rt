@@ -1,15 +1,28 @@
 //! A pace that holds each publish until its frame was drawn, so that what is drawn does not depend on the threads, and what a pace is
 //! told of publishes and frames.
 use super::assertions::assert_same;
+use mf_desk::Settings;
 use mf_frame::{Canvas, Style};
-use mf_stage::{Pace, Plates};
-use mf_view::{ProgramFault, Rest, Showing, perform};
+use mf_gf::FontWords;
+use mf_view::{Pace, Plates, ProgramFault, Showing, perform};
 use std::alloc::Global;
 use std::process::Abort;
 use std::rt::Files;
 use std::sync::Wait;
 use std::sync::atomic::{AtomicU64, Ordering};
 use std::thread::Threads;
+
+/// The settings of scripts: the limits of the programs, and a font without numbers.
+pub(crate) const SETTINGS: Settings = Settings {
+    max_ops: 1_000_000,
+    max_bytes: 16_777_216,
+    font: FontWords {
+        ds: 0,
+        cs: 0,
+        hppp: 0,
+        vppp: 0,
+    },
+};
 
 /// How often a publish looks whether its frame was drawn before it goes on.
 const TURNS: u64 = 2_000_000_000;
@@ -51,9 +64,7 @@ impl Pace for Held {
             }
         }
     }
-}
 
-impl Rest for Held {
     fn note_frame(&self, revision: u32) {
         note(&self.frames, revision);
         self.drawn.store(u64::from(revision), Ordering::SeqCst);
@@ -92,6 +103,7 @@ fn fault_of<S: Abort + Wait + Threads + Files + Sync>(
         &mut transcript,
         pace,
         showing,
+        &SETTINGS,
     )
     .err()
 }

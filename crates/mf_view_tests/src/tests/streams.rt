@@ -1,6 +1,7 @@
 //! Streams that fail: the name of the fault, and what was written by then. A read or a write that is interrupted is tried again.
 use super::assertions::assert_same;
-use super::paces::Held;
+use super::paces::{Held, SETTINGS};
+use mf_desk::RunFault;
 use mf_frame::{Canvas, Style};
 use mf_testing::{FailsOnce, Failure, FlushFails, Pieces, Sink};
 use mf_view::{ProgramFault, Showing, perform};
@@ -41,6 +42,7 @@ fn fault_of<S: Abort + Wait + Threads + Files + Sync, R: Read + Drop, W: Write +
         transcript,
         &Held::new(),
         showing,
+        &SETTINGS,
     )
     .err()
 }
@@ -59,25 +61,19 @@ fn assert_ends<S: Abort + Wait + Threads + Files + Sync, R: Read + Drop>(
     assert_same(rt, transcript.as_slice(), TOLD, "told");
 }
 
+/// The fault of a run that a writer breaks off after it took so many bytes.
+fn write_fault(count: u128) -> Option<ProgramFault> {
+    Some(ProgramFault::Run(RunFault::WriteFault(count)))
+}
+
 /// The screen has room for all frames, or fails in the first one: a fault of the drawing does not come before one of the script.
 #[test]
 fn reading_fails(rt: HostRuntime) {
+    let fault = ProgramFault::Run(RunFault::ReadFault);
     for room in [1000, 10] {
         let reader = Pieces::failing(SCRIPT);
-        assert_ends(&rt, rt.alloc(), reader, room, Some(ProgramFault::ReadFault));
+        assert_ends(&rt, rt.alloc(), reader, room, Some(fault));
     }
-}
-
-#[test]
-fn reading_lacks_memory(rt: HostRuntime) {
-    let reader = Pieces::failing_once_with(SCRIPT, ErrorKind::OutOfMemory);
-    assert_ends(
-        &rt,
-        rt.alloc(),
-        reader,
-        1000,
-        Some(ProgramFault::OutOfMemory),
-    );
 }
 
 /// The first read is interrupted, or one within a line, or the one that would report the end.
@@ -91,30 +87,28 @@ fn an_interrupted_read_is_tried_again(rt: HostRuntime) {
     }
 }
 
-/// The screen fails in the first frame, or in the last.
+/// The screen fails in the first frame, or in the last, which comes after 41 bytes.
 #[test]
 fn the_screen_fails(rt: HostRuntime) {
-    for room in [10, 50] {
+    for (room, count) in [(10, 10), (50, 9)] {
         let reader = Pieces::whole(SCRIPT);
-        assert_ends(
-            &rt,
-            rt.alloc(),
-            reader,
-            room,
-            Some(ProgramFault::WriteFault),
-        );
+        assert_ends(&rt, rt.alloc(), reader, room, write_fault(count));
     }
 }
 
-/// Asserts that the script ends with `WriteFault` on this screen and with this transcript.
-fn assert_write_fault<S: Abort + Wait + Threads + Files + Sync, W: Write + Send, T: Write>(
+/// Asserts that the script, which comes in two reads, the first of two lines, breaks off with this screen and this transcript, one of
+/// which has taken so many bytes.
+fn assert_breaks_off<S: Abort + Wait + Threads + Files + Sync, W: Write + Send, T: Write>(
     rt: &S,
     alloc: Global,
     screen: &mut W,
     transcript: &mut T,
+    count: u128,
 ) {
-    let found = fault_of(rt, alloc, Pieces::whole(SCRIPT), screen, transcript);
-    assert_same(rt, found, Some(ProgramFault::WriteFault), "fault");
+    let (first, rest) = SCRIPT.split_at(27);
+    let reader = Pieces::whole(first).chain(Pieces::whole(rest));
+    let found = fault_of(rt, alloc, reader, screen, transcript);
+    assert_same(rt, found, write_fault(count), "fault");
 }
 
 /// This writer is interrupted after so many bytes.
@@ -144,18 +138,18 @@ fn an_interrupted_write_is_tried_again(rt: HostRuntime) {
 fn no_frame_comes_after_one_that_was_cut(rt: HostRuntime) {
     let alloc = rt.alloc();
     let (mut screen, mut transcript) = (FailsOnce::new(alloc, 10), Vec::new(alloc));
-    assert_write_fault(&rt, alloc, &mut screen, &mut transcript);
+    assert_breaks_off(&rt, alloc, &mut screen, &mut transcript, 10);
     assert_same(&rt, screen.calls_after(), 0, "calls after the fault");
     assert_same(&rt, transcript.as_slice(), TOLD, "told");
 }
 
-/// A flush fails after the first frame, or after the last.
+/// A flush fails after the first frame, of 41 bytes, or after the last, of 66.
 #[test]
 fn no_frame_comes_after_a_flush_that_failed(rt: HostRuntime) {
     let alloc = rt.alloc();
-    for good in [0, 1] {
+    for (good, count) in [(0, 41), (1, 66)] {
         let (mut screen, mut transcript) = (FlushFails::once(alloc, good), Vec::new(alloc));
-        assert_write_fault(&rt, alloc, &mut screen, &mut transcript);
+        assert_breaks_off(&rt, alloc, &mut screen, &mut transcript, count);
         assert_same(&rt, screen.calls_after(), 0, good);
         assert_same(&rt, transcript.as_slice(), TOLD, good);
     }
@@ -166,27 +160,19 @@ fn no_frame_comes_after_a_flush_that_failed(rt: HostRuntime) {
 fn no_line_comes_after_one_whose_text_was_cut(rt: HostRuntime) {
     let alloc = rt.alloc();
     let (mut screen, mut transcript) = (Sink::new(alloc), FailsOnce::new(alloc, 20));
-    assert_write_fault(&rt, alloc, &mut screen, &mut transcript);
+    assert_breaks_off(&rt, alloc, &mut screen, &mut transcript, 20);
     let told: &[u8] = b"totalweight 0\npublis";
-    assert_same(
-        &rt,
-        (transcript.bytes(), transcript.calls_after()),
-        (told, 0),
-        "told",
-    );
+    let found = (transcript.bytes(), transcript.calls_after());
+    assert_same(&rt, found, (told, 0), "told");
 }
 
-/// A flush fails after the text of the second line.
+/// The flush before the second read fails.
 #[test]
 fn no_line_comes_after_a_flush_that_failed(rt: HostRuntime) {
     let alloc = rt.alloc();
     let (mut screen, mut transcript) = (Sink::new(alloc), FlushFails::once(alloc, 1));
-    assert_write_fault(&rt, alloc, &mut screen, &mut transcript);
+    assert_breaks_off(&rt, alloc, &mut screen, &mut transcript, 26);
     let told: &[u8] = b"totalweight 0\npublished 0\n";
-    assert_same(
-        &rt,
-        (transcript.bytes(), transcript.calls_after()),
-        (told, 0),
-        "told",
-    );
+    let found = (transcript.bytes(), transcript.calls_after());
+    assert_same(&rt, found, (told, 0), "told");
 }

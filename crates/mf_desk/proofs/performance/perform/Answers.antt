@@ -1,10 +1,10 @@
 use Rattle.std.proofs.Common.{◌≡◌, ⊎_elim, sym, ap, subst, ◌∙◌, arith}
-use Rattle.std.proofs.lemmas.Result.{IfErr-at_err, IfErr-weaker, IfOk-weaker}
+use Rattle.std.proofs.lemmas.Result.{IfErr-at_err, IfOk-weaker}
 use Rattle.mf_desk.specs.declared.fault.RunFault.TheVariants as faults
 use Rattle.mf_desk.specs.ViewerFaults.{run_fault_of_start}
-use Rattle.mf_watch.specs.Watching.{AreStarted, viewer_count}
+use Rattle.mf_watch.specs.Watching.{AreStarted}
 use Rattle.mf_base.proofs.Faults.{IfErr-raised}
-use Rattle.mf_desk.proofs.Performances.{TellsOfRun-begun, TellsOfRun-first, TellsOfRun-nothing, TellsOfRun-unstarted}
+use Rattle.mf_desk.proofs.Performances.{TellsOfRun-nothing, TellsOfRun-unstarted, TellsOfRun-unwatched}
 use Rattle.mf_desk.proofs.performance.perform.Goals as goal
 
 pub returns-in_err-memory-clause-fault : goal.returns-in_err-memory-clause-fault
@@ -19,7 +19,7 @@ returns-in-Err-clause-fault g c =
     let settings = c.args.settings.now in
     ⊎_elim (λ none.
     let is : c.into.result ≡ faults.NoPlace = c.into.ensures ∙ ap run_fault_of_start none in
-    rw is (TellsOfRun-first settings c.args.viewers _ _ faults.NoPlace c.in-Err.ensures.some))
+    rw is (TellsOfRun-unwatched settings c.args.viewers _ _ c.in-Err.ensures.some))
     (λ wanting.
     let is : c.into.result ≡ faults.OutOfMemory = c.into.ensures ∙ ap run_fault_of_start wanting in
     rw is (TellsOfRun-nothing settings c.args.viewers _ _)) c.in-Err.ensures.fault
@@ -40,10 +40,7 @@ returns-clause-performance g c =
     (IfOk-weaker c.perform_beside_viewers.result _ _ (λ outcome performance. performance c.args.looks started) c.perform_beside_viewers.ensures.performance)
 
 pub returns-clause-fault : goal.returns-clause-fault
-returns-clause-fault g c =
-    rw (sym c.in-Ok.ensures.count)
-    (IfErr-weaker c.perform_beside_viewers.result _ _ (λ fault. TellsOfRun-begun c.args.settings.now (viewer_count c.in-Ok.watching) fault _)
-    c.perform_beside_viewers.ensures.fault)
+returns-clause-fault g c = rw (sym c.in-Ok.ensures.count) c.perform_beside_viewers.ensures.fault
 
 pub returns-clause-no_place : goal.returns-clause-no_place
 returns-clause-no_place g c = grind (arith, IfErr-at_err)

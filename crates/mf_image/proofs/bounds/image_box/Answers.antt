@@ -1,6 +1,6 @@
 use Rattle.std.proofs.Common.{refl, subst, arith}
 use Rattle.std.proofs.lemmas.Bool.{false≢true}
-use Rattle.mf_show.specs.Grid.{IsLargerThan}
+use Rattle.mf_rows.specs.Boxes.{IsLargerThan}
 use Rattle.mf_rows.proofs.BoxesOfDots.{least_box_of_field}
 use Rattle.mf_image.specs.Boxes.{greatest_image_side}
 use Rattle.mf_image.proofs.ImageBoxes.{box_of_picture}

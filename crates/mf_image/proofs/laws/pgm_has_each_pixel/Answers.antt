@@ -1,6 +1,7 @@
 use Rattle.std.proofs.Common.{◌+◌, ◌*◌, [], length, ap, ◌∙◌, arith, length-append}
 use lib.Seq.{get_or-append-add}
-use Rattle.mf_show.specs.Grid.{extent, shown_at}
+use Rattle.mf_show.specs.Grid.{shown_at}
+use Rattle.mf_rows.specs.Boxes.{extent}
 use Rattle.mf_show.proofs.ShownPixels.{box_length, pixel_at}
 use Rattle.mf_image.specs.Boxes.{image_box}
 use Rattle.mf_image.specs.Pgm.{box_bytes, gray_value, pgm_bytes, pgm_head}

@@ -2,7 +2,7 @@ use Rattle.std.proofs.Common.{◌≡◌, pos, to_z, of_z, w32, arith}
 use Rattle.std.proofs.lemmas.Int.{ints}
 use Rattle.std.proofs.lemmas.List.{append_assoc}
 use Rattle.std.proofs.lemmas.Result.{IfOk-equal}
-use Rattle.mf_show.specs.Grid.{extent}
+use Rattle.mf_rows.specs.Boxes.{extent}
 use Rattle.mf_image.proofs.pgm_image.push_head.Goals as goal
 
 pub returns : goal.returns

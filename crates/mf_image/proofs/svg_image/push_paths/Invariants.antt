@@ -1,6 +1,6 @@
 use Rattle.std.proofs.Common.{◌≡◌, ◌≤ℤ◌, ◌+ℤ◌, ◌++◌, pos}
 use Rattle.mf_rows.specs.Runs.{runs_of}
-use Rattle.mf_show.specs.Grid.{extent}
+use Rattle.mf_rows.specs.Boxes.{extent}
 use Rattle.mf_image.specs.Svg.{paths_from}
 use Rattle.mf_image.proofs.svg_image.push_paths.Given as goal
 

@@ -1,7 +1,8 @@
 use Rattle.std.proofs.Common.{◌≡◌, ◌≤ℤ◌, pos, ◌-ℤ◌, to_z, of_z, w32, sym, ◌∙◌, arith}
 use Rattle.std.proofs.lemmas.Int.{ints}
 use Rattle.mf_rows.proofs.BoxesOfDots.{least_box_of_field}
-use Rattle.mf_show.specs.Grid.{extent, grid_character}
+use Rattle.mf_show.specs.Grid.{grid_character}
+use Rattle.mf_rows.specs.Boxes.{extent}
 use Rattle.mf_show.proofs.GridTexts.{grid_of_box}
 use Rattle.mf_show.proofs.PassedPixels.{ahead_below, all_ahead, row_ahead}
 use Rattle.mf_show.proofs.ShownRows.{box_all, box_more, box_none}

@@ -1,17 +1,16 @@
-use Rattle.std.proofs.Common.{arith, inr, refl}
+use Rattle.std.proofs.Common.{arith}
 use Rattle.mf_base.proofs.Faults.{IfErr-raised}
-use Rattle.mf_view.proofs.Broken.{IsBrokenOff-nothing}
-use Rattle.mf_view.proofs.Drawn.{nothing_is_a_part}
+use Rattle.mf_view.proofs.Shown.{nothing_is_told}
 use Rattle.mf_view.proofs.performance.perform.Goals as goal
 
-pub returns-in_err-stage-clause-fault : goal.returns-in_err-stage-clause-fault
-returns-in_err-stage-clause-fault g c = grind (arith, IfErr-raised, IsBrokenOff-nothing)
+pub returns-in_err-memory-clause-fault : goal.returns-in_err-memory-clause-fault
+returns-in_err-memory-clause-fault g c = grind (arith, IfErr-raised, nothing_is_told)
 
-pub returns-in_err-stage-clause-plates : goal.returns-in_err-stage-clause-plates
-returns-in_err-stage-clause-plates g c = grind (arith, IfErr-raised)
+pub returns-in_err-progress-clause-fault : goal.returns-in_err-progress-clause-fault
+returns-in_err-progress-clause-fault g c = grind (arith, IfErr-raised, nothing_is_told)
+
+pub returns-in-Ok-clause-shown : goal.returns-in-Ok-clause-shown
+returns-in-Ok-clause-shown g c = rw c.new-easel.ensures.manner at c.show.ensures.shown
 
 pub returns-clause-fault : goal.returns-clause-fault
-returns-clause-fault g c = IsBrokenOff-nothing _ _ _ (λ input. inr (inr (refl, refl)))
-
-pub returns-in_err-stage-clause-part : goal.returns-in_err-stage-clause-part
-returns-in_err-stage-clause-part g c = grind (arith, IfErr-raised, nothing_is_a_part)
+returns-clause-fault g c = nothing_is_told _ _ _ _

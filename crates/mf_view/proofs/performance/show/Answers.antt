@@ -1,43 +1,33 @@
-use Rattle.std.proofs.Common.{◌∙◌, arith}
-use Rattle.mf_base.specs.Messages.{receipt_of}
-use Rattle.mf_view.proofs.Broken.{plates-asked, IsBrokenOff-whole}
-use Rattle.mf_view.proofs.Drawn.{HasDrawn-nothing}
-use Rattle.mf_view.proofs.Shown.{HasDrawnAs-both, ShowsLast-end, Shows-whole, StandsFor-after}
-use Rattle.mf_view.specs.Drawings.{HasDrawnAs}
-use Rattle.mf_view.proofs.performance.show.Goals.{After-and-drawn}
+use Rattle.std.proofs.Common.{◌∙◌}
+use Rattle.std.proofs.lemmas.Result.{IfErr-weaker, IfOk-weaker}
+use Rattle.mf_desk.specs.Streams.{streams}
+use Rattle.mf_view.specs.Easels.{manner_of}
+use Rattle.mf_view.proofs.Shown.{drawn_beside, in_manner, stop_is_told}
 use Rattle.mf_view.proofs.performance.show.Goals as goal
 
-pub conclude-requires-clause-stands : goal.conclude-requires-clause-stands
-conclude-requires-clause-stands g c =
-    StandsFor-after c.args.stage c.perform_beside-drawn.new.stage _ _ _ c.perform_beside-drawn.result.performed c.requires.start
-    c.perform_beside-drawn.ensures.script.transcript
+pub end-requires-clause-through : goal.end-requires-clause-through
+end-requires-clause-through g c = (_, rw c.in-Ok.is at c.perform_beside-drawn.ensures.through)
 
--- how far the drawing has come when the performance is concluded
-drawn : (g : _) (c : After-and-drawn g) → HasDrawnAs c.and-drawn.result c.perform_beside-drawn.new.easel
-    (receipt_of g.W.Write.contents c.args.screen.now c.perform_beside-drawn.new.screen)
-drawn g c = grind (arith, HasDrawnAs-both, HasDrawn-nothing)
+pub returns-in-Ok-clause-shown : goal.returns-in-Ok-clause-shown
+returns-in-Ok-clause-shown g c =
+    let at_end = rw c.in-Ok.is at c.perform_beside-drawn.ensures.end in
+    let through = rw c.in-Ok.is at c.perform_beside-drawn.ensures.through in
+    let drawn = drawn_beside c.look-first.result c.perform_beside-drawn.result.drawn _ _ c.perform_beside-drawn.new.easel _ _ _
+    c.requires.blank c.look-first.ensures.drawn c.perform_beside-drawn.ensures.drawn in
+    let s = streams (g.R.Read.remaining c.args.reader.now) (g.R.Read.remaining c.perform_beside-drawn.new.reader)
+    (g.T.Write.contents c.args.transcript.now) (g.T.Write.contents c.perform_beside-drawn.new.transcript) in
+    IfOk-weaker c.end.result _ _ (λ outcome shows.
+    in_manner c.args.settings.now _ (manner_of c.args.easel) _ outcome s (c.perform_beside-drawn.ensures.manner ∙ c.look-first.ensures.manner)
+    (shows (g.W.Write.contents c.args.screen.now) s at_end through drawn))
+    c.end.ensures.shown
 
-pub returns-clause-shown : goal.returns-clause-shown
-returns-clause-shown g c =
-    Shows-whole _ _ c.args.stage c.perform_beside-drawn.new.stage c.requires.limits c.requires.start
-    c.perform_beside-drawn.ensures.script.limits c.perform_beside-drawn.ensures.script.plates c.perform_beside-drawn.result.performed
-    c.conclude.result
-    c.perform_beside-drawn.ensures.script.transcript
-    c.conclude.ensures.script
-    c.conclude.ensures.file
-    c.conclude.ensures.image
-    (ShowsLast-end c.args.easel c.perform_beside-drawn.new.easel c.perform_beside-drawn.new.stage _ _ _ c.and-drawn.result c.conclude.result
-    (c.perform_beside-drawn.ensures.drawing.manner ∙ c.draw-first.ensures.manner)
-    (drawn g (goal.at.returns-clause-shown g c).After-and-drawn) c.conclude.ensures.shown)
-
-pub returns-clause-part : goal.returns-clause-part
-returns-clause-part g c = grind (arith, drawn)
+pub returns-in-Ok-clause-fault : goal.returns-in-Ok-clause-fault
+returns-in-Ok-clause-fault g c =
+    let at_end = rw c.in-Ok.is at c.perform_beside-drawn.ensures.end in
+    let through = rw c.in-Ok.is at c.perform_beside-drawn.ensures.through in
+    IfErr-weaker c.end.result _ _ (λ fault tells. tells _ at_end through) c.end.ensures.fault
 
 pub returns-clause-fault : goal.returns-clause-fault
-returns-clause-fault g c = grind (arith, IsBrokenOff-whole)
-
-pub returns-clause-plates : goal.returns-clause-plates
-returns-clause-plates g c =
-    plates-asked c.args.stage c.perform_beside-drawn.new.stage _ _ _ c.requires.limits c.requires.start c.perform_beside-drawn.result.performed
-    c.conclude.result c.perform_beside-drawn.ensures.script.plates c.perform_beside-drawn.ensures.script.fault c.conclude.ensures.script
-    c.conclude.ensures.plates
+returns-clause-fault g c =
+    let stopped = rw c.requires.limits at (rw c.in-Err.is at c.perform_beside-drawn.ensures.stopped) in
+    rw c.into.ensures (stop_is_told _ _ c.in-Err.stopped stopped)

@@ -1,21 +1,28 @@
-use Rattle.std.proofs.Common.{subst}
+use Rattle.std.proofs.Common.{◌∙◌, subst}
 use Rattle.std.proofs.lemmas.Result.{IfOk-weaker, IfErr-weaker}
-use Rattle.mf_desk.specs.EndedRuns.{IsOver}
-use Rattle.mf_desk.specs.Streams.{Gets}
-use Rattle.mf_desk.proofs.ScriptEnds.{Breaks-unended, IsOver-ended}
+use Rattle.mf_desk.specs.EndedRuns.{EndsWith}
+use Rattle.mf_desk.specs.Faults.{Breaks}
+use Rattle.mf_desk.specs.Streams.{Passes, Streams, streams}
+use Rattle.mf_desk.proofs.progress.Progress.complete.Goals.{In-Ok}
 use Rattle.mf_desk.proofs.progress.Progress.complete.Goals as goal
+
+abbrev streams_of : (g : _) (c : In-Ok g) → Streams
+streams_of g c =
+    streams (g.R.Read.remaining c.args.reader.now) (g.R.Read.remaining c.read_all.new.reader) (g.W.Write.contents c.args.writer.now)
+    (g.W.Write.contents c.read_all.new.writer)
 
 pub returns-in-Ok-clause-over : goal.returns-in-Ok-clause-over
 returns-in-Ok-clause-over g c =
-    let (read, consumed, through) = c.in-Ok.ensures.through in
-    let held = g.W.Write.contents c.args.writer.now in
-    let holds = g.W.Write.contents c.read_all.new.writer in
-    let performer = c.read_all.new.self.performer in
-    IfOk-weaker c.finish.result _ _ (λ run ended.
-    let over = IsOver-ended held holds read performer run through (ended through.done.last through.done.stands) in
-    (read, consumed, subst (λ l. Gets held holds (IsOver l read run)) c.in-Ok.ensures.limits over)) c.finish.ensures.ended
+    let s = streams_of g (goal.at.returns-in-Ok-clause-over g c).In-Ok in
+    IfOk-weaker c.finish.result _ _ (λ run ended. subst (λ l. EndsWith l 0 s run) c.in-Ok.ensures.limits (ended s c.in-Ok.ensures.through)) c.finish.ensures.over
+
+pub returns-in-Ok-clause-identity : goal.returns-in-Ok-clause-identity
+returns-in-Ok-clause-identity g c =
+    let s = streams_of g (goal.at.returns-in-Ok-clause-identity g c).In-Ok in
+    IfOk-weaker c.finish.result _ _ (λ run is. is s c.in-Ok.ensures.through ∙ c.in-Ok.ensures.identity) c.finish.ensures.identity
 
 pub returns-in-Ok-clause-fault : goal.returns-in-Ok-clause-fault
 returns-in-Ok-clause-fault g c =
-    IfErr-weaker c.finish.result _ _
-    (Breaks-unended _ _ c.read_all.new.self.performer c.in-Ok.ensures.limits c.in-Ok.ensures.end c.in-Ok.ensures.through) c.finish.ensures.fault
+    let s = streams_of g (goal.at.returns-in-Ok-clause-fault g c).In-Ok in
+    IfErr-weaker c.finish.result _ _ (λ fault broken. subst (λ l. Passes s (Breaks l fault)) c.in-Ok.ensures.limits
+    (broken s c.in-Ok.ensures.end c.in-Ok.ensures.through)) c.finish.ensures.fault

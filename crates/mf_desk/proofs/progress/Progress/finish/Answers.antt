@@ -1,44 +1,13 @@
-use Rattle.std.proofs.Common.{ℕ, List, Option, Result, append-nil, arith, inr, sym}
-use Rattle.std.specs.Prelude.{OnOk}
-use Rattle.std.specs.Str.Lines.{lines}
-use Rattle.std.proofs.lemmas.Result.{IfErr-weaker}
-use Rattle.mf_desk.specs.Progress.{HasCounted, IsAfter}
-use Rattle.mf_base.proofs.Faults.{IfErr-raised}
-use Rattle.mf_desk.proofs.Ended.{lines-none}
-use Rattle.mf_desk.proofs.Stages.{HasCounted-flushed, HasCounted-last, unended_line-none, Breaks-last, Breaks-flush}
-use Rattle.mf_desk.proofs.progress.Progress.finish.Goals.{In_ok-perform}
+use Rattle.std.proofs.Common.{refl}
+use Rattle.mf_desk.proofs.ScriptEnds.{Breaks-unended, EndsWith-ended}
 use Rattle.mf_desk.proofs.progress.Progress.finish.Goals as goal
 
-pub returns-then-is_empty-clause-done : goal.returns-then-is_empty-clause-done
-returns-then-is_empty-clause-done g c = λ held read after.
-    rw (lines-none read (unended_line-none held _ read c.args.self.now after (sym c.if-is_empty.ensures))) after.lines
+pub returns-in-Ok-clause-over : goal.returns-in-Ok-clause-over
+returns-in-Ok-clause-over g c = λ s reads.
+    EndsWith-ended s c.args.self.performer reads _ (c.in-Ok.ensures.ended _ reads.2.done.stands) refl
 
--- a fact that holds whatever the result is
-always : {T E : Type 0} {P : Type 0} (r : Result T E) → P → OnOk r P
-always r holds = grind arith
+pub returns-in-Ok-clause-identity : goal.returns-in-Ok-clause-identity
+returns-in-Ok-clause-identity g c = λ s reads. (c.in-Ok.ensures.ended _ reads.2.done.stands).identity_is
 
-pub returns-in_err-perform-clause-fault : goal.returns-in_err-perform-clause-fault
-returns-in_err-perform-clause-fault g c =
-    let broken = rw c.at_end.ensures at c.in_err-perform.ensures.fault in
-    IfErr-raised c.from_residual.result _ c.from_residual.ensures.1 (λ held left read all_read after.
-    Breaks-last held _ read c.args.self.now after c.in_err-perform.field-0.0 left _ all_read (sym (c.if-is_empty.ensures)) broken)
-
--- the last line has been performed, and its text written
-HasCounted-performed : (g : _) (c : In_ok-perform g) (held : Option (List ℕ)) (read : List ℕ)
-    → IsAfter held read c.args.self.now (g.W.Write.contents c.args.writer.now)
-    → HasCounted held (lines read) c.perform.new.self (g.W.Write.contents c.perform.new.writer)
-HasCounted-performed g c held read after =
-    HasCounted-last held _ read c.args.self.now after _ c.perform.new.self (sym c.if-is_empty.ensures) c.perform.ensures.limits
-    (rw c.at_end.ensures at c.in_ok-perform.ensures.written)
-
-pub returns-clause-done : goal.returns-clause-done
-returns-clause-done g c =
-    let done = HasCounted-performed g (goal.at.returns-clause-done g c).In_ok-perform in
-    always c.flush.result (λ held read after. HasCounted-flushed held _ _ _ c.perform.new.self c.flush.ensures.kept (done held read after))
-
-pub returns-clause-fault : goal.returns-clause-fault
-returns-clause-fault g c =
-    let done = HasCounted-performed g (goal.at.returns-clause-fault g c).In_ok-perform in
-    IfErr-weaker c.flush.result _ _ (λ fault is held left read all_read after.
-    Breaks-flush _ held left _ _ read (lines read) c.perform.new.self (inr (all_read, sym (append-nil _))) c.perform.ensures.limits c.flush.ensures.kept
-    (done held read after) fault is) c.flush.ensures.fault
+pub returns-in-Err-clause-fault : goal.returns-in-Err-clause-fault
+returns-in-Err-clause-fault g c = λ s all_read reads. Breaks-unended s c.args.self.performer reads all_read

@@ -1,5 +1,6 @@
+use Rattle.std.proofs.Common.{refl}
 use Rattle.mf_desk.proofs.Stages.{IsAfter-start}
 use Rattle.mf_desk.proofs.progress.Progress.new.Goals as goal
 
-pub returns-clause-start : goal.returns-clause-start
-returns-clause-start g c = λ held. IsAfter-start held _ c.in_ok-performer.ensures.start c.in_ok-performer.ensures.written c.new-line.ensures
+pub returns-in-Ok-clause-start : goal.returns-in-Ok-clause-start
+returns-in-Ok-clause-start g c = λ held. IsAfter-start held _ c.in-Ok.ensures.start refl c.new-line.ensures

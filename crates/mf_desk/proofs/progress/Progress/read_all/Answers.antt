@@ -3,7 +3,7 @@ use Rattle.std.proofs.KnownBytes.{Consumes-nil, Consumes-trans, Consumes-kept}
 use Rattle.std.proofs.lemmas.Result.{on_ok_weaker, IfErr-weaker}
 use Rattle.std.specs.Io.KnownBytes.{Consumes, IsAtEnd}
 use Rattle.mf_desk.specs.Ended.{ended_lines}
-use Rattle.mf_desk.specs.Fault.{Breaks}
+use Rattle.mf_desk.specs.Faults.{Stops}
 use Rattle.mf_desk.specs.Streams.{Gets, MakesPassage}
 use Rattle.mf_session.specs.Sessions.{limits}
 use Rattle.mf_base.proofs.Faults.{IfErr-raised}
@@ -31,7 +31,14 @@ returns-in_err-flush-clause-fault g c =
     ))
 
 pub returns-in-Err-clause-fault : goal.returns-in-Err-clause-fault
-returns-in-Err-clause-fault g c = grind (arith, IsAfter-flushed, Consumes-kept)
+returns-in-Err-clause-fault g c =
+    let (read, consumed, before) = c.reads.invariant.1 in
+    let done = (IsAfter-flushed _ _ _ read c.reads.self c.flush.ensures.kept before).lines.done in
+    rw (c.into.ensures, ← c.reads.invariant.2) (
+      read,
+      Consumes-kept _ _ _ read consumed c.in-Err.ensures.bytes,
+      (done.text, done.out, record { last = done.last; performed = done.performed }),
+    )
 
 pub returns-in-Ok-eq0-clause-end : goal.returns-in-Ok-eq0-clause-end
 returns-in-Ok-eq0-clause-end g c = grind (arith, on_ok_weaker)
@@ -41,7 +48,7 @@ returns-in-Ok-eq0-clause-through g c =
     let (read, consumed, before) = c.reads.invariant.1 in
     let after = IsAfter-flushed _ _ _ read c.reads.self c.flush.ensures.kept before in
     let all_read = Consumes-none _ _ _ read c.read.new.buf _ consumed c.in-Ok-eq0.field-0-test c.in-Ok-eq0.ensures.bytes.0 in
-    on_ok_weaker c.finish.result (λ done. (read, all_read, done _ read after)) c.finish.ensures.done
+    on_ok_weaker c.end_script.result (λ done. (read, all_read, done _ read after)) c.end_script.ensures.done
 
 pub returns-in-Ok-eq0-clause-fault : goal.returns-in-Ok-eq0-clause-fault
 returns-in-Ok-eq0-clause-fault g c =
@@ -50,7 +57,7 @@ returns-in-Ok-eq0-clause-fault g c =
     let (read, consumed, before) = c.reads.invariant.1 in
     let after = IsAfter-flushed _ _ _ read c.reads.self c.flush.ensures.kept before in
     let all_read = Consumes-none _ _ _ read c.read.new.buf _ consumed c.in-Ok-eq0.field-0-test c.in-Ok-eq0.ensures.bytes.0 in
-    rw (← c.reads.invariant.2) (IfErr-weaker c.finish.result _ _ (λ fault cut_short. (read, all_read, cut_short _ _ read at_end after)) c.finish.ensures.fault)
+    rw (← c.reads.invariant.2) (IfErr-weaker c.end_script.result _ _ (λ fault cut_short. (read, all_read, cut_short _ _ read at_end after)) c.end_script.ensures.fault)
 
 pub returns-in_err-take-in-Ok-clause-fault : goal.returns-in_err-take-in-Ok-clause-fault
 returns-in_err-take-in-Ok-clause-fault g c =
@@ -64,7 +71,7 @@ returns-in_err-take-in-Ok-clause-fault g c =
     (rw (← c.reads.invariant.2) (
       bytes,
       Consumes-trans _ _ _ read _ consumed c.in-Ok.ensures.bytes.0,
-      subst (λ all. Gets held later (MakesPassage (Breaks (limits c.reads.self.performer.session) c.in_err-take-in-Ok.field-0.0) left all)) (append-nil bytes)
+      subst (λ all. Gets held later (MakesPassage (Stops (limits c.reads.self.performer.session) c.in_err-take-in-Ok.field-0.0) left all)) (append-nil bytes)
           (c.in_err-take-in-Ok.ensures.fault held _ read [] after),
     ))
 
@@ -89,4 +96,7 @@ reads-preserved-then-eq g c =
     )
 
 pub returns-clause-fault : goal.returns-clause-fault
-returns-clause-fault g c = grind arith
+returns-clause-fault g c =
+    let (read, consumed, after) = c.reads.invariant.1 in
+    let done = after.lines.done in
+    rw (c.into-2.ensures, ← c.reads.invariant.2) (read, consumed, (done.text, done.out, record { last = done.last; performed = done.performed }))

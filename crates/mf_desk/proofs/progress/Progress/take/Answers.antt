@@ -2,9 +2,9 @@ use Rattle.std.proofs.Common.{◌≡◌, ◌+◌, ◌<◌, ◌==◌, ◌++◌, �
 use Rattle.std.proofs.Common.{arith, append-nil, append_assoc, refl, length-append, take-append-drop}
 use Rattle.std.proofs.lemmas.Bool.{eqb-true, eq-eqb}
 use Rattle.std.proofs.lemmas.List.{drop_more, get_or-take, get_or_default, length-take-le, take_rest}
-use Rattle.std.proofs.lemmas.Result.{on_ok_weaker, IfErr-weaker}
+use Rattle.std.proofs.lemmas.Result.{err_from_is_err_and}
 use Rattle.mf_base.proofs.Faults.{IfErr-raised}
-use Rattle.mf_desk.proofs.Intakes.{BreaksAfter-first, BreaksAfter-next, GoesOn-next}
+use Rattle.mf_desk.proofs.Intakes.{GoesOn-next, StopsDuring-first, StopsDuring-next, StopsDuring-wanting}
 use Rattle.mf_desk.proofs.progress.Progress.take.Goals as goal
 
 -- the bytes before a line feed and the line feed, and the rest
@@ -24,7 +24,7 @@ returns-in_err-take_line-clause-fault g c =
     let (done, bytes_are, few, goes_on, same, identity_is) = c.lines.invariant in
     let all = with_line done c.lines.rest.now _ c.in-Some.place c.in-Some.ensures.0.high c.in-Some.ensures.1 bytes_are in
     IfErr-raised c.from_residual.result _ c.from_residual.ensures.1
-    (BreaksAfter-first _ _ _ _ all _ _ _ (BreaksAfter-next _ done _ _ refl _ _ _ _ goes_on _ same c.in_err-take_line.ensures.fault))
+    (StopsDuring-first _ _ _ _ all _ _ _ (StopsDuring-next _ done _ _ refl _ _ _ _ goes_on _ same c.in_err-take_line.ensures.fault))
 
 pub lines-preserved : goal.lines-preserved
 lines-preserved g c =
@@ -46,12 +46,16 @@ keep-requires g c = λ k d within is. c.in_default.ensures k (omega arith) withi
 pub returns-clause-after : goal.returns-clause-after
 returns-clause-after g c =
     let (done, bytes_are, few, goes_on, same, identity_is) = c.lines.invariant in
-    on_ok_weaker c.keep.result (λ kept. GoesOn-next _ done _ _ bytes_are _ _ _ _ goes_on _ (kept _)) c.keep.ensures.after
+    GoesOn-next _ done _ _ bytes_are _ _ _ _ goes_on _ (c.in_ok-keep.ensures.after _)
 
-pub returns-clause-fault : goal.returns-clause-fault
-returns-clause-fault g c =
+pub returns-in_err-keep-clause-fault : goal.returns-in_err-keep-clause-fault
+returns-in_err-keep-clause-fault g c =
     let (done, bytes_are, few, goes_on, same, identity_is) = c.lines.invariant in
-    IfErr-weaker c.keep.result _ _ (λ fault breaks. BreaksAfter-next _ done _ _ bytes_are _ _ _ _ goes_on fault same (breaks _)) c.keep.ensures.fault
+    let (given, is, raised) = err_from_is_err_and c.from_residual-in_err-keep.result c.from_residual-in_err-keep.ensures.1 in
+    let now = c.lines.self in
+    let holds = g.W.Write.contents c.lines.writer in
+    rw is (StopsDuring-next c.args.self.now done c.lines.rest.now c.args.bytes.now bytes_are (g.W.Write.contents c.args.writer.now) holds now holds
+    goes_on given same (StopsDuring-wanting now c.lines.rest.now holds given _ raised c.in_err-keep.ensures.fault))
 
 pub lines-init : goal.lines-init
 lines-init g c = ([], refl, omega arith, λ held read after. rw (append-nil read) after, refl, refl)

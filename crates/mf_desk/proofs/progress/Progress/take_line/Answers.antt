@@ -1,11 +1,10 @@
-use Rattle.std.proofs.Common.{ap, refl, sym}
+use Rattle.std.proofs.Common.{◌++◌, ◌∷◌, [], ap, refl, sym}
 use Rattle.std.proofs.lemmas.Bool.{eqb-true}
 use Rattle.std.proofs.lemmas.List.{nil_from_length}
-use Rattle.std.proofs.lemmas.Result.{on_ok_weaker, IfErr-weaker}
+use Rattle.std.proofs.lemmas.Result.{err_from_is_err_and, on_ok_weaker, IfErr-weaker}
 use Rattle.mf_session.specs.Sessions.{limits}
-use Rattle.mf_base.proofs.Faults.{IfErr-raised}
-use Rattle.mf_desk.proofs.Intakes.{BreaksAfter-first, BreaksAfter-next, GoesOn-next}
-use Rattle.mf_desk.proofs.Stages.{IsAfter-whole, Breaks-whole}
+use Rattle.mf_desk.proofs.Intakes.{GoesOn-next, StopsDuring-first, StopsDuring-next, StopsDuring-wanting}
+use Rattle.mf_desk.proofs.Stages.{IsAfter-whole, Stops-whole}
 use Rattle.mf_desk.proofs.progress.Progress.take_line.Goals as goal
 
 pub returns-then-is_empty-clause-after : goal.returns-then-is_empty-clause-after
@@ -22,12 +21,14 @@ pub returns-then-is_empty-clause-fault : goal.returns-then-is_empty-clause-fault
 returns-then-is_empty-clause-fault g c =
     let broken_off = rw c.before_line_feed-line.ensures at c.perform.ensures.fault in
     IfErr-weaker c.perform.result _ _ (λ fault broken held left read more after.
-    Breaks-whole held _ read c.args.bytes.now c.args.self.now after (sym (c.if-is_empty.ensures)) c.requires.unbroken fault left _ more broken) broken_off
+    Stops-whole held _ read c.args.bytes.now c.args.self.now after (sym (c.if-is_empty.ensures)) c.requires.unbroken fault left _ more broken) broken_off
 
 pub returns-in_err-keep-clause-fault : goal.returns-in_err-keep-clause-fault
 returns-in_err-keep-clause-fault g c =
-    IfErr-raised c.from_residual.result _ c.from_residual.ensures.1
-    (BreaksAfter-first c.args.self.now c.args.bytes.now _ _ refl _ _ _ (c.in_err-keep.ensures.fault _))
+    let (given, is, same) = err_from_is_err_and c.from_residual.result c.from_residual.ensures.1 in
+    rw is (StopsDuring-first c.args.self.now c.args.bytes.now (10 ∷ []) (c.args.bytes.now ++ 10 ∷ []) refl (g.W.Write.contents c.args.writer.now)
+    (g.W.Write.contents c.args.writer.now) given
+    (StopsDuring-wanting c.args.self.now c.args.bytes.now (g.W.Write.contents c.args.writer.now) given _ same c.in_err-keep.ensures.fault))
 
 pub returns-clause-after : goal.returns-clause-after
 returns-clause-after g c =
@@ -38,5 +39,5 @@ pub returns-clause-fault : goal.returns-clause-fault
 returns-clause-fault g c =
     let same = ap (λ performer. limits performer.session) c.keep.ensures.same in
     IfErr-weaker c.end_line.result _ _
-    (λ fault. BreaksAfter-next c.args.self.now c.args.bytes.now _ _ refl _ _ c.keep.new.self _ (c.in_ok-keep.ensures.after _) fault same)
+    (λ fault. StopsDuring-next c.args.self.now c.args.bytes.now _ _ refl _ _ c.keep.new.self _ (c.in_ok-keep.ensures.after _) fault same)
     c.end_line.ensures.fault

@@ -1,6 +1,6 @@
 use Rattle.std.proofs.Common.{◌≡◌, pos, ◌+ℤ◌, ◌-ℤ◌, ◌+◌, to_z, of_z, w32, neg_ℤ, arith}
 use Rattle.std.proofs.lemmas.Int.{ints}
-use Rattle.mf_show.specs.Grid.{extent}
+use Rattle.mf_rows.specs.Boxes.{extent}
 use Rattle.mf_image.proofs.ImageBoxes.{view_box_numbers}
 use Rattle.mf_image.proofs.svg_image.ViewBox.round.Goals as goal
 

@@ -1,3 +1,0 @@
-pub mod Easels
-pub mod Faults
-pub mod Screens

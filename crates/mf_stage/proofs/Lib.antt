@@ -1,6 +1,0 @@
-mod Broken
-mod Cuts
-mod Images
-mod Paths
-mod Performed
-mod Scripts

@@ -1,6 +1,0 @@
-pub mod Faults
-pub mod Lines
-pub mod Plates
-pub mod Publications
-pub mod Scripts
-pub mod Stages
