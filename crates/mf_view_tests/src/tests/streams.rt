@@ -143,11 +143,11 @@ fn no_frame_comes_after_one_that_was_cut(rt: HostRuntime) {
     assert_same(&rt, transcript.as_slice(), TOLD, "told");
 }
 
-/// A flush fails after the first frame, of 41 bytes, or after the last, of 66.
+/// A flush fails after the first frame, of 41 bytes, or after the last, of 63.
 #[test]
 fn no_frame_comes_after_a_flush_that_failed(rt: HostRuntime) {
     let alloc = rt.alloc();
-    for (good, count) in [(0, 41), (1, 66)] {
+    for (good, count) in [(0, 41), (1, 63)] {
         let (mut screen, mut transcript) = (FlushFails::once(alloc, good), Vec::new(alloc));
         assert_breaks_off(&rt, alloc, &mut screen, &mut transcript, count);
         assert_same(&rt, screen.calls_after(), 0, good);
