@@ -1,8 +1,8 @@
--- The messages of the program.
-use Rattle.std.specs.Prelude.{ℕ, List, ◌++◌, codes}
+-- The messages and the exit statuses of the program.
+use Rattle.std.specs.Prelude.{ℕ, List, ◌++◌, codes, if◌then◌else◌}
 use Rattle.mf_cli.specs.declared.fault.ProgramFault.{ProgramFault}
 use Rattle.mf_cli.specs.declared.fault.ProgramFault.TheVariants.{Run, NoCharacters}
-use Rattle.mf_desk.specs.Names.{run_fault_text}
+use Rattle.mf_desk.specs.Names.{is_of_stream, run_fault_text}
 
 -- how the program is used
 abbrev pub usage : List ℕ
@@ -12,3 +12,8 @@ usage = codes "usage: mfpic [--viewers 0..16] [--gf FILE]\n"
 abbrev pub message_of : ProgramFault → List ℕ
 message_of (Run fault) = codes "mfpic: " ++ run_fault_text fault ++ codes "\n"
 message_of NoCharacters = codes "mfpic: NoCharacters\n"
+
+-- the status after a fault: 3 where a stream or a file failed or there is no character, and 4 where memory, a place or a look was missing
+abbrev pub status_of : ProgramFault → ℕ
+status_of (Run fault) = if is_of_stream fault then 3 else 4
+status_of NoCharacters = 3

@@ -1,20 +1,19 @@
 //! The program that `main` calls: from its words and streams to its exit status.
 ghost use Rattle.std.specs.Io.KnownBytes.{IsAtEnd};
-ghost use Rattle.std.specs.Prelude.{◌≡◌, ◌<◌, ◌≤◌, ◌⊎◌, ℕ, IfErr, IfOk, OnOk, length};
+ghost use Rattle.std.specs.Prelude.{◌≡◌, ◌≤◌, ◌⊎◌, IfErr, IfOk, OnOk, option_map, string_bytes};
 ghost use Rattle.mf_base.specs.Messages.{GetsFront};
 ghost use Rattle.mf_options.specs.Values.{texts_of};
-ghost use Rattle.mf_cli.specs.CommandLine.{IsCommandLine, greatest_viewers};
+ghost use Rattle.mf_cli.specs.CommandLine.{IsCommandLine, gf_in, greatest_viewers, viewers_in};
 ghost use Rattle.mf_cli.specs.Faults.{ReportsFault, TellsOfProgram};
-ghost use Rattle.mf_cli.specs.Messages.{message_of, usage};
-ghost use Rattle.mf_cli.specs.Output.{EndsWell, looks, request_in, request_of, settings};
-ghost use Rattle.mf_cli.specs.Statuses.{status_of};
+ghost use Rattle.mf_cli.specs.Messages.{message_of, status_of, usage};
+ghost use Rattle.mf_cli.specs.Output.{EndsWell, looks, settings};
 ghost use Rattle.mf_desk.specs.Performances.{Performs, TellsOfRun, task};
 ghost use Rattle.mf_desk.specs.Streams.{Passes, streams};
 
 use crate::fault::ProgramFault;
 use crate::words::{USAGE, Words, read_words};
-use mf_desk::{OpenGate, Outcome, RunFault, Settings};
-use mf_gf::{FontWords, GfBytes};
+use mf_desk::{OpenGate, Outcome, RunFault, Settings, write_font};
+use mf_gf::FontWords;
 use mf_options::{BAD_WORDS, DONE, STREAM_FAULT, WANTING, WordsFault, refuse_words, report_fault};
 use mf_session::{MAX_BYTES, MAX_OPS};
 use std::alloc::Global;
@@ -59,7 +58,7 @@ pub fn program<S: Wait + Threads + Files, R: Read, W: Write, E: Write>(
         → GetsFront (E.contents errors.old) (E.contents errors.new) (message_of (ProgramFault.Run RunFault.OutOfMemory)) }
     ensures quiet { result ≡ DONE → errors.new ≡ errors.old }
     ensures usage { result ≡ BAD_WORDS → GetsFront (E.contents errors.old) (E.contents errors.new) usage }
-    ensures done { result ≡ DONE → EndsWell (request_in (texts_of words))
+    ensures done { result ≡ DONE → EndsWell (viewers_in (texts_of words)) (gf_in (texts_of words))
         (streams (R.remaining reader.old) (R.remaining reader.new) (W.contents writer.old) (W.contents writer.new)) }
     ensures fault { (result ≡ STREAM_FAULT) ⊎ (result ≡ WANTING)
         → ReportsFault (texts_of words) result (GetsFront (E.contents errors.old) (E.contents errors.new))
@@ -86,9 +85,9 @@ fn perform<S: Wait + Threads + Files, R: Read, W: Write>(
     words: &Words,
 ) -> Result<(), ProgramFault>
     requires { words.now.viewers ≤ greatest_viewers }
-    ensures done { OnOk result (EndsWell (request_of words.now)
+    ensures done { OnOk result (EndsWell words.now.viewers (option_map string_bytes words.now.gf)
         (streams (R.remaining reader.old) (R.remaining reader.new) (W.contents writer.old) (W.contents writer.new))) }
-    ensures fault { IfErr result (λ fault. TellsOfProgram (request_of words.now) fault
+    ensures fault { IfErr result (λ fault. TellsOfProgram words.now.viewers (option_map string_bytes words.now.gf) fault
         (streams (R.remaining reader.old) (R.remaining reader.new) (W.contents writer.old) (W.contents writer.new))) }
 {
     let gf = match run_script(rt, alloc, reader, writer, words.viewers) {
@@ -132,16 +131,6 @@ fn run_script<S: Wait + Threads, R: Read, W: Write>(
     }
     let gate = Arc::new(alloc, OpenGate)?;
     mf_desk::perform(rt, alloc, reader, writer, &SETTINGS, viewers, LOOKS, &gate)
-}
-
-/// Writes the font file. Refused with `WriteFault`, whose number is 0 or less than that of its bytes.
-fn write_font<S: Files>(rt: &S, path: &str, file: &GfBytes) -> Result<(), RunFault>
-    ensures { IfErr result (λ fault. (count : ℕ) × (fault ≡ RunFault.WriteFault count) × ((count ≡ 0) ⊎ (count < length file.now))) }
-{
-    match file.write_file(rt, path) {
-        Ok(()) => Ok(()),
-        Err(fault) => Err(RunFault::WriteFault(fault.0)),
-    }
 }
 
 /// Reports a fault: writes its message, or a front of it where `errors` fails, and answers with the status.

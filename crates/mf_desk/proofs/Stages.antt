@@ -1,5 +1,5 @@
 -- The stages of a run: what each step does to the state after some bytes.
-use Rattle.std.proofs.Common.{◌≡◌, ◌≢◌, ℕ, true, false, ◌+◌, List, [], ◌∷◌, ◌++◌, Option, eqb, length, take, refl, inl, inr, sym, ap, ◌∙◌, subst}
+use Rattle.std.proofs.Common.{◌≡◌, ◌≢◌, ℕ, true, false, ◌+◌, List, [], ◌∷◌, ◌++◌, Option, Some, eqb, length, take, refl, inl, inr, sym, ap, ◌∙◌, subst}
 use Rattle.std.proofs.Common.{append_assoc, append-nil, arith, length-append}
 use Rattle.std.specs.Io.KnownBytes.{IsAtEnd, Keeps}
 use Rattle.std.specs.Prelude.{All}
@@ -18,7 +18,7 @@ use Rattle.mf_session.specs.Answers.{Answers}
 use Rattle.mf_desk.specs.Ended.{ended_of_parts, last_part, ended_lines, unended_line}
 use Rattle.mf_desk.specs.Faults.{AreWholeLines, Breaks, IsTextSoFar, Stops, StopsAfter}
 use Rattle.mf_desk.specs.Performer.{IsLineText, IsWritten}
-use Rattle.mf_desk.specs.Progress.{HasCounted, IsAfter}
+use Rattle.mf_desk.specs.Progress.{HasCounted, HasReadNothing, IsAfter}
 use Rattle.mf_desk.specs.Streams.{Gets, MakesPassage}
 use Rattle.mf_session.specs.Sessions.{HasPerformed, StandsFor, limits}
 use Rattle.mf_session.specs.States.{Answer, Limits, State, answer_with, answers_in_turn, start}
@@ -44,6 +44,12 @@ IsAfter-start held progress stands written line = record {
   };
   line = line;
 }
+
+-- a run that has read nothing has written nothing
+pub nothing-written : (run : Progress) → HasReadNothing run → run.performer.written ≡ 0
+nothing-written run start =
+    let lines = (start (Some [])).lines in
+    lines.counted ∙ ap length (sym lines.done.out)
 
 -- a run that has taken these bytes
 module _ (held holds : Option (List ℕ)) (read : List ℕ) (run : Progress) (after : IsAfter held read run holds) where

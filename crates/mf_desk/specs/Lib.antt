@@ -2,7 +2,6 @@ pub mod Ended
 pub mod EndedRuns
 pub mod Faults
 pub mod Names
-pub mod ViewerFaults
 pub mod Performances
 pub mod Performer
 pub mod Progress

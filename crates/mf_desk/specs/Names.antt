@@ -18,6 +18,4 @@ abbrev pub is_of_stream : RunFault → Bool
 is_of_stream FileTooLong = true
 is_of_stream ReadFault = true
 is_of_stream (WriteFault count) = true
-is_of_stream OutOfMemory = false
-is_of_stream NoPlace = false
-is_of_stream NoLook = false
+is_of_stream _ = false

@@ -1,5 +1,5 @@
 -- The state of a run whose bytes so far are known.
-use Rattle.std.specs.Prelude.{ℕ, List, Option, ◌≡◌, ◌++◌, length, take}
+use Rattle.std.specs.Prelude.{ℕ, List, [], Option, ◌≡◌, ◌++◌, length, take}
 use Rattle.std.specs.Str.Lines.{lines}
 use Rattle.mf_desk.specs.Ended.{ended_lines, unended_line}
 use Rattle.mf_desk.specs.Faults.{Stops}
@@ -23,26 +23,20 @@ pub record IsAfter (held : Option (List ℕ)) (read : List ℕ) (progress : Prog
   pub lines : HasCounted held (ended_lines read) progress.performer holds
   pub line : progress.line ≡ take MAX_KEPT (unended_line read)
 
+-- nothing has been read or written, whatever its writer holds
+abbrev pub HasReadNothing : Progress → Type 0
+HasReadNothing progress = (held : Option (List ℕ)) → IsAfter held [] progress held
+
 -- what was read was performed as a complete script
 abbrev pub ReadsThrough : Streams → Performer → Type 0
 ReadsThrough s performer = HasRead s (λ read. HasCounted s.held (lines read) performer s.holds)
 
--- what happens while a run takes bytes: the run before this, the bytes, and what the writer held then and holds after it
-pub record Intake : Type 0 where
-  pub before : Progress
-  pub bytes : List ℕ
-  pub held : Option (List ℕ)
-  pub holds : Option (List ℕ)
-
--- the intake with these four, in this order
-abbrev pub intake : Progress → List ℕ → Option (List ℕ) → Option (List ℕ) → Intake
-intake before bytes held holds = record { before = before; bytes = bytes; held = held; holds = holds }
-
 -- whatever was read before these bytes, the run has taken them and goes on
-abbrev pub GoesOn : Intake → Progress → Type 0
-GoesOn t after = (first : Option (List ℕ)) (read : List ℕ) → IsAfter first read t.before t.held → IsAfter first (read ++ t.bytes) after t.holds
+abbrev pub GoesOn : Progress → List ℕ → Option (List ℕ) → Option (List ℕ) → Progress → Type 0
+GoesOn before bytes held holds after =
+    (first : Option (List ℕ)) (read : List ℕ) → IsAfter first read before held → IsAfter first (read ++ bytes) after holds
 
 -- whatever was read before these bytes, and whatever comes after them, the script is stopped
-abbrev pub StopsDuring : {F : Type 0} → Intake → Stopped F → Type 0
-StopsDuring t stopped = (first left : Option (List ℕ)) (read more : List ℕ) → IsAfter first read t.before t.held
-    → Gets first t.holds (MakesPassage (Stops (limits t.before.performer.session) stopped) left (read ++ t.bytes ++ more))
+abbrev pub StopsDuring : {F : Type 0} → Progress → List ℕ → Option (List ℕ) → Option (List ℕ) → Stopped F → Type 0
+StopsDuring before bytes held holds stopped = (first left : Option (List ℕ)) (read more : List ℕ) → IsAfter first read before held
+    → Gets first holds (MakesPassage (Stops (limits before.performer.session) stopped) left (read ++ bytes ++ more))

@@ -1,7 +1,7 @@
 //! The faults that end a run.
 ghost use Rattle.std.specs.Prelude.{◌≡◌};
 ghost use Rattle.mf_desk.specs.Names.{is_of_stream, run_fault_text};
-ghost use Rattle.mf_desk.specs.declared.fault.RunFault.TheVariants.{OutOfMemory as NoMemory};
+ghost use Rattle.mf_desk.specs.declared.fault.RunFault.TheVariants.{OutOfMemory as NoMemory, NoPlace as NoPlaceLeft, NoLook as NothingSeen};
 
 use mf_base::OutOfMemory;
 use mf_live::SheetFault;
@@ -96,9 +96,9 @@ impl<T: Drop> From<AllocFailed<T>> for RunFault {
 }
 
 impl From<StartFault> for RunFault {
-    ghost use Rattle.mf_desk.specs.ViewerFaults.{run_fault_of_start};
+    ghost use Rattle.mf_watch.specs.declared.fault.StartFault.TheVariants as starts;
 
-    ghost from_gives = { λ start fault. fault ≡ run_fault_of_start start };
+    ghost from_gives = { λ start fault. (start ≡ starts.OutOfMemory → fault ≡ NoMemory) × (start ≡ starts.NoPlace → fault ≡ NoPlaceLeft) };
 
     fn from(fault: StartFault) -> RunFault {
         match fault {
@@ -109,9 +109,9 @@ impl From<StartFault> for RunFault {
 }
 
 impl From<SheetFault> for RunFault {
-    ghost use Rattle.mf_desk.specs.ViewerFaults.{run_fault_of_sheet};
+    ghost use Rattle.mf_live.specs.declared.sheet.SheetFault.TheVariants as sheets;
 
-    ghost from_gives = { λ sheet fault. fault ≡ run_fault_of_sheet sheet };
+    ghost from_gives = { λ sheet fault. (sheet ≡ sheets.OutOfMemory → fault ≡ NoMemory) × (sheet ≡ sheets.NoLook → fault ≡ NothingSeen) };
 
     fn from(fault: SheetFault) -> RunFault {
         match fault {

@@ -1,9 +1,11 @@
-//! Flushing the writer before a run waits or ends.
+//! Flushing the writer before a run waits or ends, and writing the font file after it.
 ghost use Rattle.std.specs.Io.KnownBytes.{Keeps};
-ghost use Rattle.std.specs.Prelude.{◌≡◌, IfErr};
+ghost use Rattle.std.specs.Prelude.{◌≡◌, ◌⊎◌, ◌<◌, ℕ, IfErr, length};
 
 use crate::fault::RunFault;
+use mf_gf::GfBytes;
 use std::io::Write;
+use std::rt::Files;
 
 /// Flushes a writer that may keep bytes back. Refused with `WriteFault`, which counts all bytes that were written in the run.
 pub fn flush<W: Write>(writer: &mut W, written: u128) -> Result<(), RunFault>
@@ -13,5 +15,16 @@ pub fn flush<W: Write>(writer: &mut W, written: u128) -> Result<(), RunFault>
     match writer.flush() {
         Ok(()) => Ok(()),
         Err(_) => Err(RunFault::WriteFault(written)),
+    }
+}
+
+/// Writes a font file, and replaces what was there. Refused with `WriteFault`, whose number is 0 or less than that of its bytes, where
+/// it cannot be created, or not be written to its end, or not be stored.
+pub fn write_font<S: Files>(rt: &S, path: &str, file: &GfBytes) -> Result<(), RunFault>
+    ensures { IfErr result (λ fault. (count : ℕ) × (fault ≡ RunFault.WriteFault count) × ((count ≡ 0) ⊎ (count < length file.now))) }
+{
+    match file.write_file(rt, path) {
+        Ok(()) => Ok(()),
+        Err(fault) => Err(RunFault::WriteFault(fault.0)),
     }
 }

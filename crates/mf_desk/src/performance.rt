@@ -1,19 +1,14 @@
 //! A run beside viewers in threads.
 ghost use Rattle.std.specs.Io.KnownBytes.{IsAtEnd};
-ghost use Rattle.std.specs.Prelude.{◌≡◌, ◌≢◌, ◌⊎◌, ◌<◌, ◌≤◌, ℕ, [], Err, IfErr, IfOk, List, OnOk, Option, length};
+ghost use Rattle.std.specs.Prelude.{◌≡◌, ◌⊎◌, ◌<◌, ◌≤◌, Err, IfErr, IfOk, OnOk};
 ghost use Rattle.mf_live.specs.Desks.{most_places};
-ghost use Rattle.mf_desk.specs.Performances.{Performs, TellsOfRun, run_limits, task};
-ghost use Rattle.mf_desk.specs.Performer.{longest_read};
-ghost use Rattle.mf_desk.specs.Progress.{IsAfter};
+ghost use Rattle.mf_desk.specs.Performances.{Performs, TellsOfRun, task};
 ghost use Rattle.mf_desk.specs.Streams.{Passes, streams};
-ghost use Rattle.mf_session.specs.Sessions.{identity, limits};
 ghost use Rattle.mf_session.specs.States.{least_bytes};
-ghost use Rattle.mf_watch.specs.Watching.{AreStarted, viewer_count};
 
 use crate::fault::RunFault;
 use crate::outcome::Outcome;
 use crate::progress::Progress;
-use crate::script::CHUNK_SIZE;
 use crate::settings::Settings;
 use mf_watch::{Gate, Watching};
 use std::alloc::Global;
@@ -54,8 +49,6 @@ pub fn perform<S: Wait + Threads, R: Read, W: Write, G: Gate + 'static>(
         Passes (streams (R.remaining reader.old) (R.remaining reader.new) (W.contents writer.old) (W.contents writer.new))
         (TellsOfRun settings.now viewers fault)) }
 {
-    // Memory for reads comes first: where it fails, nothing was read or written, and no thread was started.
-    let mut memory = vec![in alloc; 0u8; CHUNK_SIZE]?;
     let (progress, desk) = Progress::new(rt, alloc, settings, viewers)?;
     let watching = match Watching::start(rt, alloc, desk, viewers, looks, gate) {
         Ok(watching) => watching,
@@ -64,47 +57,7 @@ pub fn perform<S: Wait + Threads, R: Read, W: Write, G: Gate + 'static>(
             return Err(fault.into());
         }
     };
-    perform_beside_viewers(
-        rt,
-        alloc,
-        reader,
-        writer,
-        settings,
-        progress,
-        watching,
-        memory.as_mut_slice(),
-    )
-}
-
-/// Performs a script while these viewers look on, joins their threads, lets each viewer look once more and writes its line, and
-/// finishes the font file. `chunk` is the buffer for reads.
-fn perform_beside_viewers<S: Wait + Threads, R: Read, W: Write>(
-    rt: &S,
-    alloc: Global,
-    reader: &mut R,
-    writer: &mut W,
-    settings: &Settings,
-    progress: Progress,
-    watching: Watching,
-    chunk: &mut [u8],
-) -> Result<Outcome, RunFault>
-    requires start { (held : Option (List ℕ)) → IsAfter held [] progress held }
-    requires unwritten { progress.performer.written ≡ 0 }
-    requires limits { limits progress.performer.session ≡ run_limits settings.now }
-    requires some { 0 < length chunk.old }
-    requires short { length chunk.old ≤ longest_read }
-    requires few { viewer_count watching ≤ most_places }
-    requires started { (looks : ℕ) × AreStarted (identity progress.performer.session) looks watching }
-    ensures performance { IfOk result (λ outcome. (looks : ℕ) → AreStarted (identity progress.performer.session) looks watching
-        → Performs (task settings.now (viewer_count watching) looks)
-        (streams (R.remaining reader.old) (R.remaining reader.new) (W.contents writer.old) (W.contents writer.new)) outcome) }
-    ensures end { OnOk result (IsAtEnd (R.remaining reader.new)) }
-    ensures fault { IfErr result (λ fault.
-        Passes (streams (R.remaining reader.old) (R.remaining reader.new) (W.contents writer.old) (W.contents writer.new))
-        (TellsOfRun settings.now (viewer_count watching) fault)) }
-    ensures placed { result ≢ Err RunFault.NoPlace }
-{
-    let completed = progress.complete(rt, alloc, reader, writer, chunk);
+    let completed = progress.complete(rt, alloc, reader, writer);
     // A fault has ended the picture by now, so that looks are refused and the threads end early.
     let joined = watching.join(rt);
     let mut ended = completed?;

@@ -53,7 +53,6 @@ impl Performer {
 
     /// Performs a line and writes its text. Answers with what the line has done. An empty line prints nothing and changes nothing, so
     /// nothing is done for it.
-    #[tactic(auto, using(mf_text::proofs::Registers::names_given))]
     fn answer<S: Wait, W: Write>(
         &mut self,
         rt: &S,

@@ -7,8 +7,8 @@ ghost use Rattle.mf_live.specs.Writers.{ended_identity};
 ghost use Rattle.mf_desk.specs.EndedRuns.{EndsWith};
 ghost use Rattle.mf_desk.specs.Faults.{Breaks, Stops};
 ghost use Rattle.mf_desk.specs.Performances.{run_limits};
-ghost use Rattle.mf_desk.specs.Performer.{longest_read, longest_text, most_counted_bytes, most_written_bytes};
-ghost use Rattle.mf_desk.specs.Progress.{GoesOn, HasCounted, IsAfter, ReadsThrough, StopsDuring, intake};
+ghost use Rattle.mf_desk.specs.Performer.{longest_text, most_counted_bytes, most_written_bytes};
+ghost use Rattle.mf_desk.specs.Progress.{GoesOn, HasCounted, HasReadNothing, IsAfter, ReadsThrough, StopsDuring};
 ghost use Rattle.mf_desk.specs.Streams.{Gets, Passes, MakesPassage, Streams, streams};
 ghost use Rattle.mf_session.specs.Sessions.{identity, limits};
 ghost use Rattle.mf_session.specs.States.{least_bytes};
@@ -27,6 +27,9 @@ use mf_session::Session;
 use std::alloc::Global;
 use std::io::{ErrorKind, Read, Write};
 use std::sync::Wait;
+
+/// Size of the buffer for reads, in bytes.
+const CHUNK_SIZE: usize = 65_536;
 
 /// The greatest number of reads of a run, including the one that reports the end. A read gives at most 2^16 bytes, each of
 /// which may end a line, and a line prints fewer than 2^64 bytes. So a run writes at most 2^101 bytes, and can count them.
@@ -48,11 +51,10 @@ impl Progress {
         viewers: u32,
     ) -> Result<(Progress, Desk), RunFault>
         requires { viewers ≤ most_places }
-        ensures start { IfOk result (λ made. (held : Option (List ℕ)) → IsAfter held [] made.0 held) }
+        ensures start { IfOk result (λ made. HasReadNothing made.0) }
         ensures limits { IfOk result (λ made. limits made.0.performer.session ≡ run_limits settings.now) }
         ensures identity { IfOk result (λ made. desk_identity made.1 ≡ identity made.0.performer.session) }
         ensures places { IfOk result (λ made. remaining_viewers made.1 ≤ viewers) }
-        ensures written { IfOk result (λ made. made.0.performer.written ≡ 0) }
         ensures too_long { (settings.now.max_bytes < least_bytes) ↔ (result ≡ Err RunFault.FileTooLong) }
         ensures fault { IfErr result (λ fault. (fault ≡ RunFault.FileTooLong) ⊎ (fault ≡ RunFault.OutOfMemory)) }
     {
@@ -72,19 +74,14 @@ impl Progress {
     }
 
     /// Reads a script to its end, performs its lines, writes their texts, and closes its picture; nobody else is told of a line.
-    /// `chunk` is the buffer for reads.
     pub(crate) fn complete<S: Wait, R: Read, W: Write>(
         self,
         rt: &S,
         alloc: Global,
         reader: &mut R,
         writer: &mut W,
-        chunk: &mut [u8],
     ) -> Result<EndedRun, RunFault>
-        requires start { (held : Option (List ℕ)) → IsAfter held [] self held }
-        requires unwritten { self.performer.written ≡ 0 }
-        requires some { 0 < length chunk.old }
-        requires few { length chunk.old ≤ longest_read }
+        requires { HasReadNothing self }
         ensures over { IfOk result (λ run. EndsWith (limits self.performer.session) 0
             (streams (R.remaining reader.old) (R.remaining reader.new) (W.contents writer.old) (W.contents writer.new)) run) }
         ensures identity { IfOk result (λ run. ended_identity run.ended ≡ identity self.performer.session) }
@@ -95,7 +92,7 @@ impl Progress {
             (Breaks (limits self.performer.session) fault)) }
     {
         let mut progress = self;
-        match progress.read_all(rt, alloc, reader, writer, chunk, &mut ()) {
+        match progress.read_all(rt, alloc, reader, writer, &mut ()) {
             Ok(()) => progress.finish(rt),
             Err(stopped) => {
                 progress.discard(rt);
@@ -112,13 +109,9 @@ impl Progress {
         alloc: Global,
         reader: &mut R,
         writer: &mut W,
-        chunk: &mut [u8],
         observer: &mut O,
     ) -> Result<(), Stopped<O::Fault>>
-        requires start { (held : Option (List ℕ)) → IsAfter held [] self.old held }
-        requires unwritten { self.old.performer.written ≡ 0 }
-        requires some { 0 < length chunk.old }
-        requires few { length chunk.old ≤ longest_read }
+        requires { HasReadNothing self.old }
         ensures through { OnOk result
             (ReadsThrough (streams (R.remaining reader.old) (R.remaining reader.new) (W.contents writer.old) (W.contents writer.new))
             self.new.performer) }
@@ -130,6 +123,11 @@ impl Progress {
             Passes (streams (R.remaining reader.old) (R.remaining reader.new) (W.contents writer.old) (W.contents writer.new))
             (Stops (limits self.old.performer.session) stopped)) }
     {
+        // Where this memory is missing, nothing was read or written.
+        let Ok(mut memory) = vec![in alloc; 0u8; CHUNK_SIZE] else {
+            return Err(RunFault::OutOfMemory.into());
+        };
+        let chunk = memory.as_mut_slice();
         'reads: for _ in 0..MAX_READS {
             flush(writer, self.performer.written)?;
             match reader.read(chunk) {
@@ -157,11 +155,11 @@ impl Progress {
         observer: &mut O,
     ) -> Result<(), Stopped<O::Fault>>
         requires { self.old.performer.written + length bytes.now * longest_text ≤ most_counted_bytes }
-        ensures after { OnOk result (GoesOn (intake self.old bytes.now (W.contents writer.old) (W.contents writer.new)) self.new) }
+        ensures after { OnOk result (GoesOn self.old bytes.now (W.contents writer.old) (W.contents writer.new) self.new) }
         ensures at_most { OnOk result (self.new.performer.written ≤ self.old.performer.written + length bytes.now * longest_text) }
         ensures limits { limits self.new.performer.session ≡ limits self.old.performer.session }
         ensures identity { identity self.new.performer.session ≡ identity self.old.performer.session }
-        ensures fault { IfErr result (StopsDuring (intake self.old bytes.now (W.contents writer.old) (W.contents writer.new))) }
+        ensures fault { IfErr result (StopsDuring self.old bytes.now (W.contents writer.old) (W.contents writer.new)) }
     {
         let mut rest = bytes;
         'lines: while let Some(place) = memchr(b'\n', rest) {
@@ -183,11 +181,11 @@ impl Progress {
     ) -> Result<(), Stopped<O::Fault>>
         requires room { self.old.performer.written + longest_text ≤ most_counted_bytes }
         requires unbroken { All (λ byte. byte ≢ 10) bytes.now }
-        ensures after { OnOk result (GoesOn (intake self.old (bytes.now ++ 10 ∷ []) (W.contents writer.old) (W.contents writer.new)) self.new) }
+        ensures after { OnOk result (GoesOn self.old (bytes.now ++ 10 ∷ []) (W.contents writer.old) (W.contents writer.new) self.new) }
         ensures at_most { OnOk result (self.new.performer.written ≤ self.old.performer.written + longest_text) }
         ensures limits { limits self.new.performer.session ≡ limits self.old.performer.session }
         ensures identity { identity self.new.performer.session ≡ identity self.old.performer.session }
-        ensures fault { IfErr result (StopsDuring (intake self.old (bytes.now ++ 10 ∷ []) (W.contents writer.old) (W.contents writer.new))) }
+        ensures fault { IfErr result (StopsDuring self.old (bytes.now ++ 10 ∷ []) (W.contents writer.old) (W.contents writer.new)) }
     {
         if self.line.is_empty() {
             let line = before_line_feed(bytes);
@@ -232,11 +230,11 @@ impl Progress {
         observer: &mut O,
     ) -> Result<(), Stopped<O::Fault>>
         requires { self.old.performer.written + longest_text ≤ most_counted_bytes }
-        ensures after { OnOk result (GoesOn (intake self.old (10 ∷ []) (W.contents writer.old) (W.contents writer.new)) self.new) }
+        ensures after { OnOk result (GoesOn self.old (10 ∷ []) (W.contents writer.old) (W.contents writer.new) self.new) }
         ensures at_most { OnOk result (self.new.performer.written ≤ self.old.performer.written + longest_text) }
         ensures limits { limits self.new.performer.session ≡ limits self.old.performer.session }
         ensures identity { identity self.new.performer.session ≡ identity self.old.performer.session }
-        ensures fault { IfErr result (StopsDuring (intake self.old (10 ∷ []) (W.contents writer.old) (W.contents writer.new))) }
+        ensures fault { IfErr result (StopsDuring self.old (10 ∷ []) (W.contents writer.old) (W.contents writer.new)) }
     {
         self.performer
             .perform(rt, alloc, writer, self.line.at_line_feed(), observer)?;
@@ -247,7 +245,7 @@ impl Progress {
     /// Keeps bytes that have no line feed. Refused with `OutOfMemory`.
     fn keep(&mut self, bytes: &[u8]) -> Result<(), RunFault>
         requires { All (λ byte. byte ≢ 10) bytes.now }
-        ensures after { OnOk result ((holds : Option (List ℕ)) → GoesOn (intake self.old bytes.now holds holds) self.new) }
+        ensures after { OnOk result ((holds : Option (List ℕ)) → GoesOn self.old bytes.now holds holds self.new) }
         ensures same { self.new.performer ≡ self.old.performer }
         ensures fault { IfErr result (λ fault. fault ≡ RunFault.OutOfMemory) }
     {

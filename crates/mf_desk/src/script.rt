@@ -13,9 +13,6 @@ use std::alloc::Global;
 use std::io::{Read, Write};
 use std::sync::Wait;
 
-/// Size of the buffer for reads, in bytes.
-pub const CHUNK_SIZE: usize = 65_536;
-
 /// Reads a script to its end, line by line, and writes the transcript: the text of each line goes to the writer before the next
 /// line is performed, and the writer is flushed before each read and after the last text. The outcome is the font file of the
 /// characters that the script has shipped, and no record. Refused with `OutOfMemory`, `FileTooLong`, `ReadFault` or `WriteFault`;
@@ -39,9 +36,7 @@ pub fn run<S: Wait, R: Read, W: Write>(
     ensures too_small { settings.now.max_bytes < least_bytes → (result ≡ Err RunFault.FileTooLong) ⊎ (result ≡ Err RunFault.OutOfMemory) }
     ensures untouched { settings.now.max_bytes < least_bytes → (reader.new ≡ reader.old) × (writer.new ≡ writer.old) }
 {
-    // Memory for reads comes first: where it fails, nothing was read or written.
-    let mut memory = vec![in alloc; 0u8; CHUNK_SIZE]?;
     let (progress, _) = Progress::new(rt, alloc, settings, 0)?;
-    let ended = progress.complete(rt, alloc, reader, writer, memory.as_mut_slice())?;
+    let ended = progress.complete(rt, alloc, reader, writer)?;
     ended.conclude(rt, settings, Vec::new(alloc))
 }

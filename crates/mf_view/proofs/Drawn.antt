@@ -10,7 +10,7 @@ use Rattle.mf_live.specs.Prefixes.{IsWholePrefix}
 use Rattle.mf_live.proofs.EntryLists.{operations-append, revision_at-append, revision_at-whole}
 use Rattle.mf_live.proofs.WholePrefixes.{whole-self, whole-trans}
 use Rattle.mf_ops.specs.Operations.{revision_after}
-use Rattle.mf_view.specs.Drawings.{AreLooks, HasDrawn, IsPublishable, Rise, ShowsLast, frames, last_revision}
+use Rattle.mf_view.specs.Drawings.{AreLooks, HasDrawn, Rise, ShowsLast, frames, last_revision}
 use Rattle.mf_view.specs.Easels.{HasSameManner, Manner, drawing, looked_at_list, manner_of, revision_of}
 use Rattle.mf_view.specs.declared.easel.Easel.{Easel}
 
@@ -19,7 +19,7 @@ pub HasDrawn_nothing : (easel : Easel) (held : Option (List ℕ)) → revision_o
 HasDrawn_nothing easel held nothing = record {
   lists = [];
   text = Appends-nil held;
-  looks = record { rise = tt; seen = All-nil (λ (L : List Entry). IsWholePrefix L (looked_at_list easel)); published = All-nil IsPublishable };
+  looks = record { rise = tt; seen = All-nil (λ (L : List Entry). IsWholePrefix L (looked_at_list easel)) };
   last = nothing;
 }
 
@@ -41,10 +41,10 @@ Rise-more L (S ∷ lists) new looks = grind (arith, All-head, revision_at-whole)
 -- a frame of another revision goes after what was drawn
 pub HasDrawn_more : (before after : Easel) (held then holds : Option (List ℕ)) → looked_at_list after ≡ looked_at_list before
     → HasSameManner before after → revision_of before ≢ Some (revision_at (looked_at_list before))
-    → revision_of after ≡ Some (revision_at (looked_at_list before)) → IsPublishable (looked_at_list before)
+    → revision_of after ≡ Some (revision_at (looked_at_list before))
     → Appends then holds (drawing (manner_of before) (revision_of before) (looked_at_list before))
     → HasDrawn before (receipt held then) → HasDrawn after (receipt held holds)
-HasDrawn_more before after held then holds same manner new last published gets was =
+HasDrawn_more before after held then holds same manner new last gets was =
     let L = looked_at_list before in
     let gets_next = subst (λ d. Appends then holds (drawing (manner_of before) d L)) was.last gets in
     record {
@@ -53,7 +53,6 @@ HasDrawn_more before after held then holds same manner new last published gets w
       looks = subst (λ all. AreLooks all (L ∷ was.lists)) (sym same) (record {
         rise = Rise-more L was.lists (subst (λ d. d ≢ Some (revision_at L)) was.last new) was.looks;
         seen = All-cons (λ (S : List Entry). IsWholePrefix S L) L was.lists (whole-self L) was.looks.seen;
-        published = All-cons IsPublishable L was.lists published was.looks.published;
       });
       last = last;
     }

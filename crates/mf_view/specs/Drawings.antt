@@ -3,9 +3,7 @@ use Rattle.std.specs.Prelude.{◌≡◌, ◌<◌, ℕ, All, IfSome, List, [], �
 use Rattle.std.specs.Io.KnownBytes.{Appends}
 use Rattle.mf_base.specs.Messages.{Receipt, receipt}
 use Rattle.mf_live.specs.Entries.{Entry, picture_at, revision_at}
-use Rattle.mf_live.specs.Events.{Event}
 use Rattle.mf_live.specs.Prefixes.{IsWholePrefix}
-use Rattle.mf_live.specs.Viewers.{IsPublished}
 use Rattle.mf_view.specs.Easels.{Manner, drawing, looked_at_list, manner_of, revision_of}
 use Rattle.mf_view.specs.declared.easel.Easel.{Easel}
 
@@ -24,15 +22,10 @@ abbrev pub Rise : List (List Entry) → Type 0
 Rise [] = Unit {0}
 Rise (L ∷ earlier) = IfSome (last_revision earlier) (λ before. before < revision_at L) × Rise earlier
 
--- some events may happen that publish this list
-abbrev pub IsPublishable : List Entry → Type 0
-IsPublishable L = (events : List Event) × IsPublished events L
-
--- a viewer that has looked at a list may have looked at these up to then: whole prefixes of it that may be published, of rising revisions
+-- a viewer that has looked at a list may have looked at these up to then: whole prefixes of it, of rising revisions
 pub record AreLooks (whole : List Entry) (lists : List (List Entry)) : Type 0 where
   pub rise : Rise lists
   pub seen : All (λ L. IsWholePrefix L whole) lists
-  pub published : All IsPublishable lists
 
 -- an easel has drawn frames of what its viewer has looked at, and nothing else went to its screen
 pub record HasDrawn (easel : Easel) (screen : Receipt) : Type 0 where

@@ -6,7 +6,7 @@ use Rattle.mf_base.specs.Messages.{GetsFront, Receipt}
 use Rattle.mf_desk.specs.Streams.{Passes, Streams, streams}
 use Rattle.mf_desk.specs.declared.outcome.Outcome.{Outcome}
 use Rattle.mf_desk.specs.declared.settings.Settings.{Settings}
-use Rattle.mf_frame.specs.Canvases.{IsLargeEnough, size_in}
+use Rattle.mf_frame.specs.Canvases.{size_in}
 use Rattle.mf_frame.specs.declared.tile.Style.{Style}
 use Rattle.mf_frame.specs.declared.tile.Style.TheVariants.{Colored, Plain}
 use Rattle.mf_session.specs.States.{limits_of, most_bytes, most_operations}
@@ -16,7 +16,7 @@ use Rattle.mf_view.specs.Messages.{message_of, status_of}
 use Rattle.mf_view.specs.Performances.{Shows, TellsOfShow}
 use Rattle.mf_view.specs.declared.fault.ProgramFault.{ProgramFault}
 use Rattle.mf_view_words.specs.Requests.{IsRequest}
-use Rattle.mf_view_words.specs.Texts.{help_text, version_text}
+use Rattle.mf_view_words.specs.declared.texts.TheConstants.{HELP, VERSION}
 use Rattle.mf_view_words.specs.declared.words.Request.{Request}
 use Rattle.mf_view_words.specs.declared.words.Request.TheVariants.{Help, Show, Version}
 use Rattle.mf_view_words.specs.declared.words.Words.{Words}
@@ -50,8 +50,8 @@ pub record IsWatched (words : Words) (screen : Receipt) (s : Streams) : Type 0 w
 
 -- what was asked for is written: the help text, the version, or what a performance writes
 abbrev pub EndsAs : Request → Receipt → Streams → Type 0
-EndsAs Help screen s = (s.holds ≡ s.held) × Appends screen.held screen.holds help_text
-EndsAs Version screen s = (s.holds ≡ s.held) × Appends screen.held screen.holds version_text
+EndsAs Help screen s = (s.holds ≡ s.held) × Appends screen.held screen.holds HELP.now
+EndsAs Version screen s = (s.holds ≡ s.held) × Appends screen.held screen.holds VERSION.now
 EndsAs (Show words) screen s = IsWatched words screen s
 
 -- these are the words of a request, and what it asks for is written
@@ -70,9 +70,3 @@ pub record ReportsFault (words : List Text) (status : ℕ) (s : Streams) : Type 
   pub between : Option (List ℕ)
   pub message : GetsFront between s.holds (message_of fault)
   pub told : (asked : Words) → IsRequest words (Show asked) → EndsShow (transcript_in asked) fault (record s { holds = between })
-
--- these words ask for a script to be drawn in too few columns or rows
-pub record LacksRoom (words : List Text) : Type 0 where
-  pub asked : Words
-  pub request : IsRequest words (Show asked)
-  pub small : IsLargeEnough asked.columns asked.rows → ⊥

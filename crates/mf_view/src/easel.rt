@@ -5,7 +5,7 @@ ghost use Rattle.mf_base.specs.Messages.{receipt, receipt_of};
 ghost use Rattle.mf_live.specs.Entries.{is_closed, revision_at};
 ghost use Rattle.mf_live.specs.Sheets.{sheet_list};
 ghost use Rattle.mf_live.specs.Viewers as viewers;
-ghost use Rattle.mf_view.specs.Drawings.{Continues, DrawsMore, HasDrawn, IsPublishable, ShowsLast};
+ghost use Rattle.mf_view.specs.Drawings.{Continues, DrawsMore, HasDrawn, ShowsLast};
 ghost use Rattle.mf_view.specs.Easels.{HasSameManner, cursor_to_last_frame, drawing, identity, looked_at_list};
 ghost use Rattle.mf_view.specs.Easels.{manner, manner_of, revision_of};
 
@@ -115,8 +115,7 @@ impl Easel {
         screen: &mut W,
         sheet: &Sheet,
     ) -> Result<Option<u32>, RunFault>
-        requires list { sheet_list sheet.now ≡ looked_at_list self.old }
-        requires published { IsPublishable (looked_at_list self.old) }
+        requires { sheet_list sheet.now ≡ looked_at_list self.old }
         ensures viewer { self.new.viewer ≡ self.old.viewer }
         ensures manner { HasSameManner self.old self.new }
         ensures last { OnOk result (revision_of self.new ≡ Some (revision_at (looked_at_list self.new))) }

@@ -1,11 +1,9 @@
-//! The font file: its numbers, and how it is written.
+//! The numbers of the font file.
 ghost use Rattle.std.specs.Prelude.{◌≡◌, ◌≤◌, pos};
 ghost use Rattle.mf_view.specs.Fonts.{font_words, pixels_per_point};
-ghost use Rattle.mf_view_words.specs.Ranges.{greatest_design_size, greatest_resolution};
+ghost use Rattle.mf_view_words.specs.CommandLine.{greatest_design_size, greatest_resolution};
 
-use mf_desk::RunFault;
-use mf_gf::{FontWords, GfBytes};
-use std::rt::Files;
+use mf_gf::FontWords;
 
 /// Units of the design size in a point (gftype.web).
 const UNITS_PER_POINT: u32 = 1_048_576;
@@ -33,13 +31,4 @@ fn pixels_per_point(resolution: u32) -> i32
 {
     // The integer nearest to n / d is (2 * n + d) / (2 * d), where n is resolution * 65536 * 100 and d is 7227.
     ((resolution as u64 * 13_107_200 + 7_227) / 14_454) as i32
-}
-
-/// Writes a font file, and replaces what was there. Refused with `WriteFault` where it cannot be created, or not be written to its
-/// end, or not be stored.
-pub fn write_font<S: Files>(rt: &S, path: &str, file: &GfBytes) -> Result<(), RunFault> {
-    match file.write_file(rt, path) {
-        Ok(()) => Ok(()),
-        Err(fault) => Err(RunFault::WriteFault(fault.0)),
-    }
 }

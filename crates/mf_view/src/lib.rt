@@ -5,7 +5,6 @@
 mod easel;
 mod fault;
 mod font;
-pub mod laws;
 mod observer;
 mod pace;
 mod performance;

@@ -1,13 +1,12 @@
 //! The performance of a script beside the viewer that draws its picture.
-ghost use Rattle.std.specs.Prelude.{◌≡◌, ◌<◌, ◌≤◌, [], ℕ, IfErr, IfOk, IsOk, List, OnOk, Option, length};
+ghost use Rattle.std.specs.Prelude.{◌≡◌, ℕ, IfErr, IfOk, IsOk, List, OnOk, Option};
 ghost use Rattle.std.specs.Io.KnownBytes.{IsAtEnd};
 ghost use denote.Param.Send.{IsSync, IsSend};
 ghost use Rattle.mf_base.specs.Messages.{receipt, receipt_of};
 ghost use Rattle.mf_desk.specs.EndedRuns.{EndsWith};
 ghost use Rattle.mf_desk.specs.Faults.{Stops};
 ghost use Rattle.mf_desk.specs.Performances.{run_limits};
-ghost use Rattle.mf_desk.specs.Performer.{longest_read};
-ghost use Rattle.mf_desk.specs.Progress.{IsAfter, ReadsThrough};
+ghost use Rattle.mf_desk.specs.Progress.{HasReadNothing, ReadsThrough};
 ghost use Rattle.mf_desk.specs.Streams.{Passes, Streams, streams};
 ghost use Rattle.mf_live.specs.Writers.{ended_identity, ended_published_list};
 ghost use Rattle.mf_session.specs.Sessions as sessions;
@@ -21,7 +20,7 @@ use crate::fault::ProgramFault;
 use crate::observer::{PlateWriter, write_plate};
 use crate::pace::Pace;
 use crate::plate::Plates;
-use mf_desk::{CHUNK_SIZE, EndedRun, Outcome, Progress, RunFault, Settings, Stopped};
+use mf_desk::{EndedRun, Outcome, Progress, RunFault, Settings, Stopped};
 use mf_frame::{Canvas, Style};
 use std::alloc::Global;
 use std::io::{Read, Write};
@@ -79,8 +78,6 @@ pub fn perform<
         Passes (streams (R.remaining reader.old) (R.remaining reader.new) (T.contents transcript.old) (T.contents transcript.new))
         (TellsOfShow (run_limits settings.now) fault)) }
 {
-    // Memory for reads comes first: where it fails, nothing was read or written.
-    let mut memory = vec![in alloc; 0u8; CHUNK_SIZE]?;
     let (progress, mut desk) = Progress::new(rt, alloc, settings, 1)?;
     let Showing {
         canvas,
@@ -90,10 +87,8 @@ pub fn perform<
     match desk.viewer() {
         Ok(viewer) => {
             let easel = Easel::new(viewer, canvas, style);
-            let chunk = memory.as_mut_slice();
             show(
-                rt, alloc, progress, easel, plates, reader, screen, transcript, pace, chunk,
-                settings,
+                rt, alloc, progress, easel, plates, reader, screen, transcript, pace, settings,
             )
         }
         Err(_) => {
@@ -104,7 +99,7 @@ pub fn perform<
 }
 
 /// Performs the script while an easel that has drawn nothing draws its picture. The blank picture is drawn before the thread starts, so
-/// that the first frame is the same in every order of the threads. `chunk` is the buffer for reads.
+/// that the first frame is the same in every order of the threads.
 fn show<S: Wait + Threads + Files + Sync, R: Read, W: Write + Send, T: Write, P: Pace + Sync>(
     rt: &S,
     alloc: Global,
@@ -115,15 +110,11 @@ fn show<S: Wait + Threads + Files + Sync, R: Read, W: Write + Send, T: Write, P:
     screen: &mut W,
     transcript: &mut T,
     pace: &P,
-    chunk: &mut [u8],
     settings: &Settings,
 ) -> Result<Outcome, ProgramFault>
     requires identity { identity easel ≡ sessions.identity progress.performer.session }
     requires limits { sessions.limits progress.performer.session ≡ run_limits settings.now }
-    requires start { (held : Option (List ℕ)) → IsAfter held [] progress held }
-    requires unwritten { progress.performer.written ≡ 0 }
-    requires some { 0 < length chunk.old }
-    requires few { length chunk.old ≤ longest_read }
+    requires start { HasReadNothing progress }
     requires blank { (held : Option (List ℕ)) → HasDrawn easel (receipt held held) }
     ensures shown { IfOk result (λ outcome.
         Shows settings.now (manner_of easel) (receipt_of W.contents screen.old screen.new) outcome
@@ -146,7 +137,6 @@ fn show<S: Wait + Threads + Files + Sync, R: Read, W: Write + Send, T: Write, P:
         screen,
         transcript,
         pace,
-        chunk,
     );
     match performed {
         Ok(()) => end(rt, alloc, progress, easel, &plates, screen, drawn, settings),
@@ -176,12 +166,8 @@ fn perform_beside<
     screen: &mut W,
     transcript: &mut T,
     pace: &P,
-    chunk: &mut [u8],
 ) -> Sides
-    requires start { (held : Option (List ℕ)) → IsAfter held [] progress.old held }
-    requires unwritten { progress.old.performer.written ≡ 0 }
-    requires some { 0 < length chunk.old }
-    requires few { length chunk.old ≤ longest_read }
+    requires { HasReadNothing progress.old }
     ensures viewer { identity easel.new ≡ identity easel.old }
     ensures manner { HasSameManner easel.old easel.new }
     ensures drawn { OnOk result.drawn (IsOk first × DrawsMore easel.old easel.new (receipt_of W.contents screen.old screen.new)) }
@@ -213,10 +199,7 @@ fn perform_beside<
             easel.draw_on(rt, alloc, screen, pace, &ended)
         },
         &mut || -> Result<(), Stopped<ProgramFault>>
-            requires start { (held : Option (List ℕ)) → IsAfter held [] progress.now held }
-            requires unwritten { progress.now.performer.written ≡ 0 }
-            requires some { 0 < length chunk.now }
-            requires few { length chunk.now ≤ longest_read }
+            requires { HasReadNothing progress.now }
             ensures identity { sessions.identity progress.exit.now.performer.session ≡ sessions.identity progress.entry.now.performer.session }
             ensures limits { sessions.limits progress.exit.now.performer.session ≡ sessions.limits progress.entry.now.performer.session }
             ensures end { OnOk result (IsAtEnd (R.remaining reader.exit.now)) }
@@ -225,7 +208,7 @@ fn perform_beside<
             ensures stopped { IfErr result (λ stop. Passes (streams (R.remaining reader.entry.now) (R.remaining reader.exit.now)
                 (T.contents transcript.entry.now) (T.contents transcript.exit.now)) (Stops (sessions.limits progress.entry.now.performer.session) stop)) }
         {
-            let performed = progress.read_all(rt, alloc, reader, transcript, chunk, &mut observer);
+            let performed = progress.read_all(rt, alloc, reader, transcript, &mut observer);
             ended.store(true, Ordering::SeqCst);
             performed
         },

@@ -1,28 +1,25 @@
 //! The program that `main` calls: from its words and streams to its exit status.
 ghost use Rattle.std.specs.Io.KnownBytes.{Appends};
-ghost use Rattle.std.specs.Prelude.{◌≡◌, ◌≤◌, ◌⊎◌, ◌↔◌, Err, IfErr, IfOk, IsOk, OnOk, option_map, string_bytes};
+ghost use Rattle.std.specs.Prelude.{◌≡◌, ◌⊎◌, IfErr, IfOk, OnOk, option_map, string_bytes};
 ghost use Rattle.mf_base.specs.Messages.{GetsFront, receipt_of};
 ghost use Rattle.mf_desk.specs.Performances.{run_limits};
 ghost use Rattle.mf_desk.specs.Streams.{Passes, streams};
-ghost use Rattle.mf_frame.specs.Canvases.{IsLargeEnough, size_in};
 ghost use Rattle.mf_options.specs.Values.{texts_of};
 ghost use Rattle.mf_view.specs.Easels.{manner};
-ghost use Rattle.mf_view.specs.Endings.{EndsShow, Fulfils, IsWatched, LacksRoom, ReportsFault, WithTranscript};
-ghost use Rattle.mf_view.specs.Endings.{settings_with, style_in, transcript_in};
+ghost use Rattle.mf_view.specs.Endings.{EndsShow, Fulfils, IsWatched, ReportsFault, WithTranscript, style_in, transcript_in};
 ghost use Rattle.mf_view.specs.Messages.{message_of, status_of, usage};
 ghost use Rattle.mf_view.specs.Performances.{Shows, TellsOfShow};
 ghost use Rattle.mf_view.specs.declared.fault.ProgramFault.{ProgramFault};
-ghost use Rattle.mf_view_words.specs.Ranges.{greatest_design_size, greatest_resolution};
 ghost use Rattle.mf_view_words.specs.Requests.{IsCommandLine, IsWordsInRange};
 
 use crate::easel::send;
 use crate::fault::ProgramFault;
-use crate::font::{font_words, write_font};
+use crate::font::font_words;
 use crate::pace::{Pace, Timed};
 use crate::performance::{Showing, perform};
 use crate::plate::Plates;
-use mf_desk::{Outcome, RunFault, Settings};
-use mf_frame::{Canvas, Style, TooSmall};
+use mf_desk::{Outcome, RunFault, Settings, write_font};
+use mf_frame::{Canvas, Style};
 use mf_options::{BAD_WORDS, DONE, STREAM_FAULT, WANTING, WordsFault, refuse_words, report_fault};
 use mf_session::{MAX_BYTES, MAX_OPS};
 use mf_view_words::{HELP, Request, USAGE, VERSION, Words, read_words};
@@ -55,10 +52,6 @@ pub fn program<S: Wait + Threads + Files + Clock + Sync, R: Read, W: Write + Sen
     ensures refused { (IsCommandLine (texts_of words) → ⊥)
         → ((result ≡ BAD_WORDS) ⊎ (result ≡ WANTING)) × (reader.new ≡ reader.old) × (screen.new ≡ screen.old) }
     ensures usage { result ≡ BAD_WORDS → GetsFront (E.contents errors.old) (E.contents errors.new) usage }
-    ensures too_small { IsCommandLine (texts_of words) → LacksRoom (texts_of words)
-        → ((result ≡ TOO_SMALL) ⊎ ((result ≡ WANTING)
-        × GetsFront (E.contents errors.old) (E.contents errors.new) (message_of (ProgramFault.Run RunFault.OutOfMemory))))
-        × (reader.new ≡ reader.old) × (screen.new ≡ screen.old) }
     ensures done { result ≡ DONE → Fulfils (texts_of words) (receipt_of W.contents screen.old screen.new)
         (streams (R.remaining reader.old) (R.remaining reader.new) (E.contents errors.old) (E.contents errors.new)) }
     ensures fault { (result ≡ STREAM_FAULT) ⊎ (result ≡ WANTING) ⊎ (result ≡ TOO_SMALL) → ReportsFault (texts_of words) result
@@ -91,8 +84,6 @@ fn watch<S: Wait + Threads + Files + Clock + Sync, R: Read, W: Write + Send, E: 
     requires { IsWordsInRange words }
     ensures done { OnOk result (IsWatched words (receipt_of W.contents screen.old screen.new)
         (streams (R.remaining reader.old) (R.remaining reader.new) (E.contents errors.old) (E.contents errors.new))) }
-    ensures too_small { (IsLargeEnough words.columns words.rows → ⊥)
-        → (result ≡ Err ProgramFault.TooSmall) × (reader.new ≡ reader.old) × (screen.new ≡ screen.old) }
     ensures fault { IfErr result (λ fault. EndsShow (transcript_in words) fault
         (streams (R.remaining reader.old) (R.remaining reader.new) (E.contents errors.old) (E.contents errors.new))) }
 {
@@ -108,8 +99,16 @@ fn watch<S: Wait + Threads + Files + Clock + Sync, R: Read, W: Write + Send, E: 
         design_size,
         resolution,
     } = words;
-    let showing = showing(columns, rows, frames, plates, pgm)?;
-    let settings = settings(design_size, resolution);
+    let showing = Showing {
+        canvas: Canvas::new(columns, rows)?,
+        style: style(frames),
+        plates: plates.map(|folder| Plates { folder, pgm }),
+    };
+    let settings = Settings {
+        max_ops: MAX_OPS,
+        max_bytes: MAX_BYTES,
+        font: font_words(design_size, resolution),
+    };
     let pace = Timed { clock: rt, pause };
     let Outcome { gf: made, .. } = perform_into(
         rt, alloc, reader, screen, errors, &pace, showing, &settings, transcript,
@@ -123,44 +122,11 @@ fn watch<S: Wait + Threads + Files + Clock + Sync, R: Read, W: Write + Send, E: 
     }
 }
 
-/// How the words ask for a script to be shown. Refused with `TooSmall` where the terminal is too small.
-fn showing(
-    columns: u32,
-    rows: u32,
-    frames: bool,
-    plates: Option<String>,
-    pgm: bool,
-) -> Result<Showing, TooSmall>
-    ensures accepted { IsOk result ↔ IsLargeEnough columns rows }
-    ensures asked { IfOk result (λ made. (made.style ≡ style_in frames) × (made.canvas ≡ size_in columns rows)) }
-    ensures plates { IfOk result (λ made. made.plates ≡ option_map (λ folder. record { folder = folder; pgm = pgm }) plates) }
-{
-    let canvas = Canvas::new(columns, rows)?;
-    Ok(Showing {
-        canvas,
-        style: style(frames),
-        plates: plates.map(|folder| Plates { folder, pgm }),
-    })
-}
-
 /// The style of the frames, which follow one another where `frames` is set.
 fn style(frames: bool) -> Style
     ensures { result ≡ style_in frames }
 {
     if frames { Style::Plain } else { Style::Colored }
-}
-
-/// The limits of a script, and the numbers of its font.
-fn settings(design_size: u32, resolution: u32) -> Settings
-    requires points { design_size ≤ greatest_design_size }
-    requires dots { resolution ≤ greatest_resolution }
-    ensures { result ≡ settings_with design_size resolution }
-{
-    Settings {
-        max_ops: MAX_OPS,
-        max_bytes: MAX_BYTES,
-        font: font_words(design_size, resolution),
-    }
 }
 
 /// Performs and draws the script, with the transcript in a file where a path is given, and else in the stream of messages.

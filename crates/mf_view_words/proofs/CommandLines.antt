@@ -1,30 +1,19 @@
 -- The command line has plain options only, and the words give numbers and flags to them.
-use Rattle.std.proofs.Common.{◌≡◌, List, codes, refl, subst, true}
-use Rattle.clap.specs.Words.{App, Row, is_simple_and_free}
-use Rattle.clap.specs.declared.builder.value_parser.ValueParser.TheVariants.{Bool as flag}
+use Rattle.std.proofs.Common.{◌≡◌, ◌<◌, ◌^◌, ℕ, IfSome, List, refl, subst, true}
+use Rattle.clap.specs.Words.{App, Row, Text, is_simple_and_free, one_of}
+use Rattle.mf_options.proofs.ValuesTyped.{is_number}
 use Rattle.mf_options.specs.Options.{number_parser}
-use Rattle.mf_options.specs.Values.{AreValuesOf}
+use Rattle.mf_options.specs.Values.{AreValuesOf, IsNumber, is_option}
 use Rattle.mf_view_words.specs.CommandLine.{mfview, rules}
-use Rattle.mf_view_words.specs.Ranges.{greatest_columns, greatest_design_size, greatest_pause, greatest_resolution, greatest_rows}
-use Rattle.mf_view_words.specs.Values.{HasReadableValues}
 
 pub mfview_is_plain : is_simple_and_free mfview ≡ true
 unfolding mfview
 mfview_is_plain = refl
 
-pub readable : (app : App) (found : List Row) → app ≡ mfview → AreValuesOf app.top.rules found → HasReadableValues found
+pub values_given : (app : App) (found : List Row) → app ≡ mfview → AreValuesOf app.top.rules found → AreValuesOf rules found
 unfolding mfview
-readable app found same values = go (subst (λ (a : App). AreValuesOf a.top.rules found) same values)
-  where
-    go : AreValuesOf rules found → HasReadableValues found
-    go of = record {
-      columns = of (codes "columns") (number_parser 1 greatest_columns) refl;
-      rows = of (codes "rows") (number_parser 1 greatest_rows) refl;
-      pause = of (codes "pause") (number_parser 0 greatest_pause) refl;
-      design_size = of (codes "design-size") (number_parser 0 greatest_design_size) refl;
-      resolution = of (codes "resolution") (number_parser 0 greatest_resolution) refl;
-      frames = of (codes "frames") flag refl;
-      pgm = of (codes "pgm") flag refl;
-      help = of (codes "asks-help") flag refl;
-      version = of (codes "asks-version") flag refl;
-    }
+values_given app found same values = subst (λ (a : App). AreValuesOf a.top.rules found) same values
+
+pub number_given : (found : List Row) → AreValuesOf rules found → (id : Text) (low high : ℕ) → is_option rules id (number_parser low high) ≡ true
+    → high < 2 ^ 32 → IfSome (one_of id found) IsNumber
+number_given found values id low high is fits = is_number low high (one_of id found) fits (values id (number_parser low high) is)

@@ -1,14 +1,21 @@
 -- The command line of the program, as clap reads it.
-use Rattle.std.specs.Prelude.{List, [], ◌∷◌, codes, fold}
+use Rattle.std.specs.Prelude.{ℕ, List, [], ◌∷◌, codes, fold}
 use Rattle.clap.specs.Words.{App, Rule, new_app, with_rule}
 use Rattle.mf_options.specs.Options.{file_rule, flag_rule, number_rule, without_flags}
-use Rattle.mf_view_words.specs.Ranges.{greatest_columns, greatest_design_size, greatest_pause, greatest_resolution, greatest_rows}
+
+-- the greatest design size in points, and resolution in dots per inch (here as well as in the code, so that a wrong number there is not
+-- proved)
+abbrev pub greatest_design_size : ℕ
+greatest_design_size = 2047
+
+abbrev pub greatest_resolution : ℕ
+greatest_resolution = 100000
 
 -- the options and flags
 abbrev pub rules : List Rule
-rules = number_rule (codes "columns") 1 greatest_columns
-    ∷ number_rule (codes "rows") 1 greatest_rows
-    ∷ number_rule (codes "pause") 0 greatest_pause
+rules = number_rule (codes "columns") 1 1000
+    ∷ number_rule (codes "rows") 1 1000
+    ∷ number_rule (codes "pause") 0 60000
     ∷ number_rule (codes "design-size") 0 greatest_design_size
     ∷ number_rule (codes "resolution") 0 greatest_resolution
     ∷ file_rule (codes "transcript")

@@ -1,5 +1,2 @@
 pub mod CommandLine
-pub mod Ranges
 pub mod Requests
-pub mod Texts
-pub mod Values

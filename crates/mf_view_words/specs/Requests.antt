@@ -2,9 +2,7 @@
 use Rattle.std.specs.Prelude.{◌≡◌, ◌≤◌, ◌&&◌, Bool, List, [], codes, false, is_some, not, option_map, string_bytes, true}
 use Rattle.clap.specs.Words.{Row, Text, fault_of, matches_of}
 use Rattle.mf_options.specs.Values.{file_in, has_flag, number_in}
-use Rattle.mf_view_words.specs.CommandLine.{mfview}
-use Rattle.mf_view_words.specs.Ranges.{default_columns, default_rows}
-use Rattle.mf_view_words.specs.Ranges.{greatest_columns, greatest_design_size, greatest_pause, greatest_resolution, greatest_rows}
+use Rattle.mf_view_words.specs.CommandLine.{greatest_design_size, greatest_resolution, mfview}
 use Rattle.mf_view_words.specs.declared.words.Request.{Request}
 use Rattle.mf_view_words.specs.declared.words.Request.TheVariants.{Help, Show, Version}
 use Rattle.mf_view_words.specs.declared.words.Words.{Words}
@@ -19,8 +17,8 @@ IsCommandLine words = (fault_of mfview words ≡ []) × (lacks_plates (matches_o
 
 -- each value is what the words give, or the default
 pub record AreWords (found : List Row) (asked : Words) : Type 0 where
-  pub columns : asked.columns ≡ number_in found (codes "columns") default_columns
-  pub rows : asked.rows ≡ number_in found (codes "rows") default_rows
+  pub columns : asked.columns ≡ number_in found (codes "columns") 80
+  pub rows : asked.rows ≡ number_in found (codes "rows") 24
   pub pause : asked.pause ≡ number_in found (codes "pause") 0
   pub frames : asked.frames ≡ has_flag found (codes "frames")
   pub transcript : option_map string_bytes asked.transcript ≡ file_in found (codes "transcript")
@@ -41,11 +39,8 @@ IsRequestIn found (Show asked) =
 abbrev pub IsRequest : List Text → Request → Type 0
 IsRequest words = IsRequestIn (matches_of mfview words)
 
--- the numbers are in their ranges
+-- the numbers of the font are in their ranges
 pub record IsWordsInRange (asked : Words) : Type 0 where
-  pub columns : (1 ≤ asked.columns) × (asked.columns ≤ greatest_columns)
-  pub rows : (1 ≤ asked.rows) × (asked.rows ≤ greatest_rows)
-  pub pause : asked.pause ≤ greatest_pause
   pub design_size : asked.design_size ≤ greatest_design_size
   pub resolution : asked.resolution ≤ greatest_resolution
 

@@ -1,9 +1,9 @@
 //! The words of the command line, and what they ask for.
 ghost use Rattle.std.specs.Prelude.{IfOk, IsErrOf, OnOk};
 ghost use Rattle.clap.specs.Words.{found_of, rows_of};
-ghost use Rattle.mf_options.specs.Values.{texts_of};
+ghost use Rattle.mf_options.specs.Values.{AreValuesOf, texts_of};
+ghost use Rattle.mf_view_words.specs.CommandLine.{rules};
 ghost use Rattle.mf_view_words.specs.Requests.{AreWords, IsCommandLine, IsRequestInRange, IsRequest, IsRequestIn, IsWordsInRange};
-ghost use Rattle.mf_view_words.specs.Values.{HasReadableValues};
 
 use crate::options::command;
 use clap::ArgMatches;
@@ -66,7 +66,7 @@ pub fn read_words(alloc: Global, words: Vec<String>) -> Result<Request, WordsFau
 
 /// The request of words whose values are these.
 fn request_for(matches: &ArgMatches<'_>, asked: Words) -> Request
-    requires readable { HasReadableValues (rows_of (found_of matches.now)) }
+    requires readable { AreValuesOf rules (rows_of (found_of matches.now)) }
     requires values { AreWords (rows_of (found_of matches.now)) asked }
     requires bounded { IsWordsInRange asked }
     ensures value { IsRequestIn (rows_of (found_of matches.now)) result }
@@ -83,7 +83,7 @@ fn request_for(matches: &ArgMatches<'_>, asked: Words) -> Request
 
 /// The values that the words give, or the defaults.
 fn words_in(alloc: Global, matches: &ArgMatches<'_>) -> Result<Words, AllocError>
-    requires readable { HasReadableValues (rows_of (found_of matches.now)) }
+    requires { AreValuesOf rules (rows_of (found_of matches.now)) }
     ensures values { IfOk result (AreWords (rows_of (found_of matches.now))) }
     ensures range { IfOk result IsWordsInRange }
 {

@@ -2,7 +2,6 @@
 use Rattle.std.specs.Prelude.{◌≡◌, ◌⊎◌, ◌≤◌, ◌+◌, ℕ, All, List, Vec, [], ◌∷◌, ◌++◌, length, vec_capacity}
 use Rattle.std.specs.declared.alloc.Global.{Global}
 use Rattle.logbook.specs.Pages.{Book}
-use Rattle.mf_live.specs.Events.{Event}
 use Rattle.mf_live.specs.Entries.{Entry, picture_at, revision_at}
 use Rattle.mf_live.specs.Prefixes.{IsWholePrefix}
 use Rattle.mf_live.specs.Viewers as viewers
@@ -15,11 +14,9 @@ use Rattle.mf_watch.specs.declared.watcher.Watcher.{Watcher}
 abbrev pub glance_at : List Entry → Glance
 glance_at L = record { revision = revision_at L; total = total_of (picture_at L) }
 
--- the glance is at a list that some events had published, and that is a whole prefix of the other list
+-- the glance is at a whole prefix of this list
 pub record IsGlance (whole : List Entry) (g : Glance) : Type 0 where
   pub list : List Entry
-  pub events : List Event
-  pub published : viewers.IsPublished events list
   pub prefix : IsWholePrefix list whole
   pub is : g ≡ glance_at list
 

@@ -7,8 +7,8 @@ ghost use Rattle.mf_desk.specs.Streams.{streams};
 use super::fonts::NO_WORDS;
 use crate::tests::assertions::assert_same;
 use mf_desk::{
-    CHUNK_SIZE, Effect, EndedRun, Gate, Glance, Observer, OpenGate, Outcome, PerformedLine,
-    Progress, RunFault, Session, Settings, Stopped, perform, run,
+    Effect, EndedRun, Gate, Glance, Observer, OpenGate, Outcome, PerformedLine, Progress, RunFault,
+    Session, Settings, Stopped, perform, run,
 };
 use mf_gf::GfBytes;
 use std::alloc::Global;
@@ -183,7 +183,6 @@ const OBSERVED: &[u8] = b"publish\nshipout a code 0 dx 0 width 0\nshow\n\nshow t
 fn observe<S: Abort + Wait>(rt: &S, alloc: Global, last: u64) -> (u64, Option<u64>, Vec<u8>) {
     let (mut reader, mut writer): (&[u8], Vec<u8>) = (OBSERVED, Vec::new(alloc));
     let mut notes = Notes { digits: 0, last };
-    let mut chunk = vec![in alloc; 0u8; CHUNK_SIZE].expect(rt, "there is room for a read");
     let (mut progress, _) = Progress::new(rt, alloc, &SETTINGS, 0).expect(
         rt,
         "there is room for a run",
@@ -193,7 +192,6 @@ fn observe<S: Abort + Wait>(rt: &S, alloc: Global, last: u64) -> (u64, Option<u6
         alloc,
         &mut reader,
         &mut writer,
-        chunk.as_mut_slice(),
         &mut notes,
     );
     match stopped {

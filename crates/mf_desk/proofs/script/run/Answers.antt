@@ -2,12 +2,8 @@ use Rattle.std.proofs.Common.{arith}
 use Rattle.std.proofs.lemmas.List.Elements.{All-nil}
 use Rattle.std.proofs.lemmas.Result.{IfErr-weaker, IfOk-weaker, on_ok_weaker}
 use Rattle.mf_base.proofs.Faults.{IfErr-raised}
-use Rattle.mf_desk.proofs.Performances.{TellsOfRun-nothing, TellsOfRun-script, TellsOfRun-unstarted}
+use Rattle.mf_desk.proofs.Performances.{TellsOfRun-script, TellsOfRun-unstarted}
 use Rattle.mf_desk.proofs.script.run.Goals as goal
-
-pub returns-in_err-memory-clause-fault : goal.returns-in_err-memory-clause-fault
-returns-in_err-memory-clause-fault g c =
-    IfErr-raised c.from_residual.result _ c.from_residual.ensures.1 (TellsOfRun-nothing c.args.settings.now 0 _ _)
 
 pub returns-in_err-progress-clause-fault : goal.returns-in_err-progress-clause-fault
 returns-in_err-progress-clause-fault g c = grind (arith, IfErr-raised, TellsOfRun-unstarted)

@@ -3,9 +3,6 @@ use Rattle.mf_base.proofs.Faults.{IfErr-raised}
 use Rattle.mf_view.proofs.Shown.{nothing_is_told}
 use Rattle.mf_view.proofs.performance.perform.Goals as goal
 
-pub returns-in_err-memory-clause-fault : goal.returns-in_err-memory-clause-fault
-returns-in_err-memory-clause-fault g c = grind (arith, IfErr-raised, nothing_is_told)
-
 pub returns-in_err-progress-clause-fault : goal.returns-in_err-progress-clause-fault
 returns-in_err-progress-clause-fault g c = grind (arith, IfErr-raised, nothing_is_told)
 

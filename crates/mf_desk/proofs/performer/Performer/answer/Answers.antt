@@ -3,6 +3,8 @@ use Rattle.std.specs.Io.KnownBytes.{Appends}
 use Rattle.std.proofs.KnownBytes.{Appends-nil}
 use Rattle.std.proofs.lemmas.Bool.{eqb-true}
 use Rattle.std.proofs.lemmas.List.{length-take-le, nil_from_length}
+use Rattle.std.proofs.lemmas.Result.{IfOk-weaker}
+use Rattle.mf_text.proofs.Registers.{names_given}
 use Rattle.mf_text.specs.Grammar.{Nothing as NoForm}
 use Rattle.mf_text.specs.Tokens.{tokens_from, tokens_within}
 use Rattle.mf_text.specs.declared.command.Command.TheVariants.{Nothing}
@@ -68,3 +70,6 @@ returns-clause-fault g c =
     (answered.next, rw (take-append-drop count text, c.as_slice.ensures.value) answered.answer) in
     let counted = length-take-le count text (omega (arith, c.in-Err.ensures.within)) in
     (take count text, c.in-Err.ensures.front, (count, omega arith, (counted, drop count text, prints)))
+
+pub answer_to-requires : goal.answer_to-requires
+answer_to-requires g c = IfOk-weaker c.read_command-read.result _ _ (names_given c.args.line.now) c.read_command-read.ensures.given

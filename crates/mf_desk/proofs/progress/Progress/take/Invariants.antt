@@ -1,6 +1,6 @@
 use Rattle.std.proofs.Common.{◌≡◌, ◌+◌, ◌*◌, ◌≤◌, ◌++◌, List, ℕ, length}
 use Rattle.mf_desk.specs.Performer.{longest_text}
-use Rattle.mf_desk.specs.Progress.{GoesOn, intake}
+use Rattle.mf_desk.specs.Progress.{GoesOn}
 use Rattle.mf_session.specs.Sessions.{identity, limits}
 use Rattle.mf_desk.proofs.progress.Progress.take.Given as goal
 
@@ -9,7 +9,7 @@ invariant-lines g l =
     (done : List ℕ)
     × (l.bytes ≡ done ++ l.rest)
     × (l.self.performer.written ≤ l.initial.self.performer.written + length done * longest_text)
-    × GoesOn (intake l.initial.self done (g.W.Write.contents l.initial.writer) (g.W.Write.contents l.writer)) l.self
+    × GoesOn l.initial.self done (g.W.Write.contents l.initial.writer) (g.W.Write.contents l.writer) l.self
     × (limits l.self.performer.session ≡ limits l.initial.self.performer.session)
     × (identity l.self.performer.session ≡ identity l.initial.self.performer.session)
 

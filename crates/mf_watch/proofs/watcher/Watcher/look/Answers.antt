@@ -14,7 +14,7 @@ returns-clause-watcher g c = λ picture looks more before.
     let old = c.args.self.seen.items in
     let L = viewers.shown_list c.in-Ok.held in
     let pushed = returns-clause-shown g c ∙ ap (λ list. old ++ glance_at list ∷ []) c.leave.ensures.looked in
-    let seen = AreGlances-push _ L _ looks old c.in-Ok.ensures.published c.in-Ok.ensures.extends.seen before.record_is in
+    let seen = AreGlances-push _ L looks old c.in-Ok.ensures.extends.seen before.record_is in
     record {
       identity_is = c.leave.ensures.identity ∙ c.in-Ok.ensures.identity ∙ before.identity_is;
       record_is = subst (λ list. AreGlances list (looks + 1) c.push.new.self.items) (sym c.leave.ensures.seen)

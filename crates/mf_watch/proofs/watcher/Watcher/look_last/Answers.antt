@@ -11,6 +11,6 @@ returns-clause-seen c = λ looks record_is.
     let glance = c.of-glance.ensures ∙ glance-of L _ _ (c.revision.ensures ∙ ap revision_at c.in_ok-sheet.ensures.sheet.1)
     (c.picture.ensures ∙ ap picture_at c.in_ok-sheet.ensures.sheet.1) in
     let pushed = c.in-Ok.ensures.items ∙ ap (λ g. c.args.self.now.seen.items ++ g ∷ []) glance in
-    let seen = HasSeen-push (viewers.seen_list c.args.self.now.viewer) L _ looks c.args.self.now.seen.items
-    c.in_ok-sheet.ensures.looked.published c.in_ok-sheet.ensures.extends.seen record_is in
+    let seen = HasSeen-push (viewers.seen_list c.args.self.now.viewer) L looks c.args.self.now.seen.items
+    c.in_ok-sheet.ensures.extends.seen record_is in
     subst (λ gs. HasSeen L looks gs) (sym pushed) seen
