@@ -24,7 +24,8 @@ a document run in order in one copy of the repository, each in a shell of its ow
 A relative link must lead to a file of the repository, and to a heading of it where an anchor is named. A word in backquotes
 that has a slash and ends like a source, or in a slash, must be a file or folder. Every document must be linked from README.md
 or from one that is; README.md must be short; no file may name a path that documents had before; only docs/user/LANGUAGE.md has
-the numbers of refusals; and no placeholder may be left.
+the numbers of refusals; only README.md and CONTRIBUTING.md have numbers of minutes, which are those of bench/times.tsv; and no
+placeholder may be left.
 
 Each fault is a line `FILE:LINE: what is wrong`. The last line counts the commands, quotations and links that passed.
 With --self-test the checks are tried on small repositories with one fault each, which must be found.
@@ -48,7 +49,7 @@ from collections.abc import Callable, Iterable, Iterator, Mapping
 ROOT = pathlib.Path(__file__).resolve().parent.parent
 PROGRAM = "crates/mfpic/out/mfpic"
 PROGRAMS = (PROGRAM, "crates/mfview/out/mfview")
-README, LANGUAGE = "README.md", "docs/user/LANGUAGE.md"
+README, LANGUAGE, CONTRIBUTING, TIMES = "README.md", "docs/user/LANGUAGE.md", "docs/work/CONTRIBUTING.md", "bench/times.tsv"
 # Lines that README.md may have, and seconds that a command may take.
 MAX_LINES, LIMIT = 150, 60
 # The attributes that a block of each kind may have, and those of which it needs one.
@@ -73,6 +74,7 @@ ANY_NAME = re.compile(r"NAME|CRATE")
 HEAD = re.compile(r"(pub(\(.*\))? )?fn ")
 OLD_PATH = re.compile(rf"\bdocs/({'|'.join(OLD)}|work/DECISIONS)\.md")
 REFUSAL_NUMBER = re.compile(r"`[A-Z][A-Za-z]+( [a-z])?`\s+\(\d+\)|\b[Rr]efusals?\s+\d+")
+MINUTES = re.compile(r"(\d[\d.]*)\s+minutes?\b")
 PLACEHOLDER = re.compile(r"@[A-Z][A-Z0-9_]*@")
 
 # What a check yields: the line it is about, and what is wrong there, which is nothing where it passes.
@@ -287,6 +289,19 @@ def check_words(repository: Repository, document: Document) -> Iterator[Finding]
     for number, line in enumerate(document.lines, 1):
         for found in PLACEHOLDER.finditer(line):
             yield number, f"the placeholder {found[0]} is left"
+
+
+def check_minutes(repository: Repository, document: Document) -> Iterator[Finding]:
+    """Numbers of minutes: each is one that was measured, in whole minutes, and they stand in two documents only."""
+    rows = repository.read(TIMES).splitlines()[1:] if TIMES in repository.files else []
+    measured = {str(round(float(row.split("\t")[2]))) for row in rows}
+    text = document.text()
+    for found in MINUTES.finditer(text):
+        line = line_of(text, found.start())
+        if document.path not in (README, CONTRIBUTING):
+            yield line, f"only {README} and {CONTRIBUTING} have numbers of minutes"
+        else:
+            yield line, FINE if found[1] in measured else f"{TIMES} has no {found[1]} minutes"
 
 
 # Quotations.
@@ -518,7 +533,7 @@ def check_document(repository: Repository, document: Document) -> Iterator[Findi
         sandbox = Sandbox(repository, pathlib.Path(folder))
         for block in document.blocks:
             yield from check_block(sandbox, document, block)
-    for check in (check_links, check_names, check_words):
+    for check in (check_links, check_names, check_words, check_minutes):
         yield from check(repository, document)
 
 
@@ -599,6 +614,7 @@ SOUND = {
     "docs/A.md": "# A\n\nSee [B](user/B.md).\n",
     "docs/user/B.md": "# B\n\n## `mf_kind`: one\n\n## Twice\n\n## Twice\n",
     "bench/README.md": "# Speed\n\n## How *it* is measured\n",
+    "bench/times.tsv": "run\tpart\tminutes\nbuild\twhole\t12.6\n",
     "examples/a.mfp": SCRIPT,
     "crates/mf_kind/src/lib.rt": SOURCE_FILE,
     "crates/mf_other/src/only.rt": "",
@@ -638,6 +654,7 @@ RIGHT = {
     "names": (0, "`crates/mf_kind/`, `mf_kind/src/lib.rt`, `src/only.rt`, `crates/NAME/src/*.rt`, `a / 2`, `out/a.md`\n"),
     "a name in a section": (0, "## `mf_kind`\n\n`src/lib.rt`\n"),
     "a list": (0, "- One\n\n    and more of it\n"),
+    "minutes": (1, "13 minutes\n"),
 }
 # The same with a fault, its line below the first one, and words of what is said of it.
 WRONG = {
@@ -682,6 +699,7 @@ WRONG = {
     "a refusal's number in two lines": (0, "numbers of refusals", "`Backtracks i`\n(5)\n"),
     "a refusal by number": (0, "numbers of refusals", "refusal 12\n"),
     "a placeholder": (0, "placeholder @GATE_TIME@", "@GATE_TIME@ minutes\n"),
+    "minutes that nobody measured": (0, "has no 12 minutes", "12\nminutes\n"),
 }
 # Files that make the documents wrong when taken together, with the place of the fault and words of it.
 WRONG_FILES = {
@@ -694,6 +712,7 @@ WRONG_FILES = {
     "a long README": ({"README.md": SOUND["README.md"] + 150 * "a\n"}, "README.md:153: ", "more than 150 lines"),
     "an old path": ({"tests/a.py": f"\n# docs/{OLD[0]}.md\n"}, "tests/a.py:2: ", "was before"),
     "an old path in a folder": ({"tests/a.py": f"\n# docs/work/{'DECISIONS'}.md\n"}, "tests/a.py:2: ", "was before"),
+    "minutes elsewhere": ({"docs/A.md": SOUND["docs/A.md"] + "13 minutes\n"}, "docs/A.md:4: ", "numbers of minutes"),
     "no README": ({"README.md": None}, "README.md:1: ", "is missing"),
 }
 

@@ -3,7 +3,7 @@
 
     tools/build.py [PROGRAM]
 
-PROGRAM is mfpic, which it is by default, or mfview. Each library of the program is proved as soon as the libraries that it uses
+PROGRAM is mfpic, which it is by default, or mfview. bench/times.tsv says how long that takes from nothing. Each library of the program is proved as soon as the libraries that it uses
 are. Several are proved at a time where processors are free, because part of each proof keeps only one processor busy. A line is
 printed for each crate when it is proved.
 """
@@ -18,7 +18,6 @@ from collections.abc import Iterator
 from prover import Failure, Prover
 
 PROGRAMS = ("mfpic", "mfview")
-FIRST_TIME = "8 to 20 minutes on four processors, and 0.8 GB of disk"
 # The memory of a job, in bytes: the most that any job was seen to take.
 JOB_MEMORY = 2_000_000_000
 
@@ -78,7 +77,7 @@ def main() -> int:
     if program not in PROGRAMS:
         print(f"{program} is not a program of the repository: {' or '.join(PROGRAMS)}", file=sys.stderr)
         return 2
-    print(f"{program}: proving and building the program; the first time takes {FIRST_TIME}", file=sys.stderr)
+    print(f"{program}: proving and building the program", file=sys.stderr)
     try:
         build(Prover(), program)
     except Failure as failure:

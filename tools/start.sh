@@ -1,4 +1,4 @@
-# Builds a program of the repository where that is necessary. The scripts `mfpic` and `mfview` read this file.
+# Finds a program of the repository, and builds it where that is necessary. The scripts `mfpic` and `mfview` read this file.
 root=$(cd "$(dirname "${BASH_SOURCE[0]}")/.." && pwd)
 
 # Prints a crate and all crates and libraries that it uses, by name or through others: crates.txt has each crate after those that it
@@ -33,8 +33,29 @@ is_current() {
     [ -z "$newer" ]
 }
 
-# Sets `program` to the path of the program with this name. If it is missing, or older than its sources, it is proved and built first.
+# Sets `program` to the path of the program with this name. One that is older than its sources is proved and built first. Where there is
+# none, as in a fresh clone, it is one that is not proved.
 find_program() {
     program=$root/crates/$1/out/$1
-    is_current "$1" "$program" || "$root/tools/build.py" "$1"
+    if [ ! -x "$program" ]; then
+        find_unproved "$1"
+    elif ! is_current "$1" "$program"; then
+        "$root/tools/build.py" "$1"
+    fi
+}
+
+# Sets `program` to the path of the unproved program with this name, which is built first if that is necessary, and says what it is.
+find_unproved() {
+    program=$root/crates/$1/out/unproved/$1
+    if ! is_current "$1" "$program"; then
+        echo "$1: building the program without a proof, in about a minute" >&2
+        "$root/tools/unproved.py" "$1"
+    fi
+    echo "$1: not proved, only checked while it runs; tools/build.py $1 proves and builds it$(first_time "$1")" >&2
+}
+
+# Prints how long that took from nothing, where bench/times.tsv says it.
+first_time() {
+    awk -F '\t' -v run="tools/build.py $1" '
+        $1 == run && $2 == "whole" { printf " (%.0f minutes on %d processors)", $3, $4 }' "$root/bench/times.tsv"
 }

@@ -1,0 +1,81 @@
+#!/usr/bin/env python3
+"""Takes the time of what a newcomer and the gate wait for, and writes it into bench/times.tsv.
+
+    bench/times.py answer|build|gate..
+
+Each is run in a fresh clone of the last commit: `answer` is the first answer of `./mfpic`, which is not proved; `build` is
+tools/build.py, for mfpic and then for mfview, with a row for each crate, by when it is proved; `gate` is .ci/run, which the toolchain may
+shorten by what it has kept of earlier runs. Nothing else should run beside it. The rows of a run replace those of the one before.
+README.md and docs/work/CONTRIBUTING.md quote these minutes, and tests/documents.py compares them.
+"""
+
+import argparse
+import datetime
+import os
+import pathlib
+import re
+import subprocess
+import sys
+import tempfile
+import time
+from collections.abc import Iterator
+
+ROOT = pathlib.Path(__file__).resolve().parent.parent
+FILE = ROOT / "bench/times.tsv"
+HEAD = "run\tpart\tminutes\tprocessors\ttoolchain\tcommit\tdate\n"
+# What tools/build.py says of a crate, and the gate of a part.
+PROVED = re.compile(r"\w+: (\w+) is proved, .*")
+PASSED = re.compile(r"\d+ passed, \d+ failed")
+COMMANDS = {
+    "answer": [["./mfpic"]],
+    "build": [["tools/build.py", "mfpic"], ["tools/build.py", "mfview"]],
+    "gate": [[".ci/run"]],
+}
+
+
+def said(*command: str) -> str:
+    """The first word that a command prints."""
+    return subprocess.run(command, cwd=ROOT, check=True, stdout=subprocess.PIPE, encoding="utf-8").stdout.split()[0]
+
+
+def parts_of(command: list[str], clone: pathlib.Path) -> Iterator[tuple[str, float]]:
+    """Runs a command in a clone. Yields each of its parts and then `whole`, with the minutes after which it has ended. The parts of the
+    gate are numbered: the first is `rt ci`. A crate that was proved before is left out."""
+    begun, count = time.monotonic(), 0
+    how = {"stdout": subprocess.PIPE, "stderr": subprocess.STDOUT, "encoding": "utf-8", "errors": "replace"}
+    with (ROOT / "examples/rectangle.mfp").open("rb") as script, subprocess.Popen(command, cwd=clone, stdin=script, **how) as ran:
+        for line in ran.stdout or ():
+            sys.stderr.write(line)
+            proved = PROVED.match(line)
+            minutes = (time.monotonic() - begun) / 60
+            if PASSED.fullmatch(line.strip()):
+                count += 1
+                yield str(count), minutes
+            elif proved and minutes >= 0.05:
+                yield proved[1], minutes
+    if ran.returncode:
+        sys.exit(f"{' '.join(command)} ended with status {ran.returncode}")
+    yield "whole", (time.monotonic() - begun) / 60
+
+
+def main() -> None:
+    parser = argparse.ArgumentParser(description=__doc__, formatter_class=argparse.RawDescriptionHelpFormatter)
+    parser.add_argument("runs", nargs="+", choices=COMMANDS)
+    given = parser.parse_args()
+    where = [str(len(os.sched_getaffinity(0))), said("rt", "version"), said("git", "rev-parse", "--short", "HEAD")]
+    where.append(datetime.datetime.now(datetime.timezone.utc).strftime("%Y-%m-%d"))
+    for run in given.runs:
+        rows = []
+        with tempfile.TemporaryDirectory(prefix="times-") as folder:
+            clone = pathlib.Path(folder) / "clone"
+            subprocess.run(["git", "clone", "--quiet", str(ROOT), str(clone)], check=True)
+            for command in COMMANDS[run]:
+                name = " ".join(command)
+                rows += ["\t".join([name, part, f"{minutes:.1f}", *where]) + "\n" for part, minutes in parts_of(command, clone)]
+        names = {row.partition("\t")[0] for row in rows}
+        before = FILE.read_text(encoding="utf-8").splitlines(keepends=True)[1:] if FILE.is_file() else []
+        FILE.write_text(HEAD + "".join([*(row for row in before if row.partition("\t")[0] not in names), *rows]), encoding="utf-8")
+
+
+if __name__ == "__main__":
+    main()
