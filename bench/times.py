@@ -23,8 +23,8 @@ from collections.abc import Iterator
 ROOT = pathlib.Path(__file__).resolve().parent.parent
 FILE = ROOT / "bench/times.tsv"
 HEAD = "run\tpart\tminutes\tprocessors\ttoolchain\tcommit\tdate\n"
-# What tools/build.py says of a crate, and the gate of a part.
-PROVED = re.compile(r"\w+: (\w+) is proved, .*")
+# What tools/build.py and `rt ci` say of a crate, and the gate of a part.
+PROVED = re.compile(r"\w+: (\w+) (?:is )?proved\b")
 PASSED = re.compile(r"\d+ passed, \d+ failed")
 COMMANDS = {
     "answer": [["./mfpic"]],
