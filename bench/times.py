@@ -24,7 +24,7 @@ ROOT = pathlib.Path(__file__).resolve().parent.parent
 FILE = ROOT / "bench/times.tsv"
 HEAD = "run\tpart\tminutes\tprocessors\ttoolchain\tcommit\tdate\n"
 # What tools/build.py and `rt ci` say of a crate, and the gate of a part.
-PROVED = re.compile(r"\w+: (\w+) (?:is )?proved\b")
+PROVED = re.compile(r"\w+: (?!not )(\w+) (?:is )?proved\b")
 PASSED = re.compile(r"\d+ passed, \d+ failed")
 COMMANDS = {
     "answer": [["./mfpic"]],
