@@ -22,7 +22,7 @@ use Rattle.mf_rows.specs.Weights.{picture_of}
 use Rattle.mf_rows.proofs.WeightsLemmas.{IsDotOf, weight_at-picture_of, lawful_picture_of, picture_of-from_weights, picture_of-dots}
 use Rattle.mf_ops.specs.Faults.{sum_fault}
 use Rattle.mf_ops.specs.Sides.{FillsWith}
-use Rattle.mf_ops.specs.Step.{is_too_large, step_at, next_picture, leaves, MayLeave, StaysInField}
+use Rattle.mf_ops.specs.Step.{is_too_large, step_at, next_picture, leaves, StaysInField}
 use Rattle.mf_ops.specs.Step.{TurnsLawfully, weight_fault, pixel_fault, cycle_fault, op_fault}
 use Rattle.mf_ops.specs.declared.op.Op.{Op}
 use Rattle.mf_ops.specs.declared.op.Op.TheVariants as ops
@@ -177,6 +177,12 @@ weight_fault-not_out false same = cc
 
 pub not_out : (ds : List Dot) (op : Op) → IsForWeights ds op → op_fault ds op ≢ Some OutOfField
 not_out ds op stays out = weight_fault-not_out _ (sym (op_fault-inside ds op stays) ∙ out)
+
+-- the operation may take a pixel out of the field: it is a shift or a scale
+abbrev pub MayLeave : Op → Type 0
+MayLeave (ops.Shift dx dy) = Unit {0}
+MayLeave (ops.Scale s) = Unit {0}
+MayLeave op = ⊥
 
 -- so only a shift or a scale is refused with OutOfField
 pub may_leave : (ds : List Dot) (op : Op) → op_fault ds op ≡ Some OutOfField → MayLeave op

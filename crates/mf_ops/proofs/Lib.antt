@@ -7,3 +7,4 @@ mod OutOfField
 mod Places
 mod Scaling
 mod Sides
+mod Squares

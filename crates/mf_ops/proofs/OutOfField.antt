@@ -20,7 +20,7 @@ use Rattle.mf_edges.specs.Axes.{opposite, PlaceStaysInside}
 use Rattle.mf_rows.proofs.DotsLemmas.{IsAt, weight_at-dot, dots_from-lawful, weight_at-outside}
 use Rattle.mf_ops.specs.Cull.{IsLawfulCull, culled_weight}
 use Rattle.mf_rows.specs.Moves.{quarter_turn}
-use Rattle.mf_ops.specs.Moves.{Factors, AreFactors, IsFactor, HasPlace, scale_by, scale_source, shift_by, stays_inside, turn_by}
+use Rattle.mf_ops.specs.Moves.{Factors, AreFactors, IsFactor, scale_by, scale_source, shift_by, stays_inside, turn_by}
 use Rattle.mf_ops.specs.Step.{step_at, leaves, op_fault, LiesOutside, TurnsLawfully}
 use Rattle.mf_ops.specs.declared.cull.CullRule.{CullRule}
 use Rattle.mf_ops.specs.declared.cull.CullRule.TheVariants.{Keeping, Dropping}
@@ -32,7 +32,7 @@ use Rattle.mf_ops.specs.declared.quarter.TurnCount.{TurnCount}
 use Rattle.mf_ops.specs.declared.quarter.TurnCount.TheVariants.{Once, Twice, Thrice}
 use Rattle.mf_ops.proofs.Faults.{leaves-refused, op_fault-leaves}
 use Rattle.mf_ops.proofs.Leaving.{column_inside, row_inside, stays_inside-true}
-use Rattle.mf_ops.proofs.Places.{scale_source-covered, scale_source-only, HasPlace-first, HasPlace-last}
+use Rattle.mf_ops.proofs.Places.{HasPlace, scale_source-covered, scale_source-only, HasPlace-first, HasPlace-last}
 
 -- where the weight is not 0 there is a dot
 list_any-at : (test : Dot → Bool) (ds : List Dot) (x y : ℤ) → weight_at ds x y ≢ pos 0 → ((d : Dot) → IsAt d x y → test d ≡ true) → list_any test ds ≡ true

@@ -6,7 +6,12 @@ use Rattle.std.proofs.lemmas.Int.{ints, clamps, by_lt_z}
 use Rattle.mf_edges.specs.declared.stretch.Stretch.{Stretch}
 use Rattle.mf_edges.specs.Axes.{IsStretch, target_of, source_of, opposite}
 use Rattle.mf_edges.proofs.Sources.{mul-next, target_of-next, source_of-reached, source_of-from, source_of-is}
-use Rattle.mf_ops.specs.Moves.{IsFactor, HasPlace, scale_by, scale_source}
+use Rattle.mf_ops.specs.Moves.{IsFactor, scale_by, scale_source}
+
+-- the part of the axis between p * f and (p + 1) * f contains column, or row, q
+pub record HasPlace (f p q : ℤ) : Type 0 where
+  pub start : int_min (p *ℤ f) ((p +ℤ pos 1) *ℤ f) ≤ℤ q
+  pub end : (q +ℤ pos 1) ≤ℤ int_max (p *ℤ f) ((p +ℤ pos 1) *ℤ f)
 
 -- a scale by a positive factor is a stretch
 pub scale_source-positive : (n : ℕ) (q : ℤ) → scale_source (pos n) q ≡ source_of (scale_by (pos n)) q

@@ -5,4 +5,5 @@ pub mod Moves
 pub mod Names
 pub mod Operations
 pub mod Sides
+pub mod Squares
 pub mod Step

@@ -1,8 +1,7 @@
 -- Shifts, scales, turns (The METAFONTbook, chapters 13 and 15) and reflections in the line between columns, or rows, -1 and 0.
 -- They move the unit squares of the pixels with the plane: the new weight of a pixel is the old weight of the pixel whose moved
--- square contains it.
-use Rattle.std.specs.Prelude.{◌≢◌, ◌&&◌, Bool, ℤ, pos, nat_abs, ◌+ℤ◌, ◌*ℤ◌, ◌≤ℤ◌, int_lt, if◌then◌else◌}
-use Rattle.std.specs.Int.{int_max, int_min}
+-- square contains it (the law `squares_move_with_the_plane`).
+use Rattle.std.specs.Prelude.{◌≢◌, ◌&&◌, Bool, ℤ, pos, nat_abs, ◌+ℤ◌, int_lt, if◌then◌else◌}
 use Rattle.mf_geom.specs.Coordinates.{IsCoordinate, is_coordinate}
 use Rattle.mf_edges.specs.Axes.{opposite, source_of, target_of}
 use Rattle.mf_edges.specs.declared.stretch.Stretch.{Stretch}
@@ -44,11 +43,6 @@ reflection columns rows f = moved_columns (on_side columns) (moved_rows (on_side
 -- factor reflects, and its absolute value stretches
 unfoldable pub scale_source : ℤ → ℤ → ℤ
 scale_source f q = on_side (int_lt f (pos 0)) (source_of (scale_by (pos (nat_abs f))) q)
-
--- the part of the axis between p * f and (p + 1) * f contains column, or row, q
-pub record HasPlace (f p q : ℤ) : Type 0 where
-  pub start : int_min (p *ℤ f) ((p +ℤ pos 1) *ℤ f) ≤ℤ q
-  pub end : (q +ℤ pos 1) ≤ℤ int_max (p *ℤ f) ((p +ℤ pos 1) *ℤ f)
 
 -- the weights f after one, two or three turns by 90 degrees counterclockwise
 abbrev pub turn_by : TurnCount → (ℤ → ℤ → ℤ) → ℤ → ℤ → ℤ

@@ -7,12 +7,13 @@ use Rattle.mf_edges.specs.WeightMaps.{is_within}
 use Rattle.mf_geom.specs.declared.check.Check.TheVariants.{On}
 use Rattle.mf_geom.specs.Faults.{turning_fault}
 use Rattle.mf_geom.specs.Field.{IsInField}
+use Rattle.mf_geom.specs.Lawful.{IsRectilinearCycle}
 use Rattle.mf_geom.specs.Winding.{contour}
 use Rattle.mf_rows.specs.declared.sign.Sign.TheVariants.{Plus, Minus}
-use Rattle.mf_rows.specs.Dots.{Dot, weight_at}
+use Rattle.mf_rows.specs.Dots.{Dot, IsPicture, weight_at}
 use Rattle.mf_rows.specs.Weights.{picture_of}
-use Rattle.mf_ops.specs.Cull.{culled_weight}
-use Rattle.mf_ops.specs.Moves.{scale_by, scale_source, shift_by, stays_inside, turn_by}
+use Rattle.mf_ops.specs.Cull.{IsLawfulCull, culled_weight}
+use Rattle.mf_ops.specs.Moves.{AreFactors, scale_by, scale_source, shift_by, stays_inside, turn_by}
 use Rattle.mf_ops.specs.declared.op.Op.{Op}
 use Rattle.mf_ops.specs.declared.op.Op.TheVariants.{Contour, Also, Cull, Shift, Scale, Quarter, Clear}
 use Rattle.mf_ops.specs.declared.op.OpFault.{OpFault}
@@ -33,17 +34,11 @@ step_at ds Clear x y = pos 0
 unfoldable pub next_picture : List Dot → Op → List Dot
 next_picture ds op = picture_of (step_at ds op)
 
--- whether an operation takes a pixel out of the field: only a shift or a scale can
+-- whether an operation takes a pixel out of the field: only a shift or a scale can (the law `refused_where_a_pixel_leaves`)
 abbrev pub leaves : Op → Dot → Bool
 leaves (Shift dx dy) d = not (stays_inside (shift_by dx) d.x && stays_inside (shift_by dy) d.y)
 leaves (Scale s) d = not (stays_inside (scale_by s.x) d.x && stays_inside (scale_by s.y) d.y)
 leaves op d = false
-
--- the operation may take a pixel out of the field: it is a shift or a scale
-abbrev pub MayLeave : Op → Type 0
-MayLeave (Shift dx dy) = Unit {0}
-MayLeave (Scale s) = Unit {0}
-MayLeave op = ⊥
 
 -- the operation takes no pixel of the picture ds out of the field
 pub record StaysInField (ds : List Dot) (op : Op) : Type 0 where
@@ -66,11 +61,6 @@ abbrev pub cycle_fault : Op → Option OpFault
 cycle_fault (Contour ps w On) = option_map OpFault.Cycle (turning_fault ps)
 cycle_fault op = None
 
--- the operation is a contour under the turning check
-abbrev pub IsChecked : Op → Type 0
-IsChecked (Contour ps w On) = Unit {0}
-IsChecked op = ⊥
-
 -- the operation is not a contour, or its cycle passes its turning check
 pub record TurnsLawfully (op : Op) : Type 0 where
   pub none : cycle_fault op ≡ None
@@ -82,6 +72,14 @@ op_fault ds op = option_or (cycle_fault op) (pixel_fault ds op)
 -- a call may refuse the operation on the picture ds with this fault: the definition does, or an allocation failed
 abbrev pub IsRefusal : List Dot → Op → OpFault → Type 0
 IsRefusal ds op fault = fault ≢ OutOfMemory → op_fault ds op ≡ Some fault
+
+-- the operation has lawful values
+abbrev pub HasLawfulValues : Op → Type 0
+HasLawfulValues (Contour ps w check) = IsRectilinearCycle ps
+HasLawfulValues (Also es s) = IsPicture es
+HasLawfulValues (Cull c) = IsLawfulCull c
+HasLawfulValues (Scale s) = AreFactors s
+HasLawfulValues op = Unit {0}
 
 -- the weights f are not 0 at some pixel outside the field
 pub record LiesOutside (f : ℤ → ℤ → ℤ) : Type 0 where

@@ -19,9 +19,10 @@ ghost use Rattle.mf_rows.specs.Dots.{Dot, IsPicture, total_of, weight_at};
 ghost use Rattle.mf_rows.specs.Moves.{quarter_turn};
 ghost use Rattle.mf_rows.specs.Sums.{IsUnlawfulSomewhere};
 ghost use Rattle.mf_ops.specs.Cull.{IsLawfulCull, culled_weight};
-ghost use Rattle.mf_ops.specs.Moves.{Factors, AreFactors, IsFactor, HasPlace, scale_source};
+ghost use Rattle.mf_ops.specs.Moves.{Factors, AreFactors, scale_source};
 ghost use Rattle.mf_ops.specs.Operations.{AreAccepted, picture_after, revision_after};
-ghost use Rattle.mf_ops.specs.Step.{step_at, next_picture, op_fault, StaysInField, IsChecked, TurnsLawfully, LiesOutside, MayLeave};
+ghost use Rattle.mf_ops.specs.Squares.{Covers, MovesPixels};
+ghost use Rattle.mf_ops.specs.Step.{step_at, next_picture, op_fault, StaysInField, TurnsLawfully, HasLawfulValues, LiesOutside};
 ghost use Rattle.mf_ops.specs.declared.op.Op.{Op};
 ghost use Rattle.mf_ops.specs.declared.cull.CullRule.{CullRule};
 ghost use Rattle.mf_ops.specs.declared.cull.CullRule.TheVariants.{Keeping, Dropping};
@@ -51,28 +52,15 @@ pub fn refused_where_too_large()
 pub fn refused_where_it_turns_back()
     ensures checked { (ds : List Dot) (ps : List Point) (w : ℤ) (fault : CycleFault) →
         (op_fault ds (Contour ps w On) ≡ Some (OpFault.Cycle fault)) ↔ turning_fault ps ≡ Some fault }
-    ensures unchecked { (op : Op) → (IsChecked op → ⊥) → TurnsLawfully op }
+    ensures unchecked { (op : Op) → ((ps : List Point) (w : ℤ) → op ≢ Contour ps w On) → TurnsLawfully op }
     ensures lawful { (ds : List Dot) (op : Op) (fault : CycleFault) → TurnsLawfully op → op_fault ds op ≢ Some (OpFault.Cycle fault) }
 {}
 
-/// A shift or a scale is refused with `OutOfField` exactly where some pixel outside the field would get a nonzero weight.
-/// Contours, sums and differences of pictures, lawful culls, turns and clears give no pixel outside the field a nonzero weight, and
-/// are never refused with `OutOfField`.
+/// Any operation on a picture is refused with `OutOfField` exactly where it would give a nonzero weight to some pixel outside the
+/// field. (Only a shift or a scale would: see `never_refused`.)
 pub fn refused_where_a_pixel_leaves()
-    ensures shift { (ds : List Dot) (dx dy : ℤ) → IsPicture ds →
-        (op_fault ds (Shift dx dy) ≡ Some OutOfField) ↔ LiesOutside (step_at ds (Shift dx dy)) }
-    ensures scale { (ds : List Dot) (s : Factors) → IsPicture ds → AreFactors s →
-        (op_fault ds (Scale s) ≡ Some OutOfField) ↔ LiesOutside (step_at ds (Scale s)) }
-    ensures contour { (ds : List Dot) (ps : List Point) (w : ℤ) (check : Check) → IsPicture ds → IsRectilinearCycle ps →
-        LiesOutside (step_at ds (Contour ps w check)) → ⊥ }
-    ensures also { (ds es : List Dot) (s : Sign) → IsPicture ds → IsPicture es →
-        LiesOutside (step_at ds (Also es s)) → ⊥ }
-    ensures cull { (ds : List Dot) (c : CullRule) → IsPicture ds → IsLawfulCull c →
-        LiesOutside (step_at ds (Cull c)) → ⊥ }
-    ensures turn { (ds : List Dot) (q : TurnCount) → IsPicture ds →
-        LiesOutside (step_at ds (ops.Quarter q)) → ⊥ }
-    ensures clear { (ds : List Dot) → LiesOutside (step_at ds Clear) → ⊥ }
-    ensures only { (ds : List Dot) (op : Op) → op_fault ds op ≡ Some OutOfField → MayLeave op }
+    ensures { (ds : List Dot) (op : Op) → IsPicture ds → HasLawfulValues op →
+        (op_fault ds op ≡ Some OutOfField) ↔ LiesOutside (step_at ds op) }
 {
     nothing_outside_the_field();
 }
@@ -90,11 +78,12 @@ pub fn never_refused()
     ensures also { (ds es : List Dot) (s : Sign) → op_fault ds (Also es s) ≢ Some OutOfField }
 {}
 
-/// Under a scale each column, or row, comes from exactly one: it lies in the part of the axis to which the scale takes its
-/// source, and in no other part.
-pub fn one_source_under_a_scale()
-    ensures covered { (f q : ℤ) → IsFactor f → HasPlace f (scale_source f q) q }
-    ensures only { (f p q : ℤ) → IsFactor f → HasPlace f p q → scale_source f q ≡ p }
+/// A shift, a scale and a turn move the unit squares of the pixels with the plane. The square of each pixel is covered by the moved
+/// square of exactly one, and it gets the weight of that one.
+pub fn squares_move_with_the_plane()
+    ensures covered { (op : Op) (q : Point) → MovesPixels op → (p : Point) × Covers op p q }
+    ensures only { (op : Op) (p r q : Point) → MovesPixels op → Covers op p q → Covers op r q → p ≡ r }
+    ensures weight { (ds : List Dot) (op : Op) (p q : Point) → MovesPixels op → Covers op p q → step_at ds op q.x q.y ≡ weight_at ds p.x p.y }
 {}
 
 /// Four turns by 90 degrees leave each weight in its place, and so do two reflections in the same line. A reflection is the scale by

@@ -1,15 +1,16 @@
-use Rattle.std.proofs.Common.{refl, ap}
+use Rattle.std.proofs.Common.{◌≢◌, ℤ, List, refl, ap}
+use Rattle.mf_geom.specs.declared.point.Point.{Point}
 use Rattle.std.specs.Option.{option_map}
 use Rattle.mf_ops.specs.declared.op.Op.{Op}
 use Rattle.mf_ops.specs.declared.op.Op.TheVariants.{Contour, Also, Cull, Shift, Scale, Quarter, Clear}
 use Rattle.mf_ops.specs.declared.op.OpFault.TheVariants.{Cycle}
 use Rattle.mf_geom.specs.declared.check.Check.TheVariants.{On, Off}
-use Rattle.mf_ops.specs.Step.{IsChecked, TurnsLawfully}
+use Rattle.mf_ops.specs.Step.{TurnsLawfully}
 use Rattle.mf_ops.proofs.Faults.{op_fault-cycle, turning_fault-refused, not_turning}
 use Rattle.mf_ops.proofs.laws.refused_where_it_turns_back.Goals as goal
 
-not_checked : (op : Op) → (IsChecked op → ⊥) → TurnsLawfully op
-not_checked (Contour ps w On) none = absurd (none tt)
+not_checked : (op : Op) → ((ps : List Point) (w : ℤ) → op ≢ Contour ps w On) → TurnsLawfully op
+not_checked (Contour ps w On) none = absurd (none ps w refl)
 not_checked (Contour ps w Off) none = record { none = refl }
 not_checked (Also es s) none = record { none = refl }
 not_checked (Cull c) none = record { none = refl }
