@@ -11,6 +11,5 @@ pub mod Syntax
 pub mod TokenTexts
 pub mod Token
 pub mod Tokens
-pub mod Written
 pub use Rattle.mf_show.specs.Grid
 pub use Rattle.mf_show.specs.RunText

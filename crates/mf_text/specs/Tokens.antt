@@ -1,6 +1,6 @@
 -- The tokens of a line of a script: words, letters, numbers and marks. Blanks may come between tokens, and `%` begins a comment,
 -- which goes to the end of the line.
-use Rattle.std.specs.Prelude.{◌≡◌, ◌≤◌, false, ℕ, zero, suc, ◌+◌, ◌-◌, ◌==◌, ◌||◌, ◌&&◌, Bool, List, [], ◌∷◌, Option}
+use Rattle.std.specs.Prelude.{◌≡◌, ◌≤◌, false, ℕ, zero, suc, ◌+◌, ◌-◌, ◌==◌, ◌||◌, ◌&&◌, Bool, List, [], ◌∷◌, Option, codes}
 use Rattle.std.specs.Prelude.{None, Some, length, drop, get_or, take_while, map, nat_eq, nat_le, nat_lt, if◌then◌else◌}
 use Rattle.std.specs.Char.{is_ascii_alphabetic, is_ascii_digit}
 use Rattle.std.specs.List.{starts_with}
@@ -9,8 +9,8 @@ use Rattle.std.specs.Str.{bytes_eq}
 use Rattle.std.specs.Str.Parse.{digits_value}
 pub use Rattle.mf_text.specs.declared.token.Mark.{Mark}
 use Rattle.mf_text.specs.declared.token.Mark.TheVariants as mark
-use Rattle.mf_text.specs.declared.token.TheConstants.{MARKS, WORDS}
 pub use Rattle.mf_text.specs.declared.token.Word.{Word}
+use Rattle.mf_text.specs.declared.token.Word.TheVariants as word
 use Rattle.mf_text.specs.contracts.token.MarkPartialEq.TheImpl as same_mark
 use Rattle.mf_text.specs.contracts.token.WordPartialEq.TheImpl as same_word
 use Rattle.mf_text.specs.Limits.{letter_a, letter_z, most_digits, percent_sign, space, tab}
@@ -26,17 +26,46 @@ abbrev pub IsClear : List ℕ → Type 0
 IsClear [] = Unit {0}
 IsClear (b ∷ bs) = is_blank b ≡ false
 
--- the entries of a table of the code
-abbrev pub entries_of : {A : Type 0} → List (record { now : List ℕ } × A) → List (List ℕ × A)
-entries_of table = map (λ entry. (entry.0.now, entry.1)) table
-
 -- the words, each after the bytes that it is written with
 abbrev pub words : List (List ℕ × Word)
-words = entries_of WORDS
+words =
+    (codes "addto", word.Addto) ∷
+    (codes "also", word.Also) ∷
+    (codes "code", word.Code) ∷
+    (codes "contour", word.Contour) ∷
+    (codes "cull", word.Cull) ∷
+    (codes "currentpicture", word.CurrentPicture) ∷
+    (codes "cycle", word.Cycle) ∷
+    (codes "dropping", word.Dropping) ∷
+    (codes "dx", word.Dx) ∷
+    (codes "keeping", word.Keeping) ∷
+    (codes "nullpicture", word.NullPicture) ∷
+    (codes "proof", word.Proof) ∷
+    (codes "publish", word.Publish) ∷
+    (codes "rotated", word.Rotated) ∷
+    (codes "scaled", word.Scaled) ∷
+    (codes "shifted", word.Shifted) ∷
+    (codes "shipout", word.Shipout) ∷
+    (codes "show", word.Show) ∷
+    (codes "totalweight", word.TotalWeight) ∷
+    (codes "turningcheck", word.TurningCheck) ∷
+    (codes "width", word.Width) ∷
+    (codes "withweight", word.WithWeight) ∷
+    (codes "xscaled", word.XScaled) ∷
+    (codes "yscaled", word.YScaled) ∷
+    []
 
 -- the marks, each after the bytes that it is written with; of two at one place the first counts, and `--` comes before `-`
 abbrev pub marks : List (List ℕ × Mark)
-marks = entries_of MARKS
+marks =
+    (codes ":=", mark.Becomes) ∷
+    (codes ")", mark.Close) ∷
+    (codes ",", mark.Comma) ∷
+    (codes "--", mark.Join) ∷
+    (codes "-", mark.Minus) ∷
+    (codes "(", mark.Open) ∷
+    (codes ";", mark.Semicolon) ∷
+    []
 
 -- how a table writes a word or a mark
 abbrev pub text_in : {A : Type 0} → (A → A → Bool) → List (List ℕ × A) → A → List ℕ

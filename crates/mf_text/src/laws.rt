@@ -2,24 +2,15 @@
 //! where a function's contract names it.
 ghost use Rattle.std.specs.Prelude.{◌≡◌, ◌≢◌, ◌⊎◌, ℕ, List};
 ghost use Rattle.mf_text.specs.declared.command.Command.{Command};
-ghost use Rattle.mf_text.specs.declared.token.TheConstants.{MARKS, WORDS};
 ghost use Rattle.mf_text.specs.Token.{Ahead, PlacedToken, Token};
 ghost use Rattle.mf_text.specs.Grammar.{Line, spell_line};
 ghost use Rattle.mf_text.specs.Lines.{Gives, IsRefused};
 ghost use Rattle.mf_text.specs.Registers.{HasNames};
 ghost use Rattle.mf_text.specs.Syntax.{IsLine, IsLinePrefix, IsSyntaxFault};
-ghost use Rattle.mf_text.specs.Tokens.{entries_of, without_columns, tokens};
+ghost use Rattle.mf_text.specs.Tokens.{without_columns, tokens};
 ghost use Rattle.mf_text.specs.TokenTexts.{AreTokens};
-ghost use Rattle.mf_text.specs.Written.{written_marks, written_words};
 
 use crate::fault::TextFault;
-
-/// The words and the marks of the language are written so, and it has no others: the tables from which its definition and its
-/// reader take them have these texts.
-pub fn words_are_written()
-    ensures words { entries_of WORDS ≡ written_words }
-    ensures marks { entries_of MARKS ≡ written_marks }
-{}
 
 /// The tokens of a line are its bytes, cut from the left: each is as long as possible, only blanks come between them, and after
 /// the last one only blanks and perhaps a comment. Each has the column of its first byte, from 1, and the one after its last. No

@@ -30,33 +30,32 @@ pub enum Word {
     YScaled,
 }
 
-/// How each word is written, in the order of the cases of `Word`, so that `text` finds a word by the number of its case. The
-/// definition of the language takes the words from here, too.
-pub(crate) const WORDS: [(&[u8], Word); 24] = [
-    (b"addto", Word::Addto),
-    (b"also", Word::Also),
-    (b"code", Word::Code),
-    (b"contour", Word::Contour),
-    (b"cull", Word::Cull),
-    (b"currentpicture", Word::CurrentPicture),
-    (b"cycle", Word::Cycle),
-    (b"dropping", Word::Dropping),
-    (b"dx", Word::Dx),
-    (b"keeping", Word::Keeping),
-    (b"nullpicture", Word::NullPicture),
-    (b"proof", Word::Proof),
-    (b"publish", Word::Publish),
-    (b"rotated", Word::Rotated),
-    (b"scaled", Word::Scaled),
-    (b"shifted", Word::Shifted),
-    (b"shipout", Word::Shipout),
-    (b"show", Word::Show),
-    (b"totalweight", Word::TotalWeight),
-    (b"turningcheck", Word::TurningCheck),
-    (b"width", Word::Width),
-    (b"withweight", Word::WithWeight),
-    (b"xscaled", Word::XScaled),
-    (b"yscaled", Word::YScaled),
+/// How each word is written, in the order of the cases of `Word`.
+const WORDS: [&[u8]; 24] = [
+    b"addto",
+    b"also",
+    b"code",
+    b"contour",
+    b"cull",
+    b"currentpicture",
+    b"cycle",
+    b"dropping",
+    b"dx",
+    b"keeping",
+    b"nullpicture",
+    b"proof",
+    b"publish",
+    b"rotated",
+    b"scaled",
+    b"shifted",
+    b"shipout",
+    b"show",
+    b"totalweight",
+    b"turningcheck",
+    b"width",
+    b"withweight",
+    b"xscaled",
+    b"yscaled",
 ];
 
 impl Word {
@@ -67,7 +66,7 @@ impl Word {
     pub fn text(self) -> &'static [u8]
         ensures { result.now ≡ word_text self }
     {
-        WORDS[self as usize].0
+        WORDS[self as usize]
     }
 }
 
@@ -90,18 +89,8 @@ pub enum Mark {
     Semicolon,
 }
 
-/// How each mark is written, in the order of the cases of `Mark`, so that `text` finds a mark by the number of its case. The
-/// definition of the language takes the marks from here, too. There the first of two marks at one place counts, so `--` comes
-/// before `-`.
-pub(crate) const MARKS: [(&[u8], Mark); 7] = [
-    (b":=", Mark::Becomes),
-    (b")", Mark::Close),
-    (b",", Mark::Comma),
-    (b"--", Mark::Join),
-    (b"-", Mark::Minus),
-    (b"(", Mark::Open),
-    (b";", Mark::Semicolon),
-];
+/// How each mark is written, in the order of the cases of `Mark`.
+const MARKS: [&[u8]; 7] = [b":=", b")", b",", b"--", b"-", b"(", b";"];
 
 impl Mark {
     ghost use Rattle.mf_text.specs.Tokens.{mark_text};
@@ -111,6 +100,6 @@ impl Mark {
     pub fn text(self) -> &'static [u8]
         ensures { result.now ≡ mark_text self }
     {
-        MARKS[self as usize].0
+        MARKS[self as usize]
     }
 }
