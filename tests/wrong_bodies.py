@@ -217,6 +217,14 @@ class Trial:
         return any(body.verdict != REFUSED and not body.edit.excuse for body in self.bodies)
 
 
+def tell_batch(crate: str, batch: list[Body], trial: Trial) -> None:
+    """Prints the verdicts of a batch on standard error, so that they are not lost where a run is cut off."""
+    judged = [body for body in batch if body.verdict]
+    lines = [f"{crate}/{body.edit.label}: {body.verdict}: {body.told}\n" for body in judged]
+    count = sum(bool(body.verdict) for body in trial.bodies)
+    print(f"{''.join(lines)}{crate}: {count} of {len(trial.bodies)} judged", file=sys.stderr, flush=True)
+
+
 def trial_of(crate: str) -> Trial:
     """Tries the wrong bodies of a crate. A body that calls another one of its batch is tried again if nothing else was said about
     it."""
@@ -236,8 +244,7 @@ def trial_of(crate: str) -> Trial:
             count = len(left)
             for batch in in_batches(left, room.texts):
                 try_batch(batch, controls, room)
-                judged = sum(bool(body.verdict) for body in trial.bodies)
-                print(f"{crate}: {judged} of {len(trial.bodies)} judged", file=sys.stderr, flush=True)
+                tell_batch(crate, batch, trial)
             left = [body for body in left if not body.verdict]
         for batch in in_batches([body for body in trial.bodies if body.meets_answer()], room.texts):
             try_without_answers(batch, room)
