@@ -1,8 +1,8 @@
 //! Messages: the text and the status of each fault, which of two faults is told, and a stream of messages that fails.
 use super::assertions::assert_same;
 use mf_desk::RunFault;
-use mf_options::{BAD_WORDS, STREAM_FAULT, WANTING, refuse_words};
-use mf_testing::{FailsOnce, Pieces, Sink, words_of};
+use mf_options::{BAD_WORDS, DONE, STREAM_FAULT, WANTING, refuse_words};
+use mf_testing::{FailsOnce, Pieces, Remembers, Sink, words_of};
 use mf_view::ProgramFault;
 use mf_view::program::{TOO_SMALL, program, report};
 use std::alloc::Global;
@@ -197,4 +197,24 @@ fn keeps_the_status(rt: HostRuntime) {
     let small = ["mfview", "--columns", "49"];
     assert_keeps(&rt, alloc, &small, 0, TOO_SMALL, b"");
     assert_keeps(&rt, alloc, &["mfview"], 40, STREAM_FAULT, TOLD);
+}
+
+/// Words with which no script is performed, and the status.
+const WITHOUT_A_SCRIPT: [(&[&str], u8); 3] = [
+    (&["mfview", "--help"], DONE),
+    (&["mfview", "--version"], DONE),
+    (&["mfview", "--columns", "49"], TOO_SMALL),
+];
+
+/// Nothing is read where no script is performed.
+#[test]
+fn nothing_is_read_without_a_script(rt: HostRuntime) {
+    let alloc = rt.alloc();
+    for (texts, status) in WITHOUT_A_SCRIPT {
+        let (mut screen, mut errors) = (Sink::new(alloc), Sink::new(alloc));
+        let mut reader = Remembers::new(Pieces::whole(SCRIPT));
+        let words = words_of(alloc, texts).expect(&rt, "there is room for the words");
+        let found = program(&rt, alloc, words, &mut reader, &mut screen, &mut errors);
+        assert_same(&rt, (found, reader.reads()), (status, 0), texts);
+    }
 }
