@@ -50,7 +50,7 @@ pub record StandsAt (bytes : List ℕ) (s : Shipment) (p : ℤ) : Type 0 where
   pub rest : List ℕ
   pub there : drop s.place bytes ≡ spell s.character.code p s.character.black ++ rest
 
-is_at : (file : List ℕ) (s : Shipment) (p : ℤ) → StandsAt file s p → IsWord p → IsCharacterAt file s.place s.character p
+abbrev pub is_at : (file : List ℕ) (s : Shipment) (p : ℤ) → StandsAt file s p → IsWord p → IsCharacterAt file s.place s.character p
 is_at file s p stands fits =
     let c = s.character in
     let bytes = spell c.code p c.black in
@@ -69,7 +69,7 @@ abbrev pub AllStand : List ℕ → List Shipment → Type 0
 AllStand bytes [] = Unit {0}
 AllStand bytes (s ∷ shipped) = StandsAt bytes s (pointer (last_place s.character.code shipped)) × AllStand bytes shipped
 
-stands_before : (bytes more : List ℕ) (s : Shipment) (p : ℤ) → StandsAt bytes s p → StandsAt (bytes ++ more) s p
+pub stands_before : (bytes more : List ℕ) (s : Shipment) (p : ℤ) → StandsAt bytes s p → StandsAt (bytes ++ more) s p
 stands_before bytes more s p stands = record {
   shippable = stands.shippable;
   before = let both = length-append bytes more in omega (arith, both, stands.before);
@@ -105,7 +105,7 @@ last_stands bytes code s (t ∷ shipped) stand is =
     (λ no found. last_stands bytes code s shipped stand.1 found) is
 
 -- p is a signed number of four bytes
-pointer_fits : (bytes : List ℕ) (code : ℕ) (shipped : List Shipment) → length bytes ≤ greatest_word
+pub pointer_fits : (bytes : List ℕ) (code : ℕ) (shipped : List Shipment) → length bytes ≤ greatest_word
     → AllStand bytes shipped → IsWord (pointer (last_place code shipped))
 unfolding last_shipment
 pointer_fits bytes code [] short stand = omega (arith, ints)

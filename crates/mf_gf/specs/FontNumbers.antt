@@ -1,13 +1,12 @@
 -- What a reader finds in a finished file besides its characters: the comment in the preamble, and what post says (The METAFONTbook,
 -- Appendix G; gftype.web).
-use Rattle.std.specs.Prelude.{◌≡◌, ◌+◌, ◌-◌, ◌*◌, ◌==◌, ◌&&◌, ℕ, ℤ, ◌≤ℤ◌, All, Any, List, take, drop, slice_index, Option, None, Some, if◌then◌else◌}
-use Rattle.std.specs.Option.{option_and_then}
+use Rattle.std.specs.Prelude.{◌≡◌, ◌+◌, ◌*◌, ◌==◌, ◌&&◌, ℕ, ℤ, ◌≤ℤ◌, All, Any, List, take, drop, slice_index, Option, None, Some, option_map, if◌then◌else◌}
 use Rattle.mf_gf.specs.declared.boxes.CharacterBox.{CharacterBox}
 use Rattle.mf_gf.specs.declared.file.FontWords.{FontWords}
 use Rattle.mf_gf.specs.Boxes.{box_at}
 use Rattle.mf_gf.specs.Files.{Character, box_of_character}
 use Rattle.mf_gf.specs.Numbers.{unsigned_at, word_at, word_size}
-use Rattle.mf_gf.specs.Pointers.{post_place}
+use Rattle.mf_gf.specs.Pointers.{IsCharacterAt, post_place}
 
 -- ---- the reader
 
@@ -15,9 +14,8 @@ use Rattle.mf_gf.specs.Pointers.{post_place}
 unfoldable pub comment_of : List ℕ → Option (List ℕ)
 comment_of file = if slice_index file 0 == 247 && slice_index file 1 == 131 then Some (take (slice_index file 2) (drop 3 file)) else None
 
--- what post says: its place, the numbers of the font, and a box
+-- what post says besides its place: the numbers of the font, and a box
 pub record Post : Type 0 where
-  pub place : ℕ
   pub words : FontWords
   pub box : CharacterBox
 
@@ -28,21 +26,16 @@ unsigned_number k bytes = unsigned_at (1 + word_size * k) bytes
 abbrev pub signed_number : ℕ → List ℕ → ℤ
 signed_number k bytes = word_at (1 + word_size * k) bytes
 
--- the nine numbers of post: its place, ds, cs, hppp, vppp, least m, greatest m, least n and greatest n
+-- the numbers of post after its place: ds, cs, hppp, vppp, least m, greatest m, least n and greatest n
 abbrev pub read_post : List ℕ → Post
 read_post bytes = record {
-  place = unsigned_number 0 bytes;
   words = record { ds = signed_number 1 bytes; cs = unsigned_number 2 bytes; hppp = signed_number 3 bytes; vppp = signed_number 4 bytes };
   box = box_at (1 + word_size * 5) bytes;
 }
 
--- post (248), at a place
-abbrev pub post_at : ℕ → List ℕ → Option Post
-post_at place file = if slice_index file place == 248 then Some (read_post (drop place file)) else None
-
--- post, at the place that the end of the file gives
+-- what post says, at its place
 unfoldable pub post_of : List ℕ → Option Post
-post_of file = option_and_then (λ place. post_at place file) (post_place file)
+post_of file = option_map (λ place. read_post (drop place file)) (post_place file)
 
 -- ---- what the reader finds
 
@@ -50,9 +43,9 @@ post_of file = option_and_then (λ place. post_at place file) (post_place file)
 abbrev pub HasPost : List ℕ → (Post → Type 0) → Type 0
 HasPost file Says = (post : Post) × (post_of file ≡ Some post) × Says post
 
--- the byte before this place is 69, as that of eoc, which ends a character
-abbrev pub IsAfterEoc : List ℕ → ℕ → Type 0
-IsAfterEoc file place = slice_index file (place - 1) ≡ 69
+-- a character is in a file, and its bytes, of which eoc is the last, go up to post
+abbrev pub IsBeforePost : List ℕ → Character → Type 0
+IsBeforePost file c = (start : ℕ) × (p : ℤ) × (there : IsCharacterAt file start c p) × (post_place file ≡ Some (start + there.count))
 
 -- the greatest number of four bytes without a sign
 abbrev pub greatest_unsigned : ℕ

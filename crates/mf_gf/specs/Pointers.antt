@@ -1,7 +1,7 @@
 -- The characters of a finished file, as a reader finds them. The last bytes give the place of post. Each locator after the numbers
 -- of post gives the place of the last character with its code. Each character gives the place of the one before it as p (The
 -- METAFONTbook, Appendix G; gftype.web).
-use Rattle.std.specs.Prelude.{◌≡◌, ◌<◌, ◌≤◌, ◌+◌, ◌*◌, ◌==◌, ◌↔◌, ℕ, zero, suc, ℤ, pos, negsuc, All, AllPairs, Any, List, [], ◌∷◌}
+use Rattle.std.specs.Prelude.{◌≡◌, ◌<◌, ◌≤◌, ◌+◌, ◌*◌, ◌==◌, ◌&&◌, ◌↔◌, ℕ, zero, suc, ℤ, pos, negsuc, All, AllPairs, Any, List, [], ◌∷◌}
 use Rattle.std.specs.Prelude.{length, take, drop, reverse, filter, slice_index, Option, None, Some, option_map, if◌then◌else◌}
 use Rattle.std.specs.Option.{option_and_then}
 use Rattle.mf_gf.specs.declared.locator.Locator.{Locator}
@@ -12,28 +12,29 @@ use Rattle.mf_gf.specs.Pixels.{IsPixelSet}
 
 -- ---- the reader
 
--- the place of post: the four bytes before the identification byte (131), after which there is only padding (223); this list has the
--- last byte first
+-- the four bytes before the identification byte (131), after which there is only padding (223); this list has the last byte first
 unfoldable pub post_place_back : List ℕ → Option ℕ
 post_place_back [] = None
 post_place_back (b ∷ bytes) =
     if b == 223 then post_place_back bytes else (if b == 131 then Some (unsigned_at 0 (reverse (take word_size bytes))) else None)
 
--- the place of post, which is looked for from the end of a file
+-- the place of post (248): the end of a file gives it, and post has it as its p
 abbrev pub post_place : List ℕ → Option ℕ
-post_place file = post_place_back (reverse file)
+post_place file =
+    option_and_then (λ place. if slice_index file place == 248 && unsigned_at (place + 1) file == place then Some place else None)
+    (post_place_back (reverse file))
 
 -- what comes after post, and the bytes after that: a locator, or none where the ending begins
 pub record Item : Type 0 where
   pub locator : Option Locator
   pub rest : List ℕ
 
--- char_loc (245) has its code in one byte, and dx, dy, the width and the place in four bytes each; char_loc0 (246) has its code and dx
--- in pixels in one byte each, and the width and the place in four; post_post (249) begins the ending. (The reader ignores dy.)
+-- char_loc (245) has its code in one byte, and dx, dy, which is 0, the width and the place in four bytes each; char_loc0 (246) has its
+-- code and dx in pixels in one byte each, and the width and the place in four; post_post (249) begins the ending
 unfoldable pub read_item : List ℕ → Option Item
 read_item [] = None
 read_item (b ∷ bytes) =
-    if b == 245 then Some (record {
+    if b == 245 && unsigned_at (1 + word_size) bytes == 0 then Some (record {
       locator = Some (record {
         code = slice_index bytes 0;
         dx = word_at 1 bytes;
@@ -64,13 +65,9 @@ locators_within (suc n) bytes = elim (read_item bytes) [
   ]
 ]
 
--- the locators after the numbers of post (248): one for each of at most as many codes as there are, and then the ending
-abbrev pub locators_after : ℕ → List ℕ → Option (List Locator)
-locators_after place file = if slice_index file place == 248 then locators_within (code_count + 1) (drop (place + 37) file) else None
-
--- the locators of a file, after post at the place that its end gives
+-- the locators after the numbers of post: one for each of at most as many codes as there are, and then the ending
 abbrev pub locators_of : List ℕ → Option (List Locator)
-locators_of file = option_and_then (λ place. locators_after place file) (post_place file)
+locators_of file = option_and_then (λ place. locators_within (code_count + 1) (drop (place + 37) file)) (post_place file)
 
 -- a character begins at a place with this p: its head says so, and its bytes paint its pixels
 pub record IsCharacterAt (file : List ℕ) (place : ℕ) (c : Character) (p : ℤ) : Type 0 where

@@ -4,7 +4,7 @@ ghost use Rattle.std.specs.Prelude.{◌≡◌, ◌↔◌, ◌<◌, ◌≤◌, �
 ghost use Rattle.mf_gf.specs.Boxes.{box_of_pixels, join, pixel_box};
 ghost use Rattle.mf_gf.specs.Files.{Character, IsPadded, IsShortDx, box_of_all, bytes_so_far, file_of, last_place, shipments, short_dx};
 ghost use Rattle.mf_gf.specs.declared.file.FontWords.{FontWords};
-ghost use Rattle.mf_gf.specs.FontNumbers.{HasPost, IsAfterEoc, IsLeastAround, comment_of, greatest_unsigned};
+ghost use Rattle.mf_gf.specs.FontNumbers.{HasPost, IsBeforePost, IsLeastAround, comment_of, greatest_unsigned};
 ghost use Rattle.mf_gf.specs.Numbers.{IsWord, code_count};
 ghost use Rattle.mf_gf.specs.Painting.{head_of, pixels_of_character};
 ghost use Rattle.mf_gf.specs.Pixels.{IsPixelSet, black};
@@ -66,14 +66,15 @@ pub fn characters_are_read_back()
     ensures { (words : FontWords) (comment : List ℕ) (cs : List Character) → AreShippable comment cs → IsReadBack (file_of words comment cs) cs }
 {}
 
-/// A reader of a finished file finds its comment in the preamble, and the numbers of the font in post, to which the end of the file
-/// leads. There post has its own place, before which the byte of an eoc stands, and the least box around the boxes of all characters.
+/// A reader of a finished file finds its comment in the preamble, and post, to which the end of the file leads, where post says that it
+/// is: after the characters, of which the last ends with its eoc there. Post has the numbers of the font, and the least box around the
+/// boxes of all characters.
 pub fn numbers_are_read_back()
     ensures preamble { (words : FontWords) (comment : List ℕ) (cs : List Character) → comment_of (file_of words comment cs) ≡ Some comment }
     ensures place { (words : FontWords) (comment : List ℕ) (cs : List Character) → AreShippable comment cs
-        → HasPost (file_of words comment cs) (λ post. post_place (file_of words comment cs) ≡ Some post.place) }
+        → post_place (file_of words comment cs) ≡ Some (length (bytes_so_far comment cs)) }
     ensures last_eoc { (words : FontWords) (comment : List ℕ) (cs : List Character) (c : Character) → AreShippable comment (cs ++ c ∷ [])
-        → HasPost (file_of words comment (cs ++ c ∷ [])) (λ post. IsAfterEoc (file_of words comment (cs ++ c ∷ [])) post.place) }
+        → IsBeforePost (file_of words comment (cs ++ c ∷ [])) c }
     ensures design_size { (words : FontWords) (comment : List ℕ) (cs : List Character) → AreShippable comment cs → IsWord words.ds
         → HasPost (file_of words comment cs) (λ post. post.words.ds ≡ words.ds) }
     ensures check_sum { (words : FontWords) (comment : List ℕ) (cs : List Character) → AreShippable comment cs → words.cs ≤ greatest_unsigned

@@ -1,12 +1,12 @@
-use Rattle.std.proofs.Common.{◌≡◌, ◌∷◌, ◌++◌, [], ℕ, List, Some, length, drop, ap, sym, subst, ◌∙◌, arith}
+use Rattle.std.proofs.Common.{◌∷◌, ℕ, List, drop, sym, subst, arith}
 use Rattle.byteorder.specs.Numbers.{big_number-reads_back}
 use Rattle.mf_gf.specs.declared.file.FontWords.{FontWords}
-use Rattle.mf_gf.specs.Files.{Character, box_of_all, bytes_so_far, file_of}
-use Rattle.mf_gf.specs.FontNumbers.{HasPost, IsAfterEoc, IsLeastAround, Post, read_post}
+use Rattle.mf_gf.specs.Files.{Character, box_of_all, file_of}
+use Rattle.mf_gf.specs.FontNumbers.{HasPost, IsLeastAround, Post, read_post}
 use Rattle.mf_gf.specs.Pointers.{AreShippable}
 use Rattle.mf_gf.proofs.BoxOfDots.{box-reads_back, word-reads_back}
 use Rattle.mf_gf.proofs.FontBoxes.{all_fit, least_of_all}
-use Rattle.mf_gf.proofs.FontNumbersRead.{all_bytes, comment_of-file, eoc_before_post, post_of-file}
+use Rattle.mf_gf.proofs.FontNumbersRead.{all_bytes, comment_of-file, last_before_post, post_of-file}
 use Rattle.mf_gf.proofs.PostFound.{post_place-file}
 use Rattle.mf_gf.proofs.Shipped.{bytes_after_post}
 use Rattle.mf_gf.proofs.laws.numbers_are_read_back.Goals as goal
@@ -16,24 +16,14 @@ found : (Says : Post → Type 0) (words : FontWords) (comment : List ℕ) (cs : 
     → Says (read_post (all_bytes words comment cs)) → HasPost (file_of words comment cs) Says
 found Says words comment cs shippable says = (read_post (all_bytes words comment cs), post_of-file words comment cs shippable.short, says)
 
--- post has its own place
-own_place : (words : FontWords) (comment : List ℕ) (cs : List Character) → AreShippable comment cs
-    → length (bytes_so_far comment cs) ≡ (read_post (all_bytes words comment cs)).place
-own_place words comment cs shippable = sym (big_number-reads_back 4 _ (drop 5 (all_bytes words comment cs)) (omega (arith, shippable.short)))
-
 pub returns-clause-preamble : goal.returns-clause-preamble
 returns-clause-preamble c = comment_of-file
 
 pub returns-clause-place : goal.returns-clause-place
-returns-clause-place c = λ words comment cs shippable.
-    found _ words comment cs shippable
-    (post_place-file words comment cs shippable.short ∙ ap (λ at. Some at) (own_place words comment cs shippable))
+returns-clause-place c = λ words comment cs shippable. post_place-file words comment cs shippable.short
 
 pub returns-clause-last_eoc : goal.returns-clause-last_eoc
-returns-clause-last_eoc c = λ words comment cs d shippable.
-    let all = cs ++ d ∷ [] in
-    found _ words comment all shippable
-    (subst (IsAfterEoc (file_of words comment all)) (own_place words comment all shippable) (eoc_before_post words comment cs d))
+returns-clause-last_eoc c = last_before_post
 
 pub returns-clause-design_size : goal.returns-clause-design_size
 returns-clause-design_size c = λ words comment cs shippable fits.
