@@ -11,14 +11,14 @@ use Rattle.mf_live.specs.declared.view.View.{View}
 use Rattle.mf_live.specs.declared.viewer.Viewer.{Viewer}
 use Rattle.mf_live.specs.Books.{greatest_limit}
 use Rattle.mf_live.specs.Entries.{Entry, is_closed, is_nothing_after_end}
-use Rattle.mf_live.specs.Events.{events_of}
+use Rattle.mf_live.specs.Events.{Event, events_of}
 use Rattle.mf_live.specs.Prefixes.{IsWholePrefix, longer}
 use Rattle.mf_live.specs.Rule.{IsLook, lines_of, version_list}
 use Rattle.mf_live.specs.Sheets.{HasLearnt}
 use Rattle.mf_live.specs.Viewers.{Extends, IsPublished, SeesTheSame, learnt_list, looked_at_list, notice_events, seen_list, told_list}
 use Rattle.mf_live.specs.World.{Happen, new_world, published_list_of}
 use Rattle.mf_live.proofs.EntryLists.{nothing_follows}
-use Rattle.mf_live.proofs.Histories.{events_of-append, is_there, prefix_from}
+use Rattle.mf_live.proofs.Histories.{events_of-append, prefix_from}
 use Rattle.mf_live.proofs.ListPrefixes.{prefix-shorter, prefix-trans}
 use Rattle.mf_live.proofs.WholePrefixes.{whole-longer, whole-same, whole-self}
 use Rattle.mf_live.proofs.Worlds.{lawful-after, published_list_grows}
@@ -44,11 +44,12 @@ one_history m n lines one other few = elim (cases_lt (length n.knowledge.seen.lo
 
 -- what a notice says was published by the events that it knows
 pub is_published : (n : Notice) → IsPublished (notice_events n) (told_list n)
-is_published n = record { happen = n.lawful; is = refl; all = n.whole; alive = is_there n.knowledge.seen.log }
+is_published n = record { happen = n.lawful; is = refl; all = n.whole }
 
--- nothing follows the end mark in what a notice says
-pub told_list-ends : (n : Notice) → is_nothing_after_end (told_list n) ≡ true
-told_list-ends n = subst (λ (L : List Entry). is_nothing_after_end L ≡ true) n.whole (lawful-after greatest_limit (notice_events n) n.lawful).ended
+-- nothing follows the end mark in what was published
+pub published-ends : (events : List Event) (L : List Entry) → IsPublished events L → is_nothing_after_end L ≡ true
+published-ends events L published =
+    subst (λ (L : List Entry). is_nothing_after_end L ≡ true) published.all (lawful-after greatest_limit events published.happen).ended
 
 -- a list extends what a viewer has seen where it extends what the viewer has looked at, and what it has learnt
 pub extends_both : (v : Viewer) (L : List Entry) → IsWholePrefix (looked_at_list v) L → IsWholePrefix (learnt_list v) L → Extends v L

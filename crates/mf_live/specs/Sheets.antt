@@ -5,7 +5,7 @@ use Rattle.mf_live.specs.declared.sheet.Sheet.{Sheet}
 use Rattle.mf_live.specs.declared.sheet.SheetFault.{SheetFault}
 use Rattle.mf_live.specs.declared.sheet.SheetFault.TheVariants.{NoLook, OutOfMemory}
 use Rattle.mf_live.specs.declared.viewer.Viewer.{Viewer}
-use Rattle.mf_live.specs.Entries.{Entry, is_nothing_after_end}
+use Rattle.mf_live.specs.Entries.{Entry}
 use Rattle.mf_live.specs.Prefixes.{IsWholePrefix, longer}
 use Rattle.mf_live.specs.Viewers.{Extends, IsPublished, SeesTheSame, identity, learnt_list, looked_at_list, looked_at_events, notice_identity, seen_list, told_list}
 
@@ -16,13 +16,12 @@ sheet_identity s = notice_identity s.notice
 abbrev pub sheet_list : Sheet → List Entry
 sheet_list s = told_list s.notice
 
--- a viewer has looked at a list of which everything that it had seen is a whole prefix, and in which nothing follows the end mark. It
--- has seen that list, which the events that it knows have published, and has learnt nothing more
+-- a viewer has looked at a list of which everything that it had seen is a whole prefix. It has seen that list, which the events that it
+-- knows have published, and has learnt nothing more
 pub record HasLooked (before after : Viewer) : Type 0 where
   pub extends : Extends before (looked_at_list after)
   pub learnt : learnt_list after ≡ learnt_list before
   pub seen : seen_list after ≡ looked_at_list after
-  pub ends : is_nothing_after_end (looked_at_list after) ≡ true
   pub published : IsPublished (looked_at_events after) (looked_at_list after)
 
 -- a sheet has what its look showed
@@ -40,7 +39,6 @@ IsNotTaken before after OutOfMemory = HasLooked before after
 pub record HasLearnt (before : Viewer) (whole : List Entry) (after : Viewer) : Type 0 where
   pub looked : looked_at_list after ≡ looked_at_list before
   pub learnt : learnt_list after ≡ longer (learnt_list before) whole
-  pub seen : seen_list after ≡ longer (seen_list before) whole
   pub keeps : (L : List Entry) → Extends after L → Extends before L × IsWholePrefix whole L
 
 -- a viewer has looked at a list that the events that it knows have published, and has seen no longer list

@@ -1,5 +1,5 @@
 -- What contracts say about viewers, looks and notices.
-use Rattle.std.specs.Prelude.{◌≡◌, false, List, []}
+use Rattle.std.specs.Prelude.{◌≡◌, List, []}
 use Rattle.logbook.specs.Pages.{Book}
 use Rattle.left_right.specs.Sides.{view}
 use Rattle.mf_live.specs.declared.history.Knowledge.{Knowledge}
@@ -10,7 +10,7 @@ use Rattle.mf_live.specs.Books.{greatest_limit}
 use Rattle.mf_live.specs.Entries.{Entry}
 use Rattle.mf_live.specs.Events.{Event, events_of}
 use Rattle.mf_live.specs.Prefixes.{IsWholePrefix, longer}
-use Rattle.mf_live.specs.World.{Happen, new_world, world_after, accepted_list_of, published_list_of}
+use Rattle.mf_live.specs.World.{Happen, new_world, accepted_list_of, published_list_of}
 
 -- which picture a notice is of
 abbrev pub notice_identity : Notice → Book
@@ -44,13 +44,11 @@ learnt_list v = told_list v.known
 abbrev pub seen_list : Viewer → List Entry
 seen_list v = longer (looked_at_list v) (learnt_list v)
 
--- these events may all happen, in this order; the writer is still there after them; and L is both what they have published and
--- everything that they have accepted
+-- these events may all happen, in this order, and L is both what they have published and everything that they have accepted
 pub record IsPublished (events : List Event) (L : List Entry) : Type 0 where
   pub happen : Happen greatest_limit new_world events
   pub is : published_list_of events ≡ L
   pub all : accepted_list_of events ≡ L
-  pub alive : (world_after new_world events).gone ≡ false
 
 -- everything that the viewer has looked at or learnt of is a whole prefix of L
 pub record Extends (v : Viewer) (L : List Entry) : Type 0 where

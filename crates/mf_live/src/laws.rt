@@ -48,8 +48,8 @@ pub fn published_is_visible(writer: &Writer)
     ensures { writers.visible_list writer.now ≡ writers.published_list writer.now }
 {}
 
-/// A notice tells a list that the events which it knows have published: all of these can happen in their order, they have accepted
-/// nothing more, and the writer is still there after them. So a viewer that learns of a notice learns of a published list.
+/// A notice tells a list that the events which it knows have published: all of these can happen in their order, and they have
+/// accepted nothing more. So a viewer that learns of a notice learns of a published list.
 #[tactic(auto, using(crate::proofs::Looking::is_published))]
 pub fn notice_is_published(notice: &Notice)
     ensures { viewers.IsPublished (viewers.notice_events notice.now) (viewers.told_list notice.now) }

@@ -1,7 +1,7 @@
 //! Handing out viewers.
 ghost use Rattle.std.specs.Prelude.{◌≡◌, ◌+◌, [], IfOk, MatchResult};
 ghost use Rattle.mf_live.specs.Desks.{desk_identity, remaining_viewers};
-ghost use Rattle.mf_live.specs.Viewers.{identity, looked_at_list, learnt_list, seen_list};
+ghost use Rattle.mf_live.specs.Viewers.{identity, looked_at_list, learnt_list};
 
 use super::{Desk, NoPlace};
 use crate::viewer::Viewer;
@@ -14,7 +14,7 @@ impl Desk {
         ensures remaining { MatchResult result (λ _. remaining_viewers self.new + 1 ≡ remaining_viewers self.old) (λ _. (remaining_viewers self.old ≡ 0)
             × (remaining_viewers self.new ≡ 0)) }
         ensures viewer_identity { IfOk result (λ viewer. identity viewer ≡ desk_identity self.old) }
-        ensures newcomer { IfOk result (λ viewer. (looked_at_list viewer ≡ []) × (learnt_list viewer ≡ []) × (seen_list viewer ≡ [])) }
+        ensures newcomer { IfOk result (λ viewer. (looked_at_list viewer ≡ []) × (learnt_list viewer ≡ [])) }
     {
         match self.viewers.pop() {
             Some(viewer) => Ok(viewer),

@@ -1,6 +1,6 @@
 //! What a viewer does.
 ghost use Rattle.std.specs.Prelude.{◌≡◌, List, true, IfOk, MatchResult};
-ghost use Rattle.mf_live.specs.Entries.{Entry, is_nothing_after_end, is_closed};
+ghost use Rattle.mf_live.specs.Entries.{Entry, is_closed};
 ghost use Rattle.mf_live.specs.Prefixes.{IsWholePrefix, longer};
 ghost use Rattle.mf_live.specs.Viewers.{identity, learnt_list, looked_at_list, seen_list, Extends, IsPublished, SeesTheSame};
 ghost use Rattle.mf_live.specs.Viewers.{notice_identity, told_list, look_events, look_learnt_list, look_identity, shown_list};
@@ -18,7 +18,6 @@ impl Viewer {
     pub fn look(self) -> Result<Look, (Viewer, NoLook)>
         ensures identity { MatchResult result (λ look. look_identity look ≡ identity self) (λ refused. identity refused.0 ≡ identity self) }
         ensures extends { MatchResult result (λ look. Extends self (shown_list look)) (λ refused. SeesTheSame self refused.0) }
-        ensures ends { MatchResult result (λ look. is_nothing_after_end (shown_list look) ≡ true) (λ refused. seen_list refused.0 ≡ seen_list self) }
         ensures learnt { IfOk result (λ look. look_learnt_list look ≡ learnt_list self) }
         ensures published { IfOk result (λ look. IsPublished (look_events look) (shown_list look)) }
         ensures last { is_closed (seen_list self) ≡ true → IfOk result (λ look. shown_list look ≡ seen_list self) }
@@ -58,7 +57,6 @@ impl Viewer {
         ensures identity { identity self.new ≡ identity self.old }
         ensures looked { looked_at_list self.new ≡ looked_at_list self.old }
         ensures learnt { learnt_list self.new ≡ longer (learnt_list self.old) (told_list notice) }
-        ensures seen { seen_list self.new ≡ longer (seen_list self.old) (told_list notice) }
         ensures keeps { (L : List Entry) → Extends self.new L → Extends self.old L × IsWholePrefix (told_list notice) L }
     {
         self.known.meets(&notice);

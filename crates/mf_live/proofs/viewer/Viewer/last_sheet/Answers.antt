@@ -6,7 +6,7 @@ use Rattle.mf_live.specs.declared.viewer.Viewer.{Viewer}
 use Rattle.mf_live.specs.Entries.{Entry, is_closed}
 use Rattle.mf_live.specs.Sheets.{HasLearnt, HasLooked, HasLookedLast, IsLastNotTaken, IsNotTaken}
 use Rattle.mf_live.specs.Viewers.{Extends, IsPublished, looked_at_events, looked_at_list, told_list}
-use Rattle.mf_live.proofs.Looking.{HasLearnt-same, whole-closed}
+use Rattle.mf_live.proofs.Looking.{HasLearnt-same, published-ends, whole-closed}
 use Rattle.mf_live.proofs.viewer.Viewer.last_sheet.Goals.{After-learn}
 use Rattle.mf_live.proofs.viewer.Viewer.last_sheet.Goals as goal
 
@@ -15,7 +15,7 @@ module _ (first second after : Viewer) (told : List Entry) (learns : HasLearnt f
   looks_at_last : HasLooked second after → HasLookedLast first told after
   looks_at_last look =
       let both = learns.keeps (looked_at_list after) look.extends in
-      let is = whole-closed told (looked_at_list after) both.1 look.ends closed in (
+      let is = whole-closed told (looked_at_list after) both.1 (published-ends _ _ look.published) closed in (
         subst (Extends first) is both.0,
         record { looked = is; seen = look.seen ∙ is; published = subst (IsPublished (looked_at_events after)) is look.published },
       )

@@ -1,15 +1,11 @@
 use Rattle.std.proofs.Common.{arith, sym}
 use Rattle.mf_live.proofs.WholePrefixes.{longer-of_whole, whole-trans, whole-longer, longer-long, longer-shorter, whole-same}
 use Rattle.mf_live.proofs.viewer.Viewer.learn.Goals as goal
-use Rattle.std.proofs.lemmas.Int.{ints}
 use Rattle.std.proofs.lemmas.Bool.{cases_lt}
 
 pub returns-then-self-notice-clause-learnt : goal.returns-then-self-notice-clause-learnt
 returns-then-self-notice-clause-learnt c =
     sym (grind (arith, cases_lt, longer-shorter, longer-long, whole-same, c.meets.ensures.this (omega arith)))
-
-pub returns-then-self-notice-clause-seen : goal.returns-then-self-notice-clause-seen
-returns-then-self-notice-clause-seen c = grind (arith, ints, returns-then-self-notice-clause-learnt c, cases_lt, longer-shorter, longer-long)
 
 pub returns-then-self-notice-clause-keeps : goal.returns-then-self-notice-clause-keeps
 returns-then-self-notice-clause-keeps c = λ L extends.
@@ -18,9 +14,6 @@ returns-then-self-notice-clause-keeps c = λ L extends.
 
 pub returns-else-self-notice-clause-learnt : goal.returns-else-self-notice-clause-learnt
 returns-else-self-notice-clause-learnt c = sym (longer-of_whole _ _ (c.meets.ensures.that (omega arith)))
-
-pub returns-else-self-notice-clause-seen : goal.returns-else-self-notice-clause-seen
-returns-else-self-notice-clause-seen c = grind (arith, ints, returns-else-self-notice-clause-learnt c, cases_lt, longer-shorter, longer-long)
 
 pub returns-else-self-notice-clause-keeps : goal.returns-else-self-notice-clause-keeps
 returns-else-self-notice-clause-keeps c = λ L extends. (extends, whole-trans _ _ L (c.meets.ensures.that (omega arith)) extends.learnt)

@@ -6,7 +6,7 @@ use Rattle.mf_live.specs.Prefixes.{IsWholePrefix}
 use Rattle.mf_live.specs.Rule.{version_list}
 use Rattle.mf_live.specs.Viewers.{Extends, told_list}
 use Rattle.mf_live.specs.World.{published_list_of}
-use Rattle.mf_live.proofs.Looking.{Extends-look, is_published, whole-closed, told_list-ends}
+use Rattle.mf_live.proofs.Looking.{Extends-look, is_published, published-ends, whole-closed}
 use Rattle.mf_live.proofs.Seats.{looks}
 use Rattle.mf_live.proofs.viewer.Viewer.look.Goals as goal
 
@@ -31,11 +31,9 @@ invariant_of-result c =
       enough = subst (λ (x : Version). v.known.entries ≤ x.notice.entries) c.get.ensures c.if-shown-known.false;
     }
 
-pub returns-clause-ends : goal.returns-clause-ends
-returns-clause-ends c = grind (arith, sym, told_list-ends)
-
 pub returns-clause-published : goal.returns-clause-published
 returns-clause-published c = grind (arith, sym, is_published)
 
 pub returns-clause-last : goal.returns-clause-last
-returns-clause-last c = λ closed. let extends = returns-clause-extends c in whole-closed _ _ extends.seen (returns-clause-ends c) closed
+returns-clause-last c = λ closed.
+    let extends = returns-clause-extends c in whole-closed _ _ extends.seen (published-ends _ _ (returns-clause-published c)) closed
