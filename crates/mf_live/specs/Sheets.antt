@@ -1,5 +1,5 @@
 -- What contracts say about taking a sheet.
-use Rattle.std.specs.Prelude.{◌≡◌, true, List}
+use Rattle.std.specs.Prelude.{◌≡◌, List}
 use Rattle.logbook.specs.Pages.{Book}
 use Rattle.mf_live.specs.declared.sheet.Sheet.{Sheet}
 use Rattle.mf_live.specs.declared.sheet.SheetFault.{SheetFault}

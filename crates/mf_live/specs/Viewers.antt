@@ -1,5 +1,5 @@
 -- What contracts say about viewers, looks and notices.
-use Rattle.std.specs.Prelude.{◌≡◌, List, []}
+use Rattle.std.specs.Prelude.{◌≡◌, ℕ, List, []}
 use Rattle.logbook.specs.Pages.{Book}
 use Rattle.left_right.specs.Sides.{view}
 use Rattle.mf_live.specs.declared.history.Knowledge.{Knowledge}
@@ -27,6 +27,10 @@ told_list n = published_list_of (notice_events n)
 -- which picture a viewer looks at
 abbrev pub identity : Viewer → Book
 identity v = notice_identity v.known
+
+-- the number of its seat at the copies, by which viewers of a picture are told apart
+abbrev pub seat : Viewer → ℕ
+seat v = v.reader.place.id
 
 -- the events of its picture that a viewer knew in its last look that was answered
 abbrev pub looked_at_events : Viewer → List Event
@@ -64,6 +68,10 @@ pub record SeesTheSame (before after : Viewer) : Type 0 where
 -- which picture a look is of
 abbrev pub look_identity : Look → Book
 look_identity l = notice_identity l.known
+
+-- the seat of its viewer
+abbrev pub look_seat : Look → ℕ
+look_seat l = l.reading.place.id
 
 -- the longest list that its viewer has learnt of
 abbrev pub look_learnt_list : Look → List Entry

@@ -49,6 +49,10 @@ record_of w = w.seen
 abbrev pub identity : Watcher → Book
 identity w = viewers.identity (viewer_of w)
 
+-- the seat of its viewer
+abbrev pub seat : Watcher → ℕ
+seat w = viewers.seat (viewer_of w)
+
 -- it has the record of this many looks, each at a whole prefix of what its viewer has seen
 abbrev pub IsRecord : ℕ → Watcher → Type 0
 IsRecord looks w = AreGlances (viewers.seen_list (viewer_of w)) looks (record_of w).items

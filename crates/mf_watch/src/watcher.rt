@@ -4,7 +4,7 @@ ghost use Rattle.logbook.specs.Pages.{Book};
 ghost use Rattle.mf_live.specs.Entries.{is_closed};
 ghost use Rattle.mf_live.specs.Sheets.{HasLookedAt, IsLastNotTaken};
 ghost use Rattle.mf_live.specs.Viewers as viewers;
-ghost use Rattle.mf_watch.specs.Watchers.{HasRoomFor, HasSeen, IsRecord, IsWatcher, glance_at, identity, record_of, viewer_of};
+ghost use Rattle.mf_watch.specs.Watchers.{HasRoomFor, HasSeen, IsRecord, IsWatcher, glance_at, identity, record_of, seat, viewer_of};
 
 use crate::gate::Gate;
 use crate::glance::Glance;
@@ -37,6 +37,7 @@ impl Watcher {
     pub(crate) fn watch<G: Gate>(self, number: u32, looks: u32, gate: &G) -> Result<Watcher, NoLook>
         requires { IsWatcher (identity self) 0 (looks + 1) self }
         ensures watcher { IfOk result (IsWatcher (identity self) looks 1) }
+        ensures seat { IfOk result (λ after. seat after ≡ seat self) }
         ensures refused { IfErr result (λ _. 0 < looks) }
     {
         let mut watcher = self;
@@ -51,6 +52,7 @@ impl Watcher {
         requires { HasRoomFor 1 self }
         ensures watcher { IfOk result (λ after. (picture : Book) (looks more : ℕ)
             → IsWatcher picture looks (more + 1) self → IsWatcher picture (looks + 1) more after) }
+        ensures seat { IfOk result (λ after. seat after ≡ seat self) }
         ensures shown { IfOk result (λ after. (record_of after).items ≡ (record_of self).items ++ glance_at (viewers.looked_at_list (viewer_of after)) ∷ []) }
     {
         let Watcher { viewer, mut seen } = self;

@@ -1,8 +1,8 @@
 //! Viewers that look on, each in a thread of its own.
-ghost use Rattle.std.specs.Prelude.{◌≡◌, ◌⊎◌, ◌+◌, ◌≤◌, ◌<◌, ℕ, All, IfErr, IfOk, OnErr, OnOk, length, vec_capacity};
+ghost use Rattle.std.specs.Prelude.{◌≡◌, ◌⊎◌, ◌+◌, ◌≤◌, ◌<◌, [], ℕ, All, IfErr, IfOk, OnErr, OnOk, length, map, vec_capacity};
 ghost use Rattle.logbook.specs.Pages.{Book};
 ghost use Rattle.mf_live.specs.Desks.{desk_identity, most_places, remaining_viewers};
-ghost use Rattle.mf_watch.specs.Watchers.{IsWatcher, identity};
+ghost use Rattle.mf_watch.specs.Watchers.{IsWatcher, identity, seat};
 
 use crate::fault::StartFault;
 use crate::gate::Gate;
@@ -23,10 +23,11 @@ pub(crate) struct OwedLooks {
 }
 
 impl Promise<Result<Watcher, NoLook>> for OwedLooks {
-    ghost use Rattle.std.specs.Prelude.{◌<◌, MatchResult};
-    ghost use Rattle.mf_watch.specs.Watchers.{IsWatcher, identity};
+    ghost use Rattle.std.specs.Prelude.{◌≡◌, ◌<◌, MatchResult};
+    ghost use Rattle.mf_watch.specs.Watchers.{IsWatcher, identity, seat};
 
-    ghost kept_by = { λ owed answer. MatchResult answer (IsWatcher (identity owed.watcher.value) owed.looks 1) (λ _. 0 < owed.looks) };
+    ghost kept_by = { λ owed answer. MatchResult answer
+        (λ watcher. IsWatcher (identity owed.watcher.value) owed.looks 1 watcher × (seat watcher ≡ seat owed.watcher.value)) (λ _. 0 < owed.looks) };
 }
 
 /// Viewers that look on in threads, and room for what the threads give back. The room is allocated before the first thread
@@ -37,7 +38,7 @@ pub struct Watching {
     pub(crate) threads: Vec<PromisedHandle<Result<Watcher, NoLook>, OwedLooks>>,
     /// Room for what the threads give back.
     pub(crate) room: Vec<Watcher>,
-    ghost empty: { length room.items ≡ 0 },
+    ghost empty: { room.items ≡ [] },
     ghost enough: { length threads.items ≤ vec_capacity room },
 }
 
@@ -59,7 +60,7 @@ fn watchers(alloc: Global, desk: Desk, viewers: u32, looks: u32) -> Result<Vec<W
 }
 
 impl Watching {
-    ghost use Rattle.mf_watch.specs.Watching.{AreStarted, viewer_count};
+    ghost use Rattle.mf_watch.specs.Watching.{AreStarted, started_seats, viewer_count};
 
     /// Starts a thread for each of `viewers` viewers of a desk. Each thread promises the record of `looks` looks. Requires at most
     /// 64 viewers. Refused with `NoPlace` where there is no place or no thread for a viewer, or the gate cannot be shared with it,
@@ -144,6 +145,7 @@ impl Watching {
     pub fn join<S: Threads>(self, rt: &S) -> Result<Vec<Watcher>, NoLook>
         ensures watchers { IfOk result (λ watchers. (picture : Book) (looks : ℕ) → AreStarted picture looks self
             → All (IsWatcher picture looks 1) watchers.items) }
+        ensures seats { IfOk result (λ watchers. map seat watchers.items ≡ started_seats self) }
         ensures count { IfOk result (λ watchers. length watchers.items ≡ viewer_count self) }
         ensures refused { IfErr result (λ _. 0 < viewer_count self) }
         ensures looked { IfErr result (λ _. (picture : Book) (looks : ℕ) → AreStarted picture looks self → 0 < looks) }

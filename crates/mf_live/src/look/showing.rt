@@ -1,8 +1,8 @@
 //! What a look shows, and its end.
 ghost use Rattle.std.specs.Prelude.{◌≡◌};
 ghost use Rattle.mf_live.specs.Entries.{picture_at, revision_at};
-ghost use Rattle.mf_live.specs.Viewers.{identity, looked_at_list, looked_at_events, learnt_list, seen_list, look_events};
-ghost use Rattle.mf_live.specs.Viewers.{look_learnt_list, look_identity, notice_identity, shown_list, told_list};
+ghost use Rattle.mf_live.specs.Viewers.{identity, looked_at_list, looked_at_events, learnt_list, seat, seen_list, look_events};
+ghost use Rattle.mf_live.specs.Viewers.{look_learnt_list, look_identity, look_seat, notice_identity, shown_list, told_list};
 
 use super::Look;
 use crate::notice::Notice;
@@ -35,6 +35,7 @@ impl Look {
     /// Ends the look and gives its viewer back, which has then seen what the look showed.
     pub fn leave(self) -> Viewer
         ensures identity { identity result ≡ look_identity self }
+        ensures seat { seat result ≡ look_seat self }
         ensures events { looked_at_events result ≡ look_events self }
         ensures looked { looked_at_list result ≡ shown_list self }
         ensures learnt { learnt_list result ≡ look_learnt_list self }

@@ -2,8 +2,8 @@
 ghost use Rattle.std.specs.Prelude.{◌≡◌, List, true, IfOk, MatchResult};
 ghost use Rattle.mf_live.specs.Entries.{Entry, is_closed};
 ghost use Rattle.mf_live.specs.Prefixes.{IsWholePrefix, longer};
-ghost use Rattle.mf_live.specs.Viewers.{identity, learnt_list, looked_at_list, seen_list, Extends, IsPublished, SeesTheSame};
-ghost use Rattle.mf_live.specs.Viewers.{notice_identity, told_list, look_events, look_learnt_list, look_identity, shown_list};
+ghost use Rattle.mf_live.specs.Viewers.{identity, learnt_list, looked_at_list, seat, seen_list, Extends, IsPublished, SeesTheSame};
+ghost use Rattle.mf_live.specs.Viewers.{notice_identity, told_list, look_events, look_learnt_list, look_identity, look_seat, shown_list};
 
 use super::Viewer;
 use crate::look::{Look, NoLook};
@@ -17,6 +17,7 @@ impl Viewer {
     /// viewer has seen the end mark, it is exactly what the viewer has seen.
     pub fn look(self) -> Result<Look, (Viewer, NoLook)>
         ensures identity { MatchResult result (λ look. look_identity look ≡ identity self) (λ refused. identity refused.0 ≡ identity self) }
+        ensures seat { MatchResult result (λ look. look_seat look ≡ seat self) (λ refused. seat refused.0 ≡ seat self) }
         ensures extends { MatchResult result (λ look. Extends self (shown_list look)) (λ refused. SeesTheSame self refused.0) }
         ensures learnt { IfOk result (λ look. look_learnt_list look ≡ learnt_list self) }
         ensures published { IfOk result (λ look. IsPublished (look_events look) (shown_list look)) }
@@ -55,6 +56,7 @@ impl Viewer {
     pub fn learn(&mut self, notice: Notice)
         requires { notice_identity notice ≡ identity self.old }
         ensures identity { identity self.new ≡ identity self.old }
+        ensures seat { seat self.new ≡ seat self.old }
         ensures looked { looked_at_list self.new ≡ looked_at_list self.old }
         ensures learnt { learnt_list self.new ≡ longer (learnt_list self.old) (told_list notice) }
         ensures keeps { (L : List Entry) → Extends self.new L → Extends self.old L × IsWholePrefix (told_list notice) L }

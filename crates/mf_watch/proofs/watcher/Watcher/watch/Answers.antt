@@ -1,4 +1,4 @@
-use Rattle.std.proofs.Common.{◌+◌, ◌-◌, arith}
+use Rattle.std.proofs.Common.{◌+◌, ◌-◌, ◌∙◌, arith}
 use Rattle.std.proofs.lemmas.Result.{err_from_is_err_and}
 use Rattle.mf_watch.specs.Watchers.{identity}
 use Rattle.mf_watch.proofs.watcher.Watcher.watch.Goals as goal
@@ -10,7 +10,9 @@ returns-in_err-watcher-clause-refused g c =
 
 pub loop-look-preserved : goal.loop-look-preserved
 loop-look-preserved g c =
-    let was = c.loop-look.invariant in
-    let left = c.args.looks - (c.loop-look.look + 1) in
-    c.in_ok-watcher.ensures.watcher (identity c.args.self) c.loop-look.look (left + 1)
-    (record { identity_is = was.identity_is; record_is = was.record_is; last_is = was.last_is; room = omega (arith, was.room, c.loop-look-test.true) })
+    let (was, same) = c.loop-look.invariant in
+    let left = c.args.looks - (c.loop-look.look + 1) in (
+      c.in_ok-watcher.ensures.watcher (identity c.args.self) c.loop-look.look (left + 1)
+          (record { identity_is = was.identity_is; record_is = was.record_is; last_is = was.last_is; room = omega (arith, was.room, c.loop-look-test.true) }),
+      c.in_ok-watcher.ensures.seat ∙ same,
+    )

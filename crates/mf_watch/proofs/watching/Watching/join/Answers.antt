@@ -1,13 +1,14 @@
-use Rattle.std.proofs.Common.{rules, ◌≡◌, ◌+◌, ◌∷◌, ◌++◌, [], ap, arith, length, length-append, subst, sym}
+use Rattle.std.proofs.Common.{rules, ◌≡◌, ◌+◌, ◌∷◌, ◌++◌, ◌∙◌, [], ap, append_assoc, arith, length, length-append, map, subst, sym}
+use Rattle.std.proofs.lemmas.List.{map-append}
 use Rattle.std.proofs.lemmas.List.Elements.{All-head, All-push, All-rest, All-same}
 use Rattle.std.specs.Vec.Iter.{into_iter_items}
-use Rattle.mf_watch.specs.Watchers.{IsWatcher}
-use Rattle.mf_watch.specs.Watching.{Owes}
+use Rattle.mf_watch.specs.Watchers.{IsWatcher, seat}
+use Rattle.mf_watch.specs.Watching.{Owes, started_seat}
 use Rattle.mf_watch.proofs.watching.Watching.join.Goals as goal
 
 pub loop-thread-preserved-in-Ok-push : goal.loop-thread-preserved-in-Ok-push
 loop-thread-preserved-in-Ok-push g c =
-    let (kept, room, counted, fewer, missed, looked) = c.loop-thread.invariant in
+    let (kept, room, counted, fewer, missed, looked, seats) = c.loop-thread.invariant in
     let first = c.in-Some.ensures.steps.0 in
     let pushed = c.in-Ok-push.ensures.items in
     let old = c.loop-thread.room.items in
@@ -22,7 +23,7 @@ loop-thread-preserved-in-Ok-push g c =
           let Ready = IsWatcher picture looks 1 in
           let (same_picture, same_looks) = All-head (Owes picture looks) thread rest (All-same (Owes picture looks) (thread ∷ rest) threads (sym first) owe) in
           let this_ready : Ready watcher = subst (λ n. IsWatcher picture n 1 watcher) same_looks
-          (subst (λ p. IsWatcher p thread.promise.looks 1 watcher) same_picture c.in-Ok.ensures) in (
+          (subst (λ p. IsWatcher p thread.promise.looks 1 watcher) same_picture c.in-Ok.ensures.0) in (
             All-same Ready c.push.new.self.items (old ++ watcher ∷ []) pushed (All-push Ready old watcher ready this_ready),
             All-rest (Owes picture looks) thread rest threads first owe,
           ),
@@ -31,11 +32,17 @@ loop-thread-preserved-in-Ok-push g c =
       omega (arith, fewer, shorter),
       missed,
       looked,
+      λ none_missed.
+          ap (λ items. map seat items ++ map started_seat rest) pushed
+          ∙ ap (λ all. all ++ map started_seat rest) (map-append seat old (watcher ∷ []))
+          ∙ append_assoc (map seat old) (seat watcher ∷ []) (map started_seat rest)
+          ∙ ap (λ this. map seat old ++ this ∷ map started_seat rest) c.in-Ok.ensures.1
+          ∙ ap (λ all. map seat old ++ map started_seat all) (sym first) ∙ seats none_missed,
     )
 
 pub loop-thread-preserved : goal.loop-thread-preserved
 loop-thread-preserved g c =
-    let (kept, room, counted, fewer, missed, looked) = c.loop-thread.invariant in
+    let (kept, room, counted, fewer, missed, looked, seats) = c.loop-thread.invariant in
     let first = c.in-Some.ensures.steps.0 in
     let threads = into_iter_items c.loop-thread.thread-iterator in
     let rest = into_iter_items c.next.new.self in (
@@ -51,6 +58,7 @@ loop-thread-preserved g c =
           All-head Owed c.in-Some.thread rest
           (All-same Owed (c.in-Some.thread ∷ rest) (into_iter_items c.loop-thread.thread-iterator) (sym first) (kept picture looks started).1) in
           omega (arith, owed.1, c.in-Err.ensures),
+      λ none_missed. search rules,
     )
 
 pub returns-then-missed-clause-looked : goal.returns-then-missed-clause-looked

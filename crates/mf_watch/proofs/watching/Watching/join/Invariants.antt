@@ -1,8 +1,8 @@
-use Rattle.std.proofs.Common.{◌≡◌, ◌+◌, ◌<◌, ◌≤◌, ℕ, All, false, true, length, vec_capacity}
+use Rattle.std.proofs.Common.{◌≡◌, ◌+◌, ◌++◌, ◌<◌, ◌≤◌, ℕ, All, false, true, length, map, vec_capacity}
 use Rattle.std.specs.Vec.Iter.{into_iter_items}
 use Rattle.logbook.specs.Pages.{Book}
-use Rattle.mf_watch.specs.Watchers.{IsWatcher}
-use Rattle.mf_watch.specs.Watching.{AreStarted, Owes, viewer_count}
+use Rattle.mf_watch.specs.Watchers.{IsWatcher, seat}
+use Rattle.mf_watch.specs.Watching.{AreStarted, Owes, started_seat, started_seats, viewer_count}
 use Rattle.mf_watch.proofs.watching.Watching.join.Given as goal
 
 abbrev pub invariant-loop-thread : goal.invariant-loop-thread
@@ -14,3 +14,4 @@ invariant-loop-thread g l =
     × (length rest ≤ viewer_count l.fn.self)
     × (l.missed ≡ true → 0 < viewer_count l.fn.self)
     × (l.missed ≡ true → (picture : Book) (looks : ℕ) → AreStarted picture looks l.fn.self → 0 < looks)
+    × (l.missed ≡ false → map seat l.room.items ++ map started_seat rest ≡ started_seats l.fn.self)
