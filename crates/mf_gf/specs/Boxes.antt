@@ -12,7 +12,8 @@ use Rattle.mf_gf.specs.Numbers.{word_at, word_size}
 abbrev pub no_box : CharacterBox
 no_box = record { min_m = pos 0; max_m = pos 0; min_n = pos 0; max_n = pos 0 }
 
--- the box of a character whose pixels have this least box: m may be at the left and the right end of each pixel
+-- the box of a character whose pixels have this least box: its greatest m is one more than the last black column, where m is after the
+-- last paint
 abbrev pub character_box : Box4 → CharacterBox
 character_box b = record { min_m = b.min_x; max_m = b.max_x +ℤ pos 1; min_n = b.min_y; max_n = b.max_y }
 

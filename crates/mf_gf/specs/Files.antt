@@ -109,7 +109,7 @@ unfoldable pub locators_from : ℕ → ℕ → List Shipment → List ℕ
 locators_from code zero shipped = []
 locators_from code (suc n) shipped = locator_if (last_locator code shipped) ++ locators_from (code + 1) n shipped
 
--- the least box around the boxes of all characters, as these are written
+-- the least box around the boxes of all characters, as these are written; all four numbers are 0 where there are none
 unfoldable pub box_of_all : List Character → CharacterBox
 box_of_all [] = no_box
 box_of_all (c ∷ []) = box_of_character c

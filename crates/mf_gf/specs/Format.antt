@@ -22,7 +22,7 @@ boc1 = 68
 abbrev pub eoc : ℕ
 eoc = 69
 
--- skip0 skips no row; skip1 skips as many as its parameter of one byte says; skip2 follows it, with two bytes
+-- skip0 goes to the next row; skip1 first skips as many rows as its parameter of one byte says; skip2 follows it, with two bytes
 abbrev pub skip0 : ℕ
 skip0 = 70
 

@@ -38,7 +38,7 @@ read_stroke (b ∷ bytes) =
     else (if nat_le 74 b && nat_le b 238 then Some (record { stroke = Some (NewRow (b - 74)); rest = bytes })
     else None)))))
 
--- the end of a character, where no bytes come after it
+-- no more commands, where no bytes come after eoc; else the bytes are no character
 abbrev pub strokes_at_end : List ℕ → Option (List Stroke)
 strokes_at_end bytes = if length bytes == 0 then Some [] else None
 

@@ -28,7 +28,7 @@ skip n = if n == 0 then gf.skip0 ∷ [] else with_parameter gf.skip1 n
 abbrev pub new_row : ℕ → List ℕ
 new_row n = (gf.new_row_0 + n) ∷ []
 
--- the number of columns between two of them
+-- how many columns lie from one column to another, in absolute value
 abbrev pub distance : ℤ → ℤ → ℕ
 distance a b = unsigned_abs (a -ℤ b)
 
@@ -37,12 +37,12 @@ unfoldable pub lengths : ℤ → List Run → List ℕ
 lengths x [] = []
 lengths x (r ∷ rs) = distance r.x x ∷ r.len ∷ lengths (r.x +ℤ pos r.len) rs
 
--- the lengths of white and black stretches of each row of the pixels at which f is not 0, where `left` is the left end of their box
+-- the lengths of white and black stretches of row y of the pixels at which f is not 0, where `left` is the left end of their box
 abbrev pub row_lengths : ℤ → (ℤ → ℤ → ℤ) → ℤ → List ℕ
 row_lengths left f y = lengths left (row_runs f y least_coordinate)
 
--- how a row begins whose first black pixel has this offset: after a black row with new_row, where the offset allows it; else with a skip
--- over the blank rows between, of which there are none at the first row, and with white
+-- how a row begins whose first black pixel has this offset: the first row with white; a row directly below a black one with new_row, where
+-- the offset allows it; any other with a skip over the blank rows between, and white
 abbrev pub row_start : Option ℕ → ℕ → List ℕ
 row_start None offset = paint offset
 row_start (Some blank) offset = if blank == 0 && nat_le offset gf.most_new_row then new_row offset else skip blank ++ paint offset

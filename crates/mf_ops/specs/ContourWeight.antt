@@ -1,4 +1,4 @@
--- The weights with which a contour may be filled (The METAFONTbook, chapter 13).
+-- The weights of contours and of culls (The METAFONTbook, chapter 13).
 use Rattle.std.specs.Prelude.{◌≢◌, ℤ, pos, neg_ℤ, ◌≤ℤ◌}
 
 -- the weight w is -3, -2, -1, 1, 2 or 3

@@ -24,7 +24,7 @@ pub record AreFactors (s : Factors) : Type 0 where
   pub columns : IsFactor s.x
   pub rows : IsFactor s.y
 
--- a shift of an axis by d, and a scale of it by f, as stretches
+-- a shift of an axis by d, and a scale of it by f (which may be negative), as stretches
 abbrev pub shift_by : ℤ → Stretch
 shift_by d = record { factor = pos 1; offset = d }
 

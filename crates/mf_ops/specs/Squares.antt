@@ -14,7 +14,7 @@ MovesPixels (Scale s) = AreFactors s
 MovesPixels (Quarter q) = Unit {0}
 MovesPixels op = ⊥
 
--- where an operation moves a point of the plane
+-- where an operation moves a point of the plane; those that move no pixels leave it
 abbrev pub moved : Op → Point → Point
 moved (Shift dx dy) p = record { x = p.x +ℤ dx; y = p.y +ℤ dy }
 moved (Scale s) p = record { x = p.x *ℤ s.x; y = p.y *ℤ s.y }
@@ -23,7 +23,7 @@ moved (Quarter Twice) p = record { x = neg_ℤ p.x; y = neg_ℤ p.y }
 moved (Quarter Thrice) p = record { x = p.y; y = neg_ℤ p.x }
 moved op p = p
 
--- the upper right corner of the square of a pixel, whose lower left corner is the pixel's own point
+-- the upper right corner of the square of the pixel p, whose lower left corner is p
 abbrev pub upper_right : Point → Point
 upper_right p = record { x = p.x +ℤ pos 1; y = p.y +ℤ pos 1 }
 

@@ -61,7 +61,7 @@ abbrev pub cycle_fault : Op → Option OpFault
 cycle_fault (Contour ps w On) = option_map OpFault.Cycle (turning_fault ps)
 cycle_fault op = None
 
--- the operation is not a contour, or its cycle passes its turning check
+-- the operation is not refused for its cycle: it is no contour, its check is off, or its cycle passes
 pub record TurnsLawfully (op : Op) : Type 0 where
   pub none : cycle_fault op ≡ None
 
@@ -69,11 +69,11 @@ pub record TurnsLawfully (op : Op) : Type 0 where
 unfoldable pub op_fault : List Dot → Op → Option OpFault
 op_fault ds op = option_or (cycle_fault op) (pixel_fault ds op)
 
--- a call may refuse the operation on the picture ds with this fault: the definition does, or an allocation failed
+-- a call may refuse the operation on the picture ds with this fault: the definition does, or the fault is `OutOfMemory`
 abbrev pub IsRefusal : List Dot → Op → OpFault → Type 0
 IsRefusal ds op fault = fault ≢ OutOfMemory → op_fault ds op ≡ Some fault
 
--- the operation has lawful values
+-- the cycle, the picture, the range or the factors of the operation are lawful; its weight may be any
 abbrev pub HasLawfulValues : Op → Type 0
 HasLawfulValues (Contour ps w check) = IsRectilinearCycle ps
 HasLawfulValues (Also es s) = IsPicture es

@@ -1,5 +1,5 @@
-//! Laws of the definitions. Each is the contract of a function that does nothing, because the toolchain proves a statement only
-//! where the contract of a function names it.
+//! Laws of the definitions. Each is the contract of a function that does nothing, or only calls another law, because the toolchain
+//! proves a statement only where the contract of a function names it.
 ghost use Rattle.std.specs.Prelude.{◌≡◌, ◌≢◌, ◌↔◌, ℤ, pos, negsuc, neg_ℤ, ◌*ℤ◌, ◌-ℤ◌, ◌≤ℤ◌, ◌+◌, List, [], ◌∷◌, ◌++◌, Some, None};
 ghost use Rattle.std.specs.Int.{int_signum};
 ghost use Rattle.std.specs.Int.RustNames.{unsigned_abs};
@@ -34,9 +34,8 @@ ghost use Rattle.mf_ops.specs.declared.quarter.TurnCount.{TurnCount};
 
 use mf_geom::laws::nothing_outside_the_field;
 
-/// Take an operation that passes the turning check (as every operation but a contour does) and takes no pixel of the picture out
-/// of the field. It is refused exactly where the weight of some pixel of the field would exceed 32767 in absolute value, with
-/// `WeightTooLarge`.
+/// Take an operation that is not refused for its cycle and takes no pixel of the picture out of the field. It is refused exactly
+/// where the weight of some pixel of the field would exceed 32767 in absolute value, with `WeightTooLarge`.
 pub fn refused_where_too_large()
     ensures refused { (ds : List Dot) (op : Op) → TurnsLawfully op → StaysInField ds op → IsUnlawfulSomewhere (step_at ds op) →
         op_fault ds op ≡ Some WeightTooLarge }

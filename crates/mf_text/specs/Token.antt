@@ -32,7 +32,7 @@ pub record PlacedToken : Type 0 where
   pub column : ℕ
   pub after : ℕ
 
--- nothing more than that a token is this one, if it is
+-- no further value where a token is this one, and none at all where it is another
 abbrev pub this_in : Token → Token → Option (Unit {0})
 this_in u t = if is_token t u then Some tt else None
 

@@ -1,4 +1,4 @@
--- The tokens of a line of a script: words, letters, numbers and marks. Blanks may come between tokens, and `%` begins a comment,
+-- The tokens of a line of a script: words, letters, numbers, marks, and tokens that no command has. Blanks may come between tokens, and `%` begins a comment,
 -- which goes to the end of the line.
 use Rattle.std.specs.Prelude.{◌≡◌, ◌≤◌, false, ℕ, zero, suc, ◌+◌, ◌-◌, ◌==◌, ◌||◌, ◌&&◌, Bool, List, [], ◌∷◌, Option, codes}
 use Rattle.std.specs.Prelude.{None, Some, length, drop, get_or, take_while, map, nat_eq, nat_le, nat_lt, if◌then◌else◌}
@@ -67,7 +67,7 @@ marks =
     (codes ";", mark.Semicolon) ∷
     []
 
--- how a table writes a word or a mark
+-- how a table writes a word or a mark: with no byte, where it has no entry for it
 abbrev pub text_in : {A : Type 0} → (A → A → Bool) → List (List ℕ × A) → A → List ℕ
 text_in same [] a = []
 text_in same (entry ∷ entries) a = if same entry.1 a then entry.0 else text_in same entries a
@@ -95,12 +95,12 @@ abbrev pub is_letter : List ℕ → Bool
 is_letter (b ∷ []) = nat_le letter_a b && nat_le b letter_z
 is_letter bs = false
 
--- the token whose text is this longest row of letters: a letter by its number, 0 for `a`, or a word
+-- the token whose text is this longest row of letters: a letter by its number, 0 for `a`, a word, or else a token that no command has
 unfoldable pub word_token : List ℕ → Token
 word_token letters =
     if is_letter letters then token.Letter (get_or letters 0 0 - letter_a) else option_map_or token.Word (word_among words letters) token.Unknown
 
--- the token whose text is this longest row of digits: a number has at most nine of them
+-- the token whose text is this longest row of digits: a number, which has at most nine of them, or else a token that no command has
 unfoldable pub number_token : List ℕ → Token
 number_token digits = if nat_le (length digits) most_digits then token.Number (digits_value 10 digits) else token.Unknown
 
