@@ -1,5 +1,5 @@
 -- The boxes of images.
-use Rattle.std.proofs.Common.{◌≡◌, to_z, of_z, w32, ℤ, List, [], ◌∷◌, sym, ⊎_elim, arith}
+use Rattle.std.proofs.Common.{◌≡◌, to_z, of_z, w32, ℤ, List, [], ◌∷◌, refl, sym, ⊎_elim, arith}
 use Rattle.std.proofs.lemmas.Int.{ints}
 use Rattle.mf_rows.specs.declared.bounds.Box4.{Box4}
 use Rattle.mf_rows.specs.Bounds.{IsLeastBox}
@@ -27,6 +27,12 @@ box_of_blank ds blank = grind (arith, ints)
 
 pub blank_fits : (ds : List Dot) → ds ≡ [] → IsTooLargeForImage ds → ⊥
 blank_fits ds blank large = ⊎_elim (λ wide. omega (arith, wide)) (λ high. omega (arith, high)) (rw (sym (box_of_blank ds blank).is) at large)
+
+-- the box of an image lies in the field
+pub box_is_of_field : (ds : List Dot) → IsPicture ds → IsBoxOfField (image_box ds)
+unfolding image_box
+box_is_of_field [] picture = (box_of_blank [] refl).field
+box_is_of_field (d ∷ ds) picture = least_box_of_field (d ∷ ds) (box_of_dots d ds) picture (least_box_of_dots d ds)
 
 -- ---- the numbers of a view box
 

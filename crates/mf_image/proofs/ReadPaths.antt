@@ -13,14 +13,12 @@ use Rattle.mf_rows.specs.Order.{IsRun}
 use Rattle.mf_rows.specs.Runs.{dots_of, runs_of}
 use Rattle.mf_rows.proofs.RunsLemmas.{dots_of-runs_of}
 use Rattle.mf_rows.proofs.PassedRuns.{runs_are_lawful}
-use Rattle.mf_rows.specs.Boxes.{IsBoxOfField, box_of_dots, extent}
-use Rattle.mf_rows.proofs.BoxesOfDots.{least_box_of_dots, least_box_of_field}
+use Rattle.mf_rows.specs.Boxes.{extent}
 use Rattle.mf_image.specs.declared.svg_image.ViewBox.{ViewBox}
-use Rattle.mf_image.specs.Boxes.{image_box}
 use Rattle.mf_image.specs.Reading.{rest_after, dots_in, read_svg}
 use Rattle.mf_image.specs.Svg.{IsImageNumber, HasImageNumbers, axes, cover, greatest_weight_of, image, least_weight_of, opening}
 use Rattle.mf_image.specs.Svg.{path_of_weight, paths, paths_from, rectangle, rectangle_of, svg_text, weights_of}
-use Rattle.mf_image.proofs.ImageBoxes.{box_of_blank, view_box_numbers}
+use Rattle.mf_image.proofs.ImageBoxes.{box_is_of_field, view_box_numbers}
 use Rattle.mf_image.proofs.ReadTexts.{axes_read, cover_read, end_after, number_passed, number_read, opening_read, rectangle_read}
 use Rattle.mf_image.proofs.ReadWeights.{dots_with, dots_with-append, dots_with-other, dots_with-same, dots_by_weight, weight_at-dots_by_weight, weight_of_runs}
 
@@ -94,12 +92,6 @@ image_read s rs small runs =
     ap (dots_in true (pos 0)) text ∙ opening_read (pos 0) s (cover s (codes "#fff") ++ group) small
     ∙ cover_read (pos 0) s (codes "#fff") group small (λ rest. refl) ∙ begun
     ∙ paths_read rs (least_weight_of rs) (extent (least_weight_of rs) (greatest_weight_of rs)) (pos 0) tail runs (λ u. tail_read s u small)
-
--- the box of an image lies in the field
-box_is_of_field : (ds : List Dot) → IsPicture ds → IsBoxOfField (image_box ds)
-unfolding image_box
-box_is_of_field [] picture = (box_of_blank [] refl).field
-box_is_of_field (d ∷ ds) picture = least_box_of_field (d ∷ ds) (box_of_dots d ds) picture (least_box_of_dots d ds)
 
 pub svg_read : (ds : List Dot) (x y : ℤ) → IsPicture ds → weight_at (read_svg (svg_text ds)) x y ≡ weight_at ds x y
 unfolding svg_text

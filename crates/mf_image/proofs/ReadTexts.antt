@@ -13,7 +13,7 @@ use Rattle.mf_rows.specs.Order.{IsRun}
 use Rattle.mf_rows.specs.Runs.{equal_dots}
 use Rattle.mf_show.specs.Grid.{digit_zero, line_feed, minus_sign}
 use Rattle.mf_image.specs.declared.svg_image.ViewBox.{ViewBox}
-use Rattle.mf_image.specs.Reading.{rest_after, after_first, before_edge, before_width, number, dots_in, with_digits}
+use Rattle.mf_image.specs.Reading.{rest_after, after_first, space, before_width, number, dots_in, with_digits}
 use Rattle.mf_image.specs.Svg.{IsImageNumber, HasImageNumbers, axes, cover, grid, opening, rectangle}
 
 -- ---- digits
@@ -27,7 +27,7 @@ pass_decimal f digit n bs small =
     decimal_by_steps (λ k ds. (rest : List ℕ) → f (ds ++ rest) ≡ f rest) (λ d below rest. digit d rest below)
     (grind (arith, ints, append_assoc)) n small bs
 
-pass_number : {A : Type 0} (f : List ℕ → A) → PassesDigits f → ((bs : List ℕ) → f (minus_sign ∷ bs) ≡ f bs) → (z : ℤ) (bs : List ℕ) → IsImageNumber z
+pub pass_number : {A : Type 0} (f : List ℕ → A) → PassesDigits f → ((bs : List ℕ) → f (minus_sign ∷ bs) ≡ f bs) → (z : ℤ) (bs : List ℕ) → IsImageNumber z
     → f (signed_decimal z ++ bs) ≡ f bs
 pass_number f digit sign (pos n) bs small = pass_decimal f digit n bs (omega (arith, ints, small.greatest))
 pass_number f digit sign (negsuc n) bs small = sign (decimal (suc n) ++ bs) ∙ pass_decimal f digit (suc n) bs (omega (arith, ints, small.least))
@@ -60,7 +60,7 @@ unfolding number
 number_read (pos n) c bs small other = grind (arith, ints, number-decimal, with_digits-decimal, with_digits-end)
 number_read (negsuc n) c bs small other = grind (arith, ints, with_digits-decimal, with_digits-end)
 
-first_passes_digits : (c : ℕ) → ((d : ℕ) → d < 10 → (digit_zero + d) ≢ c) → PassesDigits (after_first c)
+pub first_passes_digits : (c : ℕ) → ((d : ℕ) → d < 10 → (digit_zero + d) ≢ c) → PassesDigits (after_first c)
 unfolding after_first
 first_passes_digits c apart d bs below = rw (ne_eqb (digit_zero + d) c (apart d below)) refl
 
@@ -144,7 +144,7 @@ abbrev width_on : ℕ → List ℕ → List ℕ
 width_on n rest = signed_decimal (pos n) ++ (codes "v1h-" ++ (signed_decimal (pos n) ++ (codes "z\n" ++ rest)))
 
 sides_on : (x top : ℤ) (n : ℕ) (rest : List ℕ)
-    → sides x top n ++ rest ≡ signed_decimal x ++ before_edge ∷ (signed_decimal top ++ before_width ∷ width_on n rest)
+    → sides x top n ++ rest ≡ signed_decimal x ++ space ∷ (signed_decimal top ++ before_width ∷ width_on n rest)
 sides_on x top n rest = simp append_assoc
 
 sides_passed : (w x top : ℤ) (n : ℕ) → IsImageNumber x → IsImageNumber top → IsImageNumber (pos n) → IsEnd w (sides x top n)
@@ -154,19 +154,19 @@ sides_passed w x top n column row width =
     (grind (arith, ints, number_passed w (pos n) width, pair_end, end_after)))
 
 top_found : (x top : ℤ) (n : ℕ) (rest : List ℕ) → IsImageNumber x
-    → after_first before_edge (sides x top n ++ rest) ≡ signed_decimal top ++ before_width ∷ width_on n rest
+    → after_first space (sides x top n ++ rest) ≡ signed_decimal top ++ before_width ∷ width_on n rest
 unfolding after_first
 top_found x top n rest column =
-    ap (after_first before_edge) (sides_on x top n rest)
-    ∙ pass_number (after_first before_edge) (first_passes_digits before_edge (λ d below same. omega arith)) (λ bs. refl) x
-    (before_edge ∷ (signed_decimal top ++ before_width ∷ width_on n rest)) column
+    ap (after_first space) (sides_on x top n rest)
+    ∙ pass_number (after_first space) (first_passes_digits space (λ d below same. omega arith)) (λ bs. refl) x
+    (space ∷ (signed_decimal top ++ before_width ∷ width_on n rest)) column
 
 width_found : (x top : ℤ) (n : ℕ) (rest : List ℕ) → IsImageNumber x → IsImageNumber top → after_first before_width (sides x top n ++ rest) ≡ width_on n rest
 unfolding after_first
 width_found x top n rest column row =
     let digits = first_passes_digits before_width (λ d below same. omega arith) in
     ap (after_first before_width) (sides_on x top n rest)
-    ∙ pass_number (after_first before_width) digits (λ bs. refl) x (before_edge ∷ (signed_decimal top ++ before_width ∷ width_on n rest)) column
+    ∙ pass_number (after_first before_width) digits (λ bs. refl) x (space ∷ (signed_decimal top ++ before_width ∷ width_on n rest)) column
     ∙ pass_number (after_first before_width) digits (λ bs. refl) top (before_width ∷ width_on n rest) row
 
 -- the line of a run draws its pixels, with the weight of the path
@@ -179,8 +179,8 @@ rectangle_read w r rest run =
     let width : IsImageNumber (pos r.len) = omega (arith, ints, run) in
     let text = sides r.x top r.len ++ rest in
     let x : number text ≡ r.x = ap number (sides_on r.x top r.len rest) ∙ number_read r.x _ _ column refl in
-    let edge : number (after_first before_edge text) ≡ top = ap number (top_found r.x top r.len rest column) ∙ number_read top _ _ row refl in
-    let y : neg_ℤ (number (after_first before_edge text) +ℤ pos 1) ≡ r.y = ap (λ z. neg_ℤ (z +ℤ pos 1)) edge ∙ omega (arith, ints) in
+    let edge : number (after_first space text) ≡ top = ap number (top_found r.x top r.len rest column) ∙ number_read top _ _ row refl in
+    let y : neg_ℤ (number (after_first space text) +ℤ pos 1) ≡ r.y = ap (λ z. neg_ℤ (z +ℤ pos 1)) edge ∙ omega (arith, ints) in
     let len : unsigned_abs (number (after_first before_width text)) ≡ r.len =
     ap (λ t. unsigned_abs (number t)) (width_found r.x top r.len rest column row) ∙ ap unsigned_abs (number_read (pos r.len) _ _ width refl) in
     let line : rectangle r ++ rest ≡ codes "M" ++ text = simp append_assoc in

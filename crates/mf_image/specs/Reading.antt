@@ -1,6 +1,6 @@
 -- Reading images back. In an SVG image each rectangle of a path has the pixels of a run, whose weight is in the name of the path.
 use Rattle.std.specs.Prelude.{ℕ, ◌==◌, ◌+◌, ◌-◌, ◌*◌, ◌/◌, nat_lt, Bool, true, false, ℤ, pos, neg_ℤ, ◌+ℤ◌, if◌then◌else◌}
-use Rattle.std.specs.Prelude.{List, [], ◌∷◌, ◌++◌, codes, Option, None, Some}
+use Rattle.std.specs.Prelude.{List, [], ◌∷◌, ◌++◌, codes, Option, None, Some, option_map}
 use Rattle.std.specs.Char.{is_ascii_digit}
 use Rattle.std.specs.Int.RustNames.{unsigned_abs}
 use Rattle.mf_rows.specs.Dots.{Dot}
@@ -34,9 +34,9 @@ abbrev pub named_weight : ℤ → Option (List ℕ) → ℤ
 named_weight w None = w
 named_weight w (Some text) = number text
 
--- what comes before the upper edge of a rectangle, a space, and before its width, `h`
-abbrev pub before_edge : ℕ
-before_edge = 32
+-- a space, which comes before the upper edge of a rectangle, and `h`, which comes before its width
+abbrev pub space : ℕ
+space = 32
 
 abbrev pub before_width : ℕ
 before_width = 104
@@ -45,7 +45,7 @@ before_width = 104
 abbrev pub dots_of_rectangle : ℤ → Option (List ℕ) → List Dot
 dots_of_rectangle w None = []
 dots_of_rectangle w (Some text) =
-    equal_dots (neg_ℤ (number (after_first before_edge text) +ℤ pos 1)) (number text) w (unsigned_abs (number (after_first before_width text)))
+    equal_dots (neg_ℤ (number (after_first space text) +ℤ pos 1)) (number text) w (unsigned_abs (number (after_first before_width text)))
 
 -- the dots that the lines of a text draw, from the start of a line on or from its middle; a path of weight w is open
 unfoldable pub dots_in : Bool → ℤ → List ℕ → List Dot
@@ -57,6 +57,34 @@ dots_in false w (b ∷ bs) = dots_in (b == line_feed) w bs
 -- the dots of an image
 abbrev pub read_svg : List ℕ → List Dot
 read_svg text = dots_in true (pos 0) text
+
+-- what a PGM image has: in its comment the left column and the top row, the numbers of columns and rows, the greatest gray value
+-- (Netpbm: width, height, maxval), and the gray values
+pub record Graymap : Type 0 where
+  pub left : ℤ
+  pub top : ℤ
+  pub columns : ℤ
+  pub rows : ℤ
+  pub greatest : ℤ
+  pub values : List ℕ
+
+-- a PGM image from the left column on: the comment goes on with ` top ` and the top row, then come a line of the numbers of columns
+-- and rows, one of the greatest gray value, and the gray values
+abbrev pub graymap_from : List ℕ → Graymap
+graymap_from text =
+    let lines = after_first line_feed text in
+    record {
+      left = number text;
+      top = number (after_first space (after_first space text));
+      columns = number lines;
+      rows = number (after_first space lines);
+      greatest = number (after_first line_feed lines);
+      values = after_first line_feed (after_first line_feed lines);
+    }
+
+-- a PGM image, which begins with P5 and a comment
+abbrev pub read_pgm : List ℕ → Option Graymap
+read_pgm bytes = option_map graymap_from (rest_after (codes "P5\n# left ") bytes)
 
 -- the weight of a gray value, where no other weight has it
 abbrev pub weight_of_gray_value : ℕ → ℤ
