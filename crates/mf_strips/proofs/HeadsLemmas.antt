@@ -33,13 +33,13 @@ module _ (es fs : List Edge) where
 
 -- ---- a head is appended, whose edges are those that were appended
 
+pub heads_more : (es fs ds : List Edge) → ds ≡ es ++ fs → (hs : List Head) → AreHeads es hs → AreHeads ds hs
+heads_more es fs ds all hs heads = rw all (heads_kept es fs hs heads)
+
 module _ (es fs ds : List Edge) (all : ds ≡ es ++ fs) (hs : List Head) (heads : AreHeads es hs) (h : Head) (top : ℤ) (tops : h.top ≡ top) (starts : h.start ≡ length es)
     (ends : h.start + h.count ≡ length ds) where
-  pub heads_more : AreHeads ds hs
-  heads_more = subst (λ ds. AreHeads ds hs) (sym all) (heads_kept es fs hs heads)
-
   pub heads_push : AreHeads ds (hs ++ h ∷ [])
-  heads_push = All-push (IsHead ds) hs h heads_more (record { there = omega (arith, ends) })
+  heads_push = All-push (IsHead ds) hs h (heads_more es fs ds all hs heads) (record { there = omega (arith, ends) })
 
   strip_pushed : strip_at ds h ≡ record { top = top; edges = fs }
   strip_pushed =
@@ -54,8 +54,8 @@ module _ (es fs ds : List Edge) (all : ds ≡ es ++ fs) (hs : List Head) (heads 
 -- ---- edges are appended, and taken back
 
 module _ (es fs ds : List Edge) (all : ds ≡ es ++ fs) (hs : List Head) (heads : AreHeads es hs) (start : ℕ) (starts : start ≡ length es) where
-  pub strips_back : strips_at (take start ds) hs ≡ strips_at es hs
-  strips_back = ap (λ ts. strips_at ts hs) (ap (λ n. take n ds) starts ∙ ap (take (length es)) all ∙ take-append_seam es fs)
+  pub edges_back : take start ds ≡ es
+  edges_back = ap (λ n. take n ds) starts ∙ ap (take (length es)) all ∙ take-append_seam es fs
 
   -- they are those of the last strip
   pub row_back : drop start ds ≡ last_row (strips_at ds hs) → fs ≡ last_row (strips_at es hs)

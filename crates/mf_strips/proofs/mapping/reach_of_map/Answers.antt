@@ -1,6 +1,6 @@
 use Rattle.std.proofs.Common.{ℤ, arith}
 use Rattle.std.proofs.lemmas.Bool.{cond_both}
-use Rattle.std.proofs.lemmas.Int.{ints}
+use Rattle.std.proofs.lemmas.Int.{ints, clamps}
 use Rattle.mf_edges.specs.declared.weight_map.WeightMap.{WeightMap}
 use Rattle.mf_edges.specs.LawfulWeights.{IsInReach, IsLawfulWeight}
 use Rattle.mf_edges.specs.WeightMaps.{is_within, mapped_weight}
@@ -15,7 +15,8 @@ either m r w inside outside =
 
 pub returns : goal.returns
 returns c = record {
-  least = grind (arith, ints);
-  most = grind (arith, ints);
-  within = λ w. either c.args.map.now _ w (λ lawful. grind (arith, ints)) (λ lawful. grind (arith, ints));
+  least = omega (arith, ints, clamps);
+  most = omega (arith, ints, clamps);
+  within = λ w. either c.args.map.now _ w (λ lawful. record { least = omega (arith, ints, clamps); greatest = omega (arith, ints, clamps) })
+      (λ lawful. record { least = omega (arith, ints, clamps); greatest = omega (arith, ints, clamps) });
 }

@@ -2,7 +2,7 @@ use Rattle.std.proofs.Common.{to_z-of_z, arith}
 use Rattle.std.proofs.lemmas.Int.{ints}
 use Rattle.std.proofs.lemmas.List.{nil_from_length}
 use Rattle.std.proofs.lemmas.Result.{on_ok_weaker}
-use Rattle.mf_strips.proofs.HeadsLemmas.{heads_push, strips_push}
+use Rattle.mf_strips.proofs.HeadsLemmas.{heads_more, heads_push, strips_push}
 use Rattle.mf_strips.proofs.SumsLemmas.{sum_left, sum_right, sum_strip}
 use Rattle.mf_strips.proofs.writer.PartWriter.push_sum.Goals as goal
 
@@ -28,3 +28,12 @@ pub invariant_of-self-2 : goal.invariant_of-self-2
 invariant_of-self-2 c =
     let head = c.in_ok-head.ensures in
     rw c.in_ok-push.ensures.items (heads_push _ _ _ c.in_ok-push_sum_of_edges.ensures.pushed.all _ c.self.invariant c.in_ok-head.head c.args.top (omega (arith, ints, head.top)) (omega (arith, head.start)) (omega (arith, head.end)))
+
+pub invariant_of-self : goal.invariant_of-self
+invariant_of-self c = let kept = c.in_err-push_sum_of_edges.ensures.kept in heads_more _ _ _ kept.all _ c.self.invariant
+
+pub invariant_of-self-in_err-head : goal.invariant_of-self-in_err-head
+invariant_of-self-in_err-head c = heads_more _ _ _ c.in_ok-push_sum_of_edges.ensures.pushed.all _ c.self.invariant
+
+pub invariant_of-self-in_err-push : goal.invariant_of-self-in_err-push
+invariant_of-self-in_err-push c = rw c.in_err-push.ensures.items (heads_more _ _ _ c.in_ok-push_sum_of_edges.ensures.pushed.all _ c.self.invariant)
