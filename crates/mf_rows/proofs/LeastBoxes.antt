@@ -83,7 +83,13 @@ pub ruleset least_boxes = (least_if_some, none_if_blank)
 -- bounds are the same where the pixels are
 pub same_bounds : (f g : ℤ → ℤ → Bool) (bounds : Option Box4) → ((x y : ℤ) → f x y ≡ g x y) → AreBounds f bounds → AreBounds g bounds
 same_bounds f g None same box = λ x y. sym (same x y) ∙ box x y
-same_bounds f g (Some b) same box = grind (arith, ints, sym)
+same_bounds f g (Some b) same box = record {
+  within = λ x y found. box.within x y (same x y ∙ found);
+  left = (box.left.0, sym (same b.min_x box.left.0) ∙ box.left.1);
+  right = (box.right.0, sym (same b.max_x box.right.0) ∙ box.right.1);
+  bottom = (box.bottom.0, sym (same box.bottom.0 b.min_y) ∙ box.bottom.1);
+  top = (box.top.0, sym (same box.top.0 b.max_y) ∙ box.top.1);
+}
 
 pub black_in_dots : (ds : List Dot) (bounds : Option Box4) → AreBounds (among Black (weight_at ds)) bounds → AreBounds (is_positive_at ds) bounds
 unfolding among is_positive_at

@@ -1,5 +1,5 @@
 -- Maximal runs: they are the runs of their dots, and the weights of their pixels and neighbours say that they are as long as can be.
-use Rattle.std.proofs.Common.{◌≡◌, ℕ, zero, suc, ◌≤◌, ℤ, pos, ◌+ℤ◌, List, [], ◌∷◌, ◌++◌, refl, sym, subst, arith, ◌≢◌, ◌≤ℤ◌, get_or}
+use Rattle.std.proofs.Common.{◌≡◌, ℕ, zero, suc, ◌≤◌, ℤ, pos, ◌+ℤ◌, ◌-ℤ◌, List, [], ◌∷◌, ◌++◌, refl, sym, ◌∙◌, subst, arith, ◌≢◌, ◌≤ℤ◌, get_or}
 use Rattle.std.specs.List.{All, flat_map}
 use Rattle.std.proofs.lemmas.Bool.{cond-true, cond-false, false_from_ne_true}
 use Rattle.std.proofs.lemmas.Int.{ints}
@@ -86,7 +86,14 @@ longest low (r ∷ rs) runs maximal =
     let end = place (r.x +ℤ pos r.len) r.y in
     let others = longest end rs runs.2 (maximal-tail r rs maximal) in
     All-cons (IsMaximalRun (flat_map dots_of (r ∷ rs))) r rs
-    (grind (arith, ints, weight_at-on_first, sym, weight_at-left_of, weight-after, weight_at-off_first))
+    (record {
+      some = runs.0.some;
+      nonzero = runs.0.nonzero;
+      inside = λ i lt. weight_at-on_first low r rs (r.x +ℤ pos i) r.y runs (record { row = refl; left = omega (arith, ints); right = omega (arith, ints) });
+      left = λ same. runs.0.nonzero (sym same ∙ weight_at-off_first r rs (r.x -ℤ pos 1) r.y (λ on. omega (arith, ints, on.left))
+          ∙ weight_at-left_of (r.x +ℤ pos r.len) r.y (r.x -ℤ pos 1) rs runs.2 (omega (arith, ints)));
+      right = λ same. weight-after r rs runs.0.nonzero runs.2 maximal (sym (weight_at-off_first r rs (r.x +ℤ pos r.len) r.y (λ on. omega (arith, ints, on.right))) ∙ same);
+    })
     (λ k s lt. IsMaximalRun-cons low r rs (get_or rs k s) runs (runs_from-after end rs runs.2 k s lt) (not_followed r rs runs.2 maximal k s lt) (others k s lt))
 
 -- each run of dots has at least one pixel, and is as long as it can be

@@ -9,7 +9,7 @@ use Rattle.mf_geom.specs.Coordinates.{greatest_coordinate}
 use Rattle.mf_rows.specs.declared.run.Run.{Run}
 use Rattle.mf_rows.specs.Dots.{Dot, IsDot, IsPicture, AreDotsFrom, place, start_of_field}
 use Rattle.mf_rows.specs.Order.{IsRun, AreRunsFrom, AreRuns}
-use Rattle.mf_rows.specs.Runs.{dots_of, run_from, with_dot, runs_of}
+use Rattle.mf_rows.specs.Runs.{continues, dots_of, run_from, with_dot, runs_of}
 use Rattle.mf_rows.proofs.RunDots.{runs_from-lower, runs_from-lawful}
 use Rattle.mf_rows.proofs.RunsLemmas.{Decides-continues, dots_of-runs_of}
 
@@ -22,7 +22,12 @@ runs_from-with_dot : (low : ℤ) (d : Dot) (rs : List Run) → IsDot d → low �
     → AreRunsFrom (place d.x d.y +ℤ pos 1) rs → AreRunsFrom low (with_dot d rs)
 unfolding with_dot run_from place
 runs_from-with_dot low d [] dot le runs = (run_from_dot d 0 dot (omega (arith, ints, dot.in_field.right)), le, tt)
-runs_from-with_dot low d (r ∷ rs) dot le runs = grind (arith, ints, cond_both, Decides-continues, runs_from-lower, run_from_dot)
+runs_from-with_dot low d (r ∷ rs) dot le runs =
+    cond_both (continues d r) (run_from d r.len ∷ rs) (run_from d 0 ∷ r ∷ rs) (AreRunsFrom low)
+    (λ yes.
+    let joined = (Decides-continues d r).0 yes in
+    (run_from_dot d r.len dot (omega (arith, ints, joined.column, runs.0.right)), le, runs_from-lower _ _ rs (omega (arith, ints, joined.row, joined.column)) runs.2))
+    (λ _. (run_from_dot d 0 dot (omega (arith, ints, dot.in_field.right)), le, (runs.0, omega (arith, ints, runs.1), runs.2)))
 
 -- the runs of dots in reading order are in reading order, lie in the field, and have lawful weights
 runs_from-runs_of : (low : ℤ) (ds : List Dot) → AreDotsFrom low ds → AreRunsFrom low (runs_of ds)

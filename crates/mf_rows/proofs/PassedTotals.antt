@@ -104,6 +104,15 @@ module _ (f : ℤ → ℤ → ℤ) (lawful : (x y : ℤ) → IsLawfulWeight (f x
 
 -- ---- the steps of the code
 
+-- steps between bounded totals fit
+row_fits : (old new change : ℤ) → new ≡ old +ℤ change → unsigned_abs old ≤ greatest_row → unsigned_abs new ≤ greatest_row
+    → FitsSigned w32 change × FitsSigned w32 (old +ℤ change)
+row_fits old new change more from to = (omega (arith, ints), omega (arith, ints))
+
+rows_fit : (old new change total all : ℤ) → new ≡ old +ℤ change → total +ℤ new ≡ all → unsigned_abs old ≤ greatest_row * field_size
+    → unsigned_abs new ≤ greatest_row * field_size → unsigned_abs all ≤ greatest_row * field_size → FitsSigned w64 change × FitsSigned w64 (total +ℤ change)
+rows_fit old new change total all more so_far from to whole = (omega (arith, ints), omega (arith, ints))
+
 -- pixels of one weight more
 pub record IsRowStep (s t : Walk) : Type 0 where
   pub product : to_z w32 (of_z w32 s.weight) *ℤ to_z w32 (of_z w32 (to_z w32 (of_z w32 t.x) -ℤ to_z w32 (of_z w32 s.x))) ≡ s.weight *ℤ (t.x -ℤ s.x)
@@ -121,10 +130,11 @@ row_step s t passed =
     let more = row_more (weights_of s.edges) s.y s.x t.x s.weight here.left passed.order passed.same in
     let old = row_bound (weights_of s.edges) (lawful_weight s.edges) s.y s.x here.left here.right in
     let new = row_bound (weights_of s.edges) (lawful_weight s.edges) s.y t.x t.reading.left t.reading.right in
+    let fits = row_fits _ _ _ more old new in
     record {
       product = rw (column_fits s, column_fits t, w, width) refl;
-      product_fits = omega (arith, ints, more, old, new);
-      sum_fits = omega (arith, ints, more, new);
+      product_fits = fits.0;
+      sum_fits = fits.1;
       sum = sym more;
     }
 
@@ -151,9 +161,10 @@ rows_step s row height total row_is height_is so_far =
     let own = row_bound f lawful s.y greatest_coordinate (omega (arith, ints)) (omega (arith, ints)) in
     let r : to_z w64 (of_z w64 row) ≡ row = omega (arith, ints, row_is, own) in
     let h : to_z w64 (of_z w64 height) ≡ height = omega (arith, ints, height_is, low, order, top) in
+    let fits = rows_fit _ _ _ total _ more so_far new old (rw all at whole) in
     record {
       product = rw (r, h) refl;
-      product_fits = omega (arith, ints, more, old, new);
-      sum_fits = omega (arith, ints, more, so_far, new, whole, all);
+      product_fits = fits.0;
+      sum_fits = fits.1;
       sum = omega (arith, ints, more, so_far);
     }

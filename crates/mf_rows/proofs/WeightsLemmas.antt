@@ -1,6 +1,7 @@
 -- Pictures are determined by their weights.
 use Rattle.std.proofs.Common.{◌≡◌, ℕ, zero, suc, ℤ, pos, ◌+ℤ◌, ◌-ℤ◌, ◌≤ℤ◌, ◌<ℤ◌, List, [], ◌∷◌, ◌++◌, refl, sym, ◌∙◌, subst, arith}
 use Rattle.std.specs.List.{All}
+use Rattle.std.specs.Ordering.{int_eq}
 use Rattle.std.proofs.lemmas.Bool.{cond_both}
 use Rattle.std.proofs.lemmas.Bool.Decides.{Decides-int_eq, not_from_Decides}
 use Rattle.std.proofs.lemmas.Int.{ints, by_lt_z}
@@ -65,7 +66,11 @@ row_from f y x zero es columns lawful later = subst (λ u. AreDotsFrom (place u 
 row_from f y x (suc n) es columns lawful later =
     let next : x +ℤ pos 1 +ℤ pos n ≡ x +ℤ pos (suc n) = omega (arith, ints) in
     let after = row_from f y (x +ℤ pos 1) n es (next_columns x y n columns) lawful (rw next later) in
-    grind (arith, ints, cond_both, dots_from-lower, place-next, first_column, not_from_Decides, Decides-int_eq)
+    let inside = first_column x y n columns in
+    let others = row_of f y (x +ℤ pos 1) n in
+    cond_both (int_eq (f x y) (pos 0)) others (record { y = y; x = x; weight = f x y } ∷ others) (λ ds. AreDotsFrom (place x y) (ds ++ es))
+    (λ _. dots_from-lower (place x y) (place (x +ℤ pos 1) y) (others ++ es) (omega (arith, ints, place-next x y)) after)
+    (λ apart. (record { in_field = inside; lawful = lawful x y inside; nonzero = not_from_Decides _ (Decides-int_eq (f x y) (pos 0)) apart }, omega (arith, ints), rw place-next at after))
 
 rows_from : (f : ℤ → ℤ → ℤ) (y : ℤ) (n : ℕ) → (least_coordinate -ℤ pos 1 +ℤ pos n) ≤ℤ y → y ≤ℤ last_in_field
     → ((u v : ℤ) → IsInField u v → IsLawfulWeight (f u v)) → AreDotsFrom (place least_coordinate y) (rows_of f y n)

@@ -28,3 +28,9 @@ returns-then-has-2 c =
     let last_w : to_z w32 (of_z w32 (pos 0 -ℤ to_z w32 (of_z w32 last.weight))) ≡ pos 0 -ℤ last.weight = omega (arith, ints, lawful) in
     rw (first_x, last_x, before) (row_columns s first last c.requires ends c.args.pixels
     (sym (rw first_w at c.has.ensures) ∙ c.if-has.true) (sym (rw last_w at c.has-then-has.ensures) ∙ c.if-has-2.true))
+
+pub returns-in_err-first : goal.returns-in_err-first
+returns-in_err-first c = rw c.from_residual.ensures tt
+
+pub overflow_sub-result : goal.overflow_sub-result
+overflow_sub-result c = omega (arith, ints, c.in_ok-first.ensures.last.column)
