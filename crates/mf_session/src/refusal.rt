@@ -8,11 +8,10 @@ use mf_live::Fault;
 use mf_show::GridFault;
 use mf_text::TextFault;
 use std::alloc::Global;
-use std::error::Error;
 use std::fmt;
 
 /// Why a command is refused.
-#[derive(Clone, Copy, Debug, PartialEq, Eq)]
+#[derive(Clone, Copy)]
 pub enum Refusal {
     /// The line gives no command: `LineTooLong`, `NotAscii`, `Syntax`, `TooFewPoints`, `TooManyPoints`, `PointOutOfRange`,
     /// `NotRectilinear`, `BadWeight`, `BadCull`, `BadScale` or `BadTurn`.
@@ -40,8 +39,6 @@ impl fmt::Display for Refusal {
         }
     }
 }
-
-impl Error for Refusal {}
 
 /// The line that reports a refusal.
 pub fn refusal_line(alloc: Global, refusal: Refusal) -> Result<Vec<u8>, OutOfMemory>
