@@ -6,7 +6,7 @@ use crate::int::Int;
 
 /// The int after `code`, in 0..=255. The invariant says so, so that no use of its value needs a check. 0 is two ints,
 /// since `-` may come before it.
-#[derive(Clone, Copy, Debug)]
+#[derive(Clone, Copy)]
 pub struct Code {
     pub(crate) int: Int,
     ghost is_code: { is_code int ≡ true },

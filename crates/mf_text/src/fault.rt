@@ -56,7 +56,7 @@ impl fmt::Display for TextFault {
 impl Error for TextFault {}
 
 /// Where a line goes wrong: the column, in bytes from 1, that `Syntax` reports.
-#[derive(Clone, Copy, Debug, PartialEq, Eq)]
+#[derive(Clone, Copy)]
 pub(crate) struct SyntaxFault {
     pub(crate) column: u32,
 }

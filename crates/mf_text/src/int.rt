@@ -4,7 +4,7 @@ ghost use Rattle.mf_text.specs.Limits.{number_bound};
 
 /// A number of at most nine digits, with `-` before it or not. The invariant keeps the number below 10^9, so that no use of its
 /// value needs a check.
-#[derive(Clone, Copy, Debug)]
+#[derive(Clone, Copy)]
 pub struct Int {
     pub(crate) negative: bool,
     pub(crate) magnitude: u32,

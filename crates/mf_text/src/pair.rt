@@ -6,7 +6,7 @@ use crate::int::Int;
 use mf_geom::Point;
 
 /// Two ints in parentheses: `(`, the first, `,`, the second, and `)`.
-#[derive(Clone, Copy, Debug)]
+#[derive(Clone, Copy)]
 pub struct Pair {
     pub(crate) across: Int,
     pub(crate) up: Int,

@@ -10,7 +10,7 @@ use std::alloc::Global;
 
 /// The points of a path, kept while the line is read: at most one more than a cycle may have, and none after an allocation has
 /// failed. Whether the line is in the grammar does not depend on them.
-#[derive(Debug, Drop)]
+#[derive(Drop)]
 pub struct Path {
     points: Vec<Point>,
     /// How many points the path has, counted up to one more than a cycle may have.

@@ -14,7 +14,7 @@ use front::{blanks_at, letter_at, mark_at, number_at, word_at};
 
 /// The tokens of a line that are still to come. Columns count bytes from 1, and the line is shorter than 2^31 bytes, so that
 /// they fit 32 bits.
-#[derive(Clone, Copy, Debug)]
+#[derive(Clone, Copy)]
 pub struct Tokens<'a> {
     /// The bytes that are left.
     pub(crate) rest: &'a [u8],
