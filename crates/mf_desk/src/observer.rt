@@ -29,7 +29,7 @@ impl Observer for () {
 }
 
 /// A line that was performed, as an observer is told of it.
-#[derive(Clone, Copy, Debug, PartialEq, Eq)]
+#[derive(Clone, Copy, Debug)]
 pub struct PerformedLine {
     /// Its number in the script, from 1 on. It counts from 0 again after 2^64 - 1.
     pub number: u64,
@@ -51,7 +51,7 @@ pub enum Effect {
 }
 
 /// Why a run has stopped before its end.
-#[derive(Clone, Copy, Debug, PartialEq, Eq)]
+#[derive(Clone, Copy, Debug)]
 pub enum Stopped<F> {
     /// The run itself has failed.
     Run(RunFault),
