@@ -96,10 +96,9 @@ impl<T: Drop> From<AllocFailed<T>> for RunFault {
 }
 
 impl From<StartFault> for RunFault {
-    ghost use Rattle.std.specs.Prelude.{◌⊎◌};
     ghost use Rattle.mf_watch.specs.declared.fault.StartFault.TheVariants as starts;
 
-    ghost from_gives = { λ start fault. ((start ≡ starts.OutOfMemory) × (fault ≡ NoMemory)) ⊎ ((start ≡ starts.NoPlace) × (fault ≡ NoPlaceLeft)) };
+    ghost from_gives = { λ start fault. (start ≡ starts.OutOfMemory → fault ≡ NoMemory) × (start ≡ starts.NoPlace → fault ≡ NoPlaceLeft) };
 
     fn from(fault: StartFault) -> RunFault {
         match fault {

@@ -78,6 +78,7 @@ impl Watching {
         requires few { viewers ≤ most_places }
         ensures started { IfOk result (AreStarted (desk_identity desk) looks) }
         ensures count { IfOk result (λ watching. viewer_count watching ≡ viewers) }
+        ensures fault { IfErr result (λ fault. (fault ≡ StartFault.NoPlace) ⊎ (fault ≡ StartFault.OutOfMemory)) }
         ensures some { IfErr result (λ _. 0 < viewers) }
     {
         let watchers = watchers(alloc, desk, viewers, looks)?;

@@ -1,6 +1,7 @@
 use Rattle.std.proofs.Common.{◌≡◌, ⊎_elim, All, IfOk, sym, subst, ◌∙◌, arith}
 use Rattle.std.proofs.lemmas.List.Elements.{All-weaker}
 use Rattle.std.proofs.lemmas.Result.{IfErr-weaker, IfOk-weaker}
+use Rattle.mf_desk.specs.declared.fault.RunFault.TheVariants as faults
 use Rattle.mf_desk.specs.Performances.{Performs, TellsOfRun, task}
 use Rattle.mf_desk.specs.Streams.{Passes, streams}
 use Rattle.mf_session.specs.Sessions.{identity}
@@ -18,8 +19,12 @@ returns-in_err-progress-clause-fault g c = grind (arith, IfErr-raised, TellsOfRu
 pub returns-in-Err-clause-fault : goal.returns-in-Err-clause-fault
 returns-in-Err-clause-fault g c =
     let settings = c.args.settings.now in
-    ⊎_elim (λ wanting. rw wanting.1 (TellsOfRun-nothing settings c.args.viewers _ _))
-    (λ none. rw none.1 (TellsOfRun-unwatched settings c.args.viewers _ _ c.in-Err.ensures.some)) c.into.ensures
+    ⊎_elim (λ none.
+    let is : c.into.result ≡ faults.NoPlace = c.into.ensures.1 none in
+    rw is (TellsOfRun-unwatched settings c.args.viewers _ _ c.in-Err.ensures.some))
+    (λ wanting.
+    let is : c.into.result ≡ faults.OutOfMemory = c.into.ensures.0 wanting in
+    rw is (TellsOfRun-nothing settings c.args.viewers _ _)) c.in-Err.ensures.fault
 
 pub returns-in_err-ended-clause-fault : goal.returns-in_err-ended-clause-fault
 returns-in_err-ended-clause-fault g c =
