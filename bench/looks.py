@@ -17,7 +17,7 @@ HERE = pathlib.Path(__file__).resolve().parent
 sys.path.insert(0, str(HERE.parent / "tools"))
 
 import build  # noqa: E402
-from prover import Failure, Prover  # noqa: E402
+from build import Failure, Prover  # noqa: E402
 
 NAME = "looks"
 SOURCES = sorted((HERE / NAME).glob("*.rattle"))

@@ -22,8 +22,8 @@ import subprocess
 import sys
 import tempfile
 
-import font_model
-from font_model import NOWHERE
+from models import font_model
+from models.font_model import NOWHERE
 
 ROOT = pathlib.Path(__file__).parent.parent
 TABLE = ROOT / "crates/mf_gf_tests/src/tests/characters.rt"

@@ -18,8 +18,8 @@ import subprocess
 import sys
 import tempfile
 
-from pixel_model import WEIGHTS, path_fault
-from random_cycles import Cycles
+from models.pixel_model import WEIGHTS, path_fault
+from models.random_cycles import Cycles
 
 HEAD = """delimiters ();
 def --={curl 1}..{curl 1}enddef;

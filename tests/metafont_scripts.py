@@ -26,9 +26,9 @@ import tempfile
 import typing
 
 from metafont_contours import HEAD, POINTS, pixels_of_edges, pixels_of_runs
-from pixel_model import MAX_COORDINATE, Model, TooSlow
-from pixel_model import edges as sides
-from random_lines import NAMES, Chance, Line
+from models.pixel_model import MAX_COORDINATE, Model, TooSlow
+from models.pixel_model import edges as sides
+from models.random_lines import NAMES, Chance, Line
 
 sys.path.append(str(pathlib.Path(__file__).parent.parent / "tools"))
 import gf

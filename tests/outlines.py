@@ -25,7 +25,7 @@ import types
 import typing
 from collections.abc import Callable, Iterator
 
-import font_model
+from models import font_model
 from gftype import told_by_gftype
 
 ROOT = pathlib.Path(__file__).parent.parent

@@ -23,9 +23,9 @@ import sys
 import tempfile
 import typing
 
-from font_model import Opcode, font_commands
-from pixel_model import MAX_OPERATIONS, Model, TooSlow, fault_of_bytes, path_fault, turning, turning_fault
-from random_lines import Chance
+from models.font_model import Opcode, font_commands
+from models.pixel_model import MAX_OPERATIONS, Model, TooSlow, fault_of_bytes, path_fault, turning, turning_fault
+from models.random_lines import Chance
 
 CLEARED = b"currentpicture:=nullpicture\n"
 COMMANDS = ["contour", "also", "also -", "keeping", "dropping", ":=", "shifted", "scaled", "xscaled", "yscaled"]

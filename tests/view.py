@@ -25,10 +25,10 @@ import subprocess
 import sys
 import tempfile
 
-import frame_model
-from font_model import font_commands
-from pixel_model import Model, TooSlow
-from random_lines import Chance
+from models import frame_model
+from models.font_model import font_commands
+from models.pixel_model import Model, TooSlow
+from models.random_lines import Chance
 from random_scripts import answer, spell
 
 ROOT = pathlib.Path(__file__).resolve().parent.parent

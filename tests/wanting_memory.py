@@ -5,7 +5,7 @@
 
 PROGRAM is the built program, by default crates/mfpic/out/mfpic. Each script is run with ample memory, then with its first
 allocation refused, then with its second, and so on, until a run has fewer allocations. Then all of this is repeated with all
-later allocations refused, too (`refusing.py` says how). Without --all the scripts are a few that reach each command and each
+later allocations refused, too (`allocation_runner.py` says how). Without --all the scripts are a few that reach each command and each
 refusal.
 
 A run must exit by itself, as docs/user/PROGRAM.md says of `OutOfMemory`: with status 4 and one message, after printing what the
@@ -33,7 +33,7 @@ import sys
 import tempfile
 from collections.abc import Callable, Iterator
 
-from refusing import FOREVER, OLD, ROOT, Answer, Case, Runner, build_library, unknown_growths
+from allocation_runner import FOREVER, OLD, ROOT, Answer, Case, Runner, build_library, unknown_growths
 
 # Tests that repeat each call that was refused.
 AGAIN = [("mf_live_tests", "tests::again::calls_are_made_again")]

@@ -3,58 +3,20 @@
 
     tools/build.py [PROGRAM]
 
-PROGRAM is mfpic, which it is by default, or mfview. bench/times.tsv says how long that takes from nothing. Each library of the program is proved as soon as the libraries that it uses
-are. Several are proved at a time where processors are free, because part of each proof keeps only one processor busy. A line is
-printed for each crate when it is proved.
+PROGRAM is mfpic, which it is by default, or mfview. bench/times.tsv says how long that takes from nothing. Each library of the program
+is proved as soon as the libraries that it uses are. Several are proved at a time where processors are free, because part of each proof
+keeps only one processor busy. A line is printed for each crate when it is proved.
 """
 
-import concurrent.futures
-import os
 import pathlib
 import sys
 import time
-from collections.abc import Iterator
 
-from prover import Failure, Prover
+sys.path.insert(0, str(pathlib.Path(__file__).resolve().parent.parent / "proof"))
+
+from prover import Failure, Prover, count_jobs, prove_in_order  # noqa: E402
 
 PROGRAMS = ("mfpic", "mfview")
-# The memory of a job, in bytes: the most that any job was seen to take.
-JOB_MEMORY = 2_000_000_000
-
-
-def prove_in_order(prover: Prover, names: list[str]) -> Iterator[str]:
-    """Proves these crates of the repository, each once the crates that it uses are proved. Crates that more others wait for get a
-    higher priority. Yields each name when its crate is proved."""
-    jobs, left = count_jobs(), names
-    proved: list[str] = []
-    running: dict[concurrent.futures.Future[None], str] = {}
-    with concurrent.futures.ThreadPoolExecutor(max(1, len(names))) as pool:
-        while left or running:
-            ready = [name for name in left if all(it in proved for it in prover.below(name))]
-            left = [name for name in left if name not in ready]
-            share = share_of(jobs, max(1, len(ready) + len(running)))
-            for name in ready:
-                waiting = sum(name in prover.below(it) for it in names)
-                running[pool.submit(prover.build, name, share, 2 * (len(names) - waiting))] = name
-            for done in concurrent.futures.wait(running, return_when=concurrent.futures.FIRST_COMPLETED).done:
-                done.result()
-                proved.append(running.pop(done))
-                yield proved[-1]
-
-
-def count_jobs() -> int:
-    """How many jobs run at a time: one for each processor, if there is enough free memory."""
-    free = os.sysconf("SC_AVPHYS_PAGES") * os.sysconf("SC_PAGE_SIZE")
-    for line in pathlib.Path("/proc/meminfo").read_text(encoding="ascii").splitlines():
-        if line.startswith("MemAvailable:"):
-            free = 1024 * int(line.split()[1])
-    return max(1, min(len(os.sched_getaffinity(0)), free // JOB_MEMORY))
-
-
-def share_of(jobs: int, crates: int) -> int:
-    """How many jobs each of `crates` crates gets that are proved at a time: one more than its share of the processors, because no
-    crate has work for all of its jobs all the time."""
-    return min(jobs, jobs // crates + 1)
 
 
 def build(prover: Prover, program: str) -> None:

@@ -1,4 +1,4 @@
-"""A small, slow model of what `mfview` draws and writes: frames of characters, and images, from the weights of pixels.
+"""A model of what `mfview` draws and writes, small and slow: frames of characters, and images, from the weights of pixels.
 
 A picture is a dictionary of pixels with their weights, as in `pixel_model.py`. The model shares nothing with the program but the
 rules of docs/user/VIEW.md: frames are drawn cell by cell, and images are read, by an XML parser where they are SVG.

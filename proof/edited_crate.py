@@ -1,17 +1,14 @@
-"""Proves a copy of a crate with edits, and reads what the prover says. (`wrong_bodies.py` uses it.)"""
+"""A tool of proof: proves a copy of a crate with edits, and reads what the prover says. (`wrong_bodies.py` uses it.)"""
 
 import contextlib
 import re
 import shutil
 import subprocess
-import sys
 from collections.abc import Iterable, Iterator
 from pathlib import Path
 
-from edited_source import Function, texts_of
-
-sys.path.append(str(Path(__file__).resolve().parent.parent / "tools"))
-from prover import ROOT, SOURCES, Prover  # noqa: E402
+from edits import Function, texts_of
+from prover import ROOT, SOURCES, Prover
 
 # What the prover says about a function, and its last line.
 SAID = re.compile(r"^fn (\S+): (.*)$", re.M)

@@ -1,4 +1,4 @@
-"""The crates of the repository, and the toolchain's prover. (`build.py` and the tests of wrong bodies use it.)
+"""A tool of proof: the crates of the repository, and the toolchain's prover. (`prove.py`, `wrong_bodies.py` and tools/ use it.)
 
 A crate is proved from the statements of the libraries that it uses, without their proofs: reading the proofs of all libraries of
 the program takes longer than proving most crates. `rt ci` does the same, but `rt lib` makes libraries with proofs. So the prover
@@ -6,13 +6,18 @@ is called here as `rt ci` calls it, and these libraries are kept apart from thos
 `out/rlib/statements` of each crate.
 """
 
+import concurrent.futures
 import hashlib
+import os
 import pathlib
 import shutil
 import subprocess
+from collections.abc import Iterator
 
 ROOT = pathlib.Path(__file__).resolve().parent.parent
 SOURCES = ("src", "specs", "proofs")
+# The memory of a job, in bytes: the most that any job was seen to take.
+JOB_MEMORY = 2_000_000_000
 
 
 class Failure(Exception):
@@ -104,3 +109,38 @@ class Prover:
         ran = subprocess.run(words, cwd=self.folders[crate], check=False, encoding="utf-8", errors="replace", **how)
         if ran.returncode:
             raise Failure(f"{crate}\n{ran.stdout}the prover exited with status {ran.returncode}")
+
+
+def prove_in_order(prover: Prover, names: list[str]) -> Iterator[str]:
+    """Proves these crates of the repository, each once the crates that it uses are proved. Crates that more others wait for get a
+    higher priority. Yields each name when its crate is proved."""
+    jobs, left = count_jobs(), names
+    proved: list[str] = []
+    running: dict[concurrent.futures.Future[None], str] = {}
+    with concurrent.futures.ThreadPoolExecutor(max(1, len(names))) as pool:
+        while left or running:
+            ready = [name for name in left if all(it in proved for it in prover.below(name))]
+            left = [name for name in left if name not in ready]
+            share = share_of(jobs, max(1, len(ready) + len(running)))
+            for name in ready:
+                waiting = sum(name in prover.below(it) for it in names)
+                running[pool.submit(prover.build, name, share, 2 * (len(names) - waiting))] = name
+            for done in concurrent.futures.wait(running, return_when=concurrent.futures.FIRST_COMPLETED).done:
+                done.result()
+                proved.append(running.pop(done))
+                yield proved[-1]
+
+
+def count_jobs() -> int:
+    """How many jobs run at a time: one for each processor, if there is enough free memory."""
+    free = os.sysconf("SC_AVPHYS_PAGES") * os.sysconf("SC_PAGE_SIZE")
+    for line in pathlib.Path("/proc/meminfo").read_text(encoding="ascii").splitlines():
+        if line.startswith("MemAvailable:"):
+            free = 1024 * int(line.split()[1])
+    return max(1, min(len(os.sched_getaffinity(0)), free // JOB_MEMORY))
+
+
+def share_of(jobs: int, crates: int) -> int:
+    """How many jobs each of `crates` crates gets that are proved at a time: one more than its share of the processors, because no
+    crate has work for all of its jobs all the time."""
+    return min(jobs, jobs // crates + 1)

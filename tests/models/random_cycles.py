@@ -1,7 +1,7 @@
-"""Random lists of points. Most are cycles, and many of these turn back, go around clockwise, or have turning number 0."""
+"""Random input: lists of points. Most are cycles, and many of these turn back, go around clockwise, or have turning number 0."""
 
-from pixel_model import MAX_COORDINATE, MAX_POINTS, MAX_PROOF
-from random_spelling import Spelling
+from models.pixel_model import MAX_COORDINATE, MAX_POINTS, MAX_PROOF
+from models.random_spelling import Spelling
 
 # Coordinates at the limits of points and just beyond, and coordinates with 127 to 129 pixels between them.
 FAR = [-MAX_COORDINATE - 1, -MAX_COORDINATE, MAX_COORDINATE, MAX_COORDINATE + 1]

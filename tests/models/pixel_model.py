@@ -1,4 +1,4 @@
-"""A small, slow model of pictures, pixel by pixel, and of what the commands of a script print.
+"""A model of pictures, small and slow, pixel by pixel, and of what the commands of a script print.
 
 A picture is a dictionary of pixels with their weights. A contour is filled by adding up, for each pixel, the quarter turns of the
 path around its centre. The model shares nothing with the program but the rules of docs/user/LANGUAGE.md and
@@ -6,7 +6,7 @@ docs/user/PICTURES.md. It keeps the characters that are shipped, which `font_mod
 FileTooLong.
 """
 
-from font_model import Character
+from models.font_model import Character
 
 FIELD = range(-4095, 4095)
 WEIGHTS = (-3, -2, -1, 1, 2, 3)

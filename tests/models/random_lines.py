@@ -1,11 +1,11 @@
-"""Random lines, in the grammar of docs/user/LANGUAGE.md and not, each with a function that performs it on `pixel_model.py`."""
+"""Random input: lines, in the grammar of docs/user/LANGUAGE.md and not, each with a function that performs it on `pixel_model.py`."""
 
 import typing
 
-from font_model import PIXEL
-from pixel_model import MAX_WEIGHT
-from random_cycles import NEAR, Cycles
-from reading_model import refused_place
+from models.font_model import PIXEL
+from models.pixel_model import MAX_WEIGHT
+from models.random_cycles import NEAR, Cycles
+from models.reading_model import refused_place
 
 NAMES = ["currentpicture", "a", "b", "z"]
 # Absolute values of the weights that bound the range of a cull.

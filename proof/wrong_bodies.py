@@ -1,7 +1,7 @@
 #!/usr/bin/env python3
-"""Tries the wrong bodies of crates, many in one check: the prover must refuse each of them.
+"""A tool of proof: tries the wrong bodies of crates, many in one check. The prover must refuse each of them.
 
-    tests/wrong_bodies.py [--jobs N] [CRATE..]
+    proof/wrong_bodies.py [--jobs N] [CRATE..]
 
 A wrong body is an edit, crates/NAME/must-fail/*.edit (which `rt ci` tries, too, one at a time) or crates/NAME/wrong/*.edit.
 The wrong bodies of these crates, or of all crates, are tried, N crates at a time. By default N is the number of processors, but
@@ -39,12 +39,9 @@ import time
 from collections.abc import Iterable
 from pathlib import Path
 
-from edited_source import Edit, Function, UnfitEdit, changed_by, read_edit, texts_of
-from proof_room import NO_CONTROL, ROOT, SAID, Room, newly_open, own_reasons, problem_of
-
-# These are in tools/, which proof_room has put on the path.
-from build import prove_in_order  # isort: skip
-from prover import Failure, Prover, libraries_of_crates  # isort: skip
+from edited_crate import NO_CONTROL, SAID, Room, newly_open, own_reasons, problem_of
+from edits import Edit, Function, UnfitEdit, changed_by, read_edit, texts_of
+from prover import ROOT, Failure, Prover, libraries_of_crates, prove_in_order
 
 # The most memory that one check takes, in bytes.
 MEMORY = 4_000_000_000

@@ -1,4 +1,4 @@
-"""A small, slow writer of font files, command by command.
+"""A model: a small, slow writer of font files, command by command.
 
 It shares nothing with the program but the rules of docs/library/GF.md. Its files have no comment, and their font words are 0.
 """

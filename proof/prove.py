@@ -1,7 +1,7 @@
 #!/usr/bin/env python3
-"""Proves one crate from what the crates below it state: the quick loop while you write.
+"""A tool of proof: proves one crate from what the crates below it state, in the quick loop while you write.
 
-    tools/prove.py CRATE [WORD..]
+    proof/prove.py CRATE [WORD..]
 
 The crates below are proved first, unless they are already (`tools/build.py` says how). The words go to `rattle check`: with `--only F`
 it proves one function, and with `--allow-holes` it prints the goal and the usable names at each `?`. What it finds out is kept in
@@ -11,8 +11,7 @@ out/prove of the crate, so the next run proves only what an edit touches.
 import subprocess
 import sys
 
-from build import count_jobs, prove_in_order
-from prover import Failure, Prover
+from prover import Failure, Prover, count_jobs, prove_in_order
 
 
 def main() -> int:

@@ -1,4 +1,4 @@
-"""A small reader that goes from token to token, to find where a line leaves the grammar of docs/user/LANGUAGE.md."""
+"""A model: a small reader that goes from token to token, to find where a line leaves the grammar of docs/user/LANGUAGE.md."""
 
 NAMES = {"currentpicture", *"abcdefghijklmnopqrstuvwxyz"}
 SOURCES = NAMES | {"nullpicture"}

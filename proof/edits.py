@@ -1,4 +1,4 @@
-"""Edits of a crate's files, and the functions that they change. (`wrong_bodies.py` uses it.)
+"""A tool of proof: edits of a crate's files, and the functions that they change. (`wrong_bodies.py` uses it.)
 
 An edit is a file with a line `file: src/lib.rt`, followed by pairs of lines `old: TEXT` and `new: TEXT`. A TEXT is one line, and
 the old one must be in that file exactly once when the pairs before it have been applied. This is the form that the toolchain

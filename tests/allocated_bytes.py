@@ -1,7 +1,7 @@
 #!/usr/bin/env python3
 """Counts the bytes that commands allocate, to see that pictures share what a command does not change.
 
-    tests/sharing.py [PROGRAM]
+    tests/allocated_bytes.py [PROGRAM]
 
 PROGRAM is the built program, by default crates/mfpic/out/mfpic. Each script is run without its command and with it, and the
 difference is what the command allocates: the sum of the sizes given to malloc and realloc. A library, which `cc` compiles and
@@ -18,7 +18,7 @@ import subprocess
 import sys
 import tempfile
 
-from refusing import ROOT, unknown_growths
+from allocation_runner import ROOT, unknown_growths
 
 LIBRARY = r"""
 #define _GNU_SOURCE

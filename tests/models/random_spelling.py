@@ -1,9 +1,9 @@
-"""Random ways to spell the tokens of a line of docs/user/LANGUAGE.md."""
+"""Random input: ways to spell the tokens of a line of docs/user/LANGUAGE.md."""
 
 import functools
 import random
 
-from pixel_model import MAX_LINE
+from models.pixel_model import MAX_LINE
 
 # What may be between tokens.
 GAPS = ["", "", "", "", " ", " ", "\t", "  ", " \t "]
