@@ -20,9 +20,9 @@ pub record LosesFile (viewers : ℕ) (file : Option (List ℕ)) (fault : RunFaul
   pub few : (count ≡ 0) ⊎ (count < length gf)
   pub output : GetsOutput viewers (Some gf) s
 
--- what a fault of the program says about what was read and written, where so many viewers and this FILE were asked for: a fault of the run says what it says
--- there, unless it is one of the font file; where a FILE is asked for and no character was shipped, everything that the script
--- prints is written
+-- what a fault of the program says of reading and writing, where so many viewers and this FILE were asked for: what such a fault of a
+-- run says, or that the font file is not written to its end; where a FILE is asked for and no character was shipped, everything that
+-- the script prints is written
 abbrev pub TellsOfProgram : ℕ → Option (List ℕ) → ProgramFault → Streams → Type 0
 TellsOfProgram viewers file (Run fault) s = Passes s (TellsOfRun settings viewers fault) ⊎ LosesFile viewers file fault s
 TellsOfProgram viewers file NoCharacters s = IsSome file × GetsOutput viewers None s

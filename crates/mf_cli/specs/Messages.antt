@@ -13,7 +13,7 @@ abbrev pub message_of : ProgramFault → List ℕ
 message_of (Run fault) = codes "mfpic: " ++ run_fault_text fault ++ codes "\n"
 message_of NoCharacters = codes "mfpic: NoCharacters\n"
 
--- the status after a fault: 3 where a stream or a file failed or there is no character, and 4 where memory, a place or a look was missing
+-- the status after a fault: 4 where memory, a place or a look was missing, and else 3
 abbrev pub status_of : ProgramFault → ℕ
 status_of (Run fault) = if is_of_stream fault then 3 else 4
 status_of NoCharacters = 3

@@ -35,7 +35,7 @@ StopsAfter IsText before (Observer fault) written = IsText written
 
 -- what a fault of the script, its reader or its writer says: after `ReadFault` the texts of the lines that a line feed ended have
 -- been written; after `OutOfMemory` those of the first completely read lines, so neither a text nor a line is cut; after
--- `WriteFault` the start of such texts, with as many bytes as its number says
+-- `WriteFault` the start of such texts, with as many bytes as its number says; no other fault comes
 abbrev pub Breaks : Limits → RunFault → Passage → Type 0
 Breaks limits OutOfMemory p = IsTextSoFar limits p.left p.read p.written
 Breaks limits ReadFault p = IsTextOf limits (ended_lines p.read) p.written

@@ -13,7 +13,7 @@ run_fault_text ReadFault = codes "ReadFault"
 run_fault_text (WriteFault count) = codes "WriteFault"
 run_fault_text NoLook = codes "NoLook"
 
--- whether a stream or a file failed, where otherwise memory, a place or a look was missing
+-- whether a stream or a file failed, or the font file is too long; else memory, a place or a look was missing
 abbrev pub is_of_stream : RunFault → Bool
 is_of_stream FileTooLong = true
 is_of_stream ReadFault = true

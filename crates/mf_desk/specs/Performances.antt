@@ -46,7 +46,7 @@ pub record Task : Type 0 where
 abbrev pub task : Settings → ℕ → ℕ → Task
 task settings viewers looks = record { settings = settings; viewers = viewers; looks = looks }
 
--- a run of these bytes that did what it was asked for: its writer has got the transcript and the line of each viewer, and the
+-- a successful run on these bytes: its writer has got the transcript and the line of each viewer, and the
 -- outcome is the font file of exactly the characters that were shipped, which is not too long, and the record of each viewer; a run
 -- without viewers has no line of one, and no record
 pub record IsPerformance (t : Task) (outcome : Outcome) (s : Streams) (input : List ℕ) : Type 0 where
@@ -58,7 +58,7 @@ pub record IsPerformance (t : Task) (outcome : Outcome) (s : Streams) (input : L
   pub count : length outcome.seen.items ≡ t.viewers
   pub seen : All (λ v. HasSeen (complete_list complete.script.last.pictures) t.looks v.items) outcome.seen.items
 
--- the run did what it was asked for with the bytes that it has read; where the reader is at its end, they are all that it had
+-- the run was successful on the bytes that it has read; where the reader is at its end, they are all that it had
 abbrev pub Performs : Task → Streams → Outcome → Type 0
 Performs t s outcome = HasRead s (IsPerformance t outcome s)
 
@@ -80,7 +80,8 @@ IsNothing p = (p.read ≡ []) × (p.written ≡ [])
 -- what each fault says that ends a run beside this many viewers. After `OutOfMemory` a due text was written, and after `WriteFault` the
 -- start of one, with as many bytes as its number says; after `ReadFault` the texts of the lines that a line feed ended. After `NoLook`
 -- the line of a viewer is not written. After `FileTooLong` all is written, and the font file would be too long, or the limit is below the
--- length of the shortest preamble, and nothing was read or written. After `NoPlace` nothing was, either
+-- length of the shortest preamble, and nothing was read or written. After `NoPlace`, which comes only where there is a viewer, nothing
+-- was, either
 abbrev pub TellsOfRun : Settings → ℕ → RunFault → Passage → Type 0
 TellsOfRun settings viewers OutOfMemory p = IsDueText (run_limits settings) viewers p.left p.read p.written
 TellsOfRun settings viewers (WriteFault count) p = IsCutAfter count (IsDueText (run_limits settings) viewers p.left p.read) p.written

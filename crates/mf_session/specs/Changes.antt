@@ -50,7 +50,7 @@ op_on name op = record { name = name; op = op }
 abbrev pub operation_text : ℕ → Pictures → OpOn → List ℕ
 operation_text max_ops s o = line_if_refused (refusal_of max_ops s o.name o.op)
 
--- the pictures after it
+-- the pictures after it: as before where it is refused
 abbrev pub pictures_unless_refused : ℕ → Pictures → OpOn → Pictures
 pictures_unless_refused max_ops s o = unless_refused (refusal_of max_ops s o.name o.op) s (pictures_after s o.name o.op)
 

@@ -9,7 +9,7 @@ use Rattle.mf_text.specs.Names.{text_fault_text}
 use Rattle.mf_session.specs.declared.refusal.Refusal.{Refusal}
 use Rattle.mf_session.specs.declared.refusal.Refusal.TheVariants.{Line, Operation, FileTooLong, ProofTooLarge}
 
--- the name of a refusal and, after a space, the place or the column where it has one
+-- the name of a refusal and, after a space, the number of the point or vertex, or the column, where it has one
 abbrev pub refusal_text : Refusal → List ℕ
 refusal_text (Line fault) = text_fault_text fault
 refusal_text (Operation fault) = writer_fault_text fault

@@ -8,7 +8,7 @@ use Rattle.mf_session.specs.States.{Answer, Limits, State, answer_with}
 use Rattle.mf_session.specs.Transcript.{DueLines, Perform}
 use Rattle.mf_session.specs.Variables as variables
 
--- a session has the pictures and the turning check of a state, and its font file keeps the state's characters
+-- a session has the pictures and the turning check of a state, and its font file keeps the state's characters and no comment
 pub record StandsFor (session : Session) (s : State) : Type 0 where
   pub pictures : s.pictures ≡ variables.pictures session.variables
   pub check : s.check ≡ session.check

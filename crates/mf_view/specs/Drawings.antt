@@ -22,7 +22,7 @@ abbrev pub Rise : List (List Entry) → Type 0
 Rise [] = Unit {0}
 Rise (L ∷ earlier) = IfSome (last_revision earlier) (λ before. before < revision_at L) × Rise earlier
 
--- a viewer that has looked at a list may have looked at these up to then: whole prefixes of it, of rising revisions
+-- these lists are whole prefixes of this one, with rising revisions
 pub record AreLooks (whole : List Entry) (lists : List (List Entry)) : Type 0 where
   pub rise : Rise lists
   pub seen : All (λ L. IsWholePrefix L whole) lists

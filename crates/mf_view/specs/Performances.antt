@@ -17,7 +17,8 @@ use Rattle.mf_view.specs.Easels.{Manner}
 use Rattle.mf_view.specs.declared.fault.ProgramFault.{ProgramFault}
 use Rattle.mf_view.specs.declared.fault.ProgramFault.TheVariants.{Run}
 
--- the script of these bytes was performed to its end, and the screen has got frames of its picture, the last of them that of the last one
+-- the script of these bytes was performed to its end, and the screen has got frames of its pictures, the last of which shows its last
+-- picture
 pub record IsShown (settings : Settings) (manner : Manner) (screen : Receipt) (outcome : Outcome) (s : Streams) (read : List ℕ) : Type 0 where
   pub all_read : IsAtEnd s.left
   pub performed : IsPerformance (task settings 0 0) outcome s read

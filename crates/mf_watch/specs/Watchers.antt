@@ -25,7 +25,7 @@ abbrev pub NeverFall : ℕ → List Glance → Type 0
 NeverFall low [] = Unit {0}
 NeverFall low (g ∷ gs) = (low ≤ g.revision) × NeverFall g.revision gs
 
--- the record of this many looks, each at a whole prefix of this list
+-- the record of this many looks, each at a whole prefix of this list, with revisions that never fall
 pub record AreGlances (whole : List Entry) (looks : ℕ) (glances : List Glance) : Type 0 where
   pub counted : length glances ≡ looks
   pub each : All (IsGlance whole) glances
