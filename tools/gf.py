@@ -1,6 +1,6 @@
 """Reads GF files, METAFONT's generic fonts (The METAFONTbook, Appendix G; docs/library/GF.md).
 
-    font = read_font(path.read_bytes())
+    font = read_font(read_file(path))
 
 A place is a number of bytes from the beginning of the file. Special commands (xxx, yyy) and no_op are skipped. `NotGf` is raised
 for bytes that are not a GF file.
@@ -9,6 +9,8 @@ for bytes that are not a GF file.
 import dataclasses
 import enum
 import functools
+import pathlib
+import re
 import typing
 
 # The number of the GF format, the byte that fills the end of a file, and the least number of these bytes.
@@ -19,6 +21,8 @@ PIXEL = 65536
 NOWHERE = -1
 # Locators know a code only modulo this number.
 CODES = 256
+# Places have four bytes and a sign, so a file has no more bytes than this. How many are read at a time.
+MOST_BYTES, PIECE = (1 << 31) - 1, 1 << 20
 
 
 class Opcode(enum.IntEnum):
@@ -178,6 +182,20 @@ class Painter:
 
     def go_down(self, rows: int, offset: int, is_black: bool) -> None:
         self.row, self.column, self.is_black = self.row - rows, self.left + offset, is_black
+
+
+def read_file(file: pathlib.Path) -> bytes:
+    """The bytes of a file, for `read_font`. Of one that does not begin as a GF file only the beginning, which shows this, because
+    the rest may have no end."""
+    with file.open("rb") as opened:
+        pieces = [opened.read(2)]
+        size = len(pieces[0])
+        while pieces[0] == bytes([Opcode.PRE, FORMAT]) and (piece := opened.read(PIECE)):
+            pieces.append(piece)
+            size += len(piece)
+            if size > MOST_BYTES:
+                raise NotGf(MOST_BYTES, "a GF file ends before this byte")
+    return b"".join(pieces)
 
 
 def read_font(font: bytes) -> Font:

@@ -12,13 +12,12 @@ character, it is named, and no script is written.
 import argparse
 import bisect
 import collections
-import pathlib
 import sys
 import typing
 from collections.abc import Iterable, Iterator
 
 import gf
-from printing import print_script
+from printing import named_file, print_made, tell_fault
 
 Point = tuple[int, int]
 # What the program accepts (docs/user/LANGUAGE.md): the columns and rows of pixels, the points of a contour, numbers, codes, and
@@ -45,6 +44,25 @@ class Edge(typing.NamedTuple):
         return self.start[0] < self.end[0]
 
 
+def changes_by_row(runs: Iterable[gf.Run]) -> dict[int, set[int]]:
+    """The columns of each row at which the color changes."""
+    changes: dict[int, set[int]] = collections.defaultdict(set)
+    for run in runs:
+        changes[run.row] |= {run.left, run.right}
+    return changes
+
+
+def differing(one: set[int], other: set[int]) -> Iterator[tuple[int, int, bool]]:
+    """Where two rows differ, which are given by the columns at which their colors change: the first column, the column after the
+    last, and whether the one row is black there."""
+    is_one = is_other = False
+    before = 0
+    for x in sorted(one | other):
+        if is_one != is_other:
+            yield before, x, is_one
+        is_one, is_other, before = is_one != (x in one), is_other != (x in other), x
+
+
 class Borders:
     """The horizontal edges of black pixels, and how each leads to the next one around its boundary.
 
@@ -52,10 +70,7 @@ class Borders:
     there."""
 
     def __init__(self, runs: Iterable[gf.Run]) -> None:
-        # The columns of each row at which the color changes.
-        self.changes: dict[int, set[int]] = collections.defaultdict(set)
-        for run in runs:
-            self.changes[run.row] |= {run.left, run.right}
+        self.changes = changes_by_row(runs)
         self.edges = [edge for row in self.heights() for edge in self.edges_at(row)]
         self.rightward = {edge.start: edge for edge in self.edges if edge.goes_right}
         self.leftward = {edge.start: edge for edge in self.edges if not edge.goes_right}
@@ -72,13 +87,8 @@ class Borders:
 
     def edges_at(self, y: int) -> Iterator[Edge]:
         """The edges at a height, between the row above it and the row below."""
-        above, below = self.changes_of(y), self.changes_of(y - 1)
-        is_above = is_below = False
-        before = 0
-        for x in sorted(above | below):
-            if is_above != is_below:
-                yield Edge((before, y), (x, y)) if is_above else Edge((x, y), (before, y))
-            is_above, is_below, before = is_above != (x in above), is_below != (x in below), x
+        for left, right, is_above in differing(self.changes_of(y), self.changes_of(y - 1)):
+            yield Edge((left, y), (right, y)) if is_above else Edge((right, y), (left, y))
 
     def following(self, edge: Edge) -> Edge:
         """The next horizontal edge, after the vertical edge that follows this one."""
@@ -108,10 +118,11 @@ class Contour(typing.NamedTuple):
     points: list[Point]
     weight: int
 
-    def line(self) -> str:
+    def line(self, picture: str = "currentpicture") -> str:
+        """The line that adds the contour to a picture."""
         path = "--".join(f"({x},{y})" for x, y in self.points)
         weight = "" if self.weight == 1 else f" withweight {self.weight}"
-        return f"addto currentpicture contour {path}--cycle{weight}"
+        return f"addto {picture} contour {path}--cycle{weight}"
 
 
 def doubled_area(points: list[Point]) -> int:
@@ -139,6 +150,14 @@ def contours_of(runs: list[gf.Run]) -> list[Contour]:
     return contours_of(lower) + contours_of(upper)
 
 
+def faults_of_pixels(character: gf.Character) -> Iterator[str]:
+    """Why no contours can draw the pixels of a character."""
+    for run in character.runs:
+        if any(place not in FIELD for place in (run.left, run.right - 1, run.row)):
+            yield f"row {run.row} leaves the field of pixels from {FIELD[0]} to {FIELD[-1]}"
+            return
+
+
 def faults_of(character: gf.Character, locator: gf.Locator) -> Iterator[str]:
     """Why no line can describe a character."""
     if character.code not in CODES:
@@ -148,9 +167,7 @@ def faults_of(character: gf.Character, locator: gf.Locator) -> Iterator[str]:
     for name, number in (("dx", locator.dx), ("width", locator.width)):
         if abs(number) > MAX_NUMBER:
             yield f"its {name} is {number}, and a number of a script has 9 digits at most"
-    outside = [run for run in character.runs if any(place not in FIELD for place in (run.left, run.right - 1, run.row))]
-    if outside:
-        yield f"row {outside[0].row} leaves the field of pixels from {FIELD[0]} to {FIELD[-1]}"
+    yield from faults_of_pixels(character)
 
 
 def faults_of_font(font: gf.Font) -> Iterator[str]:
@@ -196,15 +213,14 @@ def script_of(font: gf.Font) -> list[str]:
 
 def main(words: list[str]) -> int:
     parser = argparse.ArgumentParser(description="Makes a script from a GF file. The script draws and ships its characters.")
-    parser.add_argument("file", type=pathlib.Path, metavar="FILE.gf")
+    parser.add_argument("file", type=named_file, metavar="FILE.gf")
     file = parser.parse_args(words).file
     try:
-        script = "\n".join([*script_of(gf.read_font(file.read_bytes())), ""])
-    except (Failure, gf.NotGf, OSError) as fault:
-        told = fault.strerror if isinstance(fault, OSError) else fault
-        print("\n".join(f"gf2mfp.py: {file}: {line}" for line in str(told).splitlines()), file=sys.stderr)
+        script = "\n".join([*script_of(gf.read_font(gf.read_file(file))), ""])
+    except (Failure, gf.NotGf, OSError, MemoryError) as fault:
+        tell_fault("gf2mfp.py", file, fault)
         return 1
-    print_script("gf2mfp.py", script)
+    print_made("gf2mfp.py", script)
     return 0
 
 

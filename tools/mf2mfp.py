@@ -28,7 +28,7 @@ import sys
 import typing
 
 from gf import CODES, PIXEL, Font, NotGf, read_font
-from printing import print_script
+from printing import print_made
 
 Point = tuple[int, int]
 
@@ -502,7 +502,7 @@ def main() -> int:
         told = fault.strerror if isinstance(fault, OSError) else fault
         print(f"mf2mfp.py: {path}: {told}", file=sys.stderr)
         return 1
-    print_script("mf2mfp.py", script)
+    print_made("mf2mfp.py", script)
     return 0
 
 
