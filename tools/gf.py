@@ -50,6 +50,10 @@ class Opcode(enum.IntEnum):
     POST_POST = 249
 
 
+# Commands that do nothing, as many as there are.
+NO_OPS = re.compile(b"%c*" % Opcode.NO_OP)
+
+
 class NotGf(Exception):
     """The bytes are not a GF file. The text says what is wrong, and at which place."""
 
@@ -160,7 +164,10 @@ class Reader:
     def command(self) -> int:
         """Takes the first byte of the next command. Special commands are skipped."""
         while (opcode := self.unsigned()) in range(Opcode.XXX1, Opcode.CHAR_LOC):
-            if opcode != Opcode.NO_OP:
+            if opcode == Opcode.NO_OP:
+                # A file may have millions of them, which would take minutes one by one.
+                self.place = NO_OPS.match(self.font, self.place).end()
+            else:
                 self.take(4 if opcode == Opcode.YYY else self.unsigned(opcode - Opcode.XXX1 + 1))
         return opcode
 
@@ -184,18 +191,25 @@ class Painter:
         self.row, self.column, self.is_black = self.row - rows, self.left + offset, is_black
 
 
+def read_up_to(opened: typing.BinaryIO, most: int, begun: bytes = b"") -> bytes:
+    """What has been read of a file and the rest of it, of which not much more is read than `most` bytes. Python would take the memory
+    for all of these at once, so it reads them in pieces."""
+    pieces = [begun]
+    while most >= 0 and (piece := opened.read(PIECE)):
+        pieces.append(piece)
+        most -= len(piece)
+    return b"".join(pieces)
+
+
 def read_file(file: pathlib.Path) -> bytes:
     """The bytes of a file, for `read_font`. Of one that does not begin as a GF file only the beginning, which shows this, because
     the rest may have no end."""
     with file.open("rb") as opened:
-        pieces = [opened.read(2)]
-        size = len(pieces[0])
-        while pieces[0] == bytes([Opcode.PRE, FORMAT]) and (piece := opened.read(PIECE)):
-            pieces.append(piece)
-            size += len(piece)
-            if size > MOST_BYTES:
-                raise NotGf(MOST_BYTES, "a GF file ends before this byte")
-    return b"".join(pieces)
+        begun = opened.read(2)
+        font = read_up_to(opened, MOST_BYTES, begun) if begun == bytes([Opcode.PRE, FORMAT]) else begun
+    if len(font) > MOST_BYTES:
+        raise NotGf(MOST_BYTES, "a GF file ends before this byte")
+    return font
 
 
 def read_font(font: bytes) -> Font:

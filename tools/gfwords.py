@@ -15,11 +15,13 @@ import os
 import pathlib
 import re
 import shutil
+import stat
 import struct
 import sys
 import tempfile
 
 import gf
+from printing import named_file, tell_fault
 
 # How many units of a design size make a point, units of the pixels per point a pixel, and points an inch.
 POINT, PIXEL, INCH = 1 << 20, 1 << 16, fractions.Fraction("72.27")
@@ -59,8 +61,8 @@ def check_sum(text: str) -> int:
 
 def arguments(words: list[str]) -> argparse.Namespace:
     parser = argparse.ArgumentParser(description="Sets the font words of a finished GF file. Words not named stay as they are.")
-    parser.add_argument("file", type=pathlib.Path, metavar="FILE.gf")
-    parser.add_argument("--like", type=pathlib.Path, metavar="OTHER.gf", help="first take all four words from this font")
+    parser.add_argument("file", type=named_file, metavar="FILE.gf")
+    parser.add_argument("--like", type=named_file, metavar="OTHER.gf", help="first take all four words from this font")
     parser.add_argument("--design-size", type=design_size, metavar="POINTS", help="the design size, such as 10")
     parser.add_argument("--checksum", type=check_sum, metavar="N", help="the check sum in the font's TFM file")
     parser.add_argument("--resolution", type=resolution, metavar="DPI", help="pixels per inch, in both directions")
@@ -70,17 +72,27 @@ def arguments(words: list[str]) -> argparse.Namespace:
     return named
 
 
+class Failure(Exception):
+    """What is wrong with a file: the file, and the fault."""
+
+
 def read(file: pathlib.Path) -> tuple[bytes, gf.Font]:
     """The bytes of a file, and its font."""
-    font = file.read_bytes()
     try:
+        font = gf.read_file(file)
         return font, gf.read_font(font)
-    except gf.NotGf as fault:
-        raise SystemExit(text_of(file, str(fault))) from None
+    except (gf.NotGf, OSError, MemoryError) as fault:
+        raise Failure(file, fault) from None
 
 
-def text_of(file: pathlib.Path, fault: str) -> str:
-    return f"gfwords.py: {file}: {fault}"
+def refuse_others(file: pathlib.Path) -> None:
+    """Refuses what is no regular file, such as a pipe, because a file would replace it."""
+    try:
+        is_regular = stat.S_ISREG(file.stat().st_mode)
+    except OSError as fault:
+        raise Failure(file, fault) from None
+    if not is_regular:
+        raise Failure(file, ValueError("it is not a regular file"))
 
 
 def new_words(words: gf.Words, named: argparse.Namespace) -> gf.Words:
@@ -113,13 +125,17 @@ def main(words: list[str]) -> int:
     named = arguments(words)
     file = named.file
     try:
+        refuse_others(file)
         font, read_as = read(file)
         place = read_as.postamble + WORDS
         packed = struct.pack(">4i", *new_words(read_as.words, named))
         # A link keeps leading to the file.
         replace(file.resolve(), font[:place] + packed + font[place + len(packed) :])
-    except OSError as fault:
-        print(text_of(fault.filename or file, fault.strerror or str(fault)), file=sys.stderr)
+    except Failure as failure:
+        tell_fault("gfwords.py", *failure.args)
+        return 1
+    except (OSError, MemoryError) as fault:
+        tell_fault("gfwords.py", file, fault)
         return 1
     return 0
 

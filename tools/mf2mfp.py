@@ -27,8 +27,8 @@ import re
 import sys
 import typing
 
-from gf import CODES, PIXEL, Font, NotGf, read_font
-from printing import print_made
+from gf import CODES, PIXEL, Font, NotGf, read_file, read_font, read_up_to
+from printing import named_file, print_made, tell_fault
 
 Point = tuple[int, int]
 
@@ -42,6 +42,11 @@ MAX_POINTS, MAX_COORDINATE = 4096, 4095
 
 # METAFONT breaks the lines of its log after this many characters.
 WIDTH = 79
+# A number as METAFONT prints it, which is below 2^15, and the coordinates of a corner. Longer texts are not METAFONT's, and Python
+# would need long for them.
+NUMBER, CORNER = re.compile(r"-?[0-9]{1,9}(\.[0-9]{1,9})?"), r"\((-?[0-9]{1,9}),(-?[0-9]{1,9})\)"
+# How much of a text is shown in a message, and the bytes that a log may have. (That of cmr10 at 600 dots per inch has 3 MB.)
+SHOWN, MOST_BYTES = 60, 1 << 30
 MARK = re.compile(r"mf2mfp ([a-z]+) ?(.*)")
 EDGES = re.compile(r"Tracing edges at line (\d+): \(weight (-?\d+)\)")
 NOTHING = "(No new edges added.)"
@@ -101,10 +106,9 @@ class Statement:
 
 def number_of(text: str) -> fractions.Fraction:
     """The number that METAFONT has for this text, a multiple of 1/65536."""
-    try:
-        return fractions.Fraction(round(fractions.Fraction(text) * 65536), 65536)
-    except ValueError:
-        raise Untranslated(f"{text} is no number") from None
+    if not NUMBER.fullmatch(text):
+        raise Untranslated(f"{text[:SHOWN]} is no number")
+    return fractions.Fraction(round(fractions.Fraction(text) * 65536), 65536)
 
 
 def nearest(number: fractions.Fraction) -> int:
@@ -119,9 +123,9 @@ def without_repeated(corners: list[Point]) -> list[Point]:
 
 def path_of(text: str) -> list[Point]:
     """The corners of a contour in the log, without repetitions."""
-    if not re.fullmatch(r"(\(-?\d+,-?\d+\))+\.", text):
-        raise Untranslated(f"no contour: {text[:60]}")
-    corners = [(int(x), int(y)) for x, y in re.findall(r"\((-?\d+),(-?\d+)\)", text)]
+    if not re.fullmatch(f"({CORNER})+[.]", text):
+        raise Untranslated(f"no contour: {text[:SHOWN]}")
+    corners = [(int(x), int(y)) for x, y in re.findall(CORNER, text)]
     points = without_repeated(corners)
     for (x, y), (after_x, after_y) in zip(points, points[1:] + points[:1]):
         if (x == after_x) == (y == after_y):
@@ -301,14 +305,17 @@ class Log:
         self.awaited, self.is_shown = "", False
         # The picture that the last addto changes, and whether the log has not yet said what is added.
         self.target, self.is_open = "", False
-        # The weight of a contour, and its corners as far as they have been read.
-        self.weight, self.corners = "", ""
+        # The weight of a contour, and the lines of its corners as far as they have been read.
+        self.weight = ""
+        self.corners: list[str] = []
 
     def read(self, line: str) -> None:
         """Reads a line of the log."""
         if self.weight:
             self.read_corners(line)
         elif mark := MARK.fullmatch(line):
+            if len(line) == WIDTH:
+                raise Untranslated("a name is too long")
             self.read_mark(mark[1], mark[2].split(" "))
         elif edges := EDGES.fullmatch(line):
             self.weight = edges[2]
@@ -319,19 +326,23 @@ class Log:
 
     def read_corners(self, line: str) -> None:
         """Reads a line of the corners of a contour, which end with a period."""
-        self.corners += line
-        if not self.corners.endswith((".", NOTHING)):
+        self.corners.append(line)
+        if not line.endswith((".", NOTHING)):
             return
+        corners = "".join(self.corners)
         if not self.target:
             raise Untranslated("a contour is added to no picture")
-        if self.corners != NOTHING:
-            self.script.contour(self.target, self.weight, path_of(self.corners))
-        self.weight, self.corners, self.is_open = "", "", False
+        if corners != NOTHING:
+            self.script.contour(self.target, self.weight, path_of(corners))
+        self.weight, self.corners, self.is_open = "", [], False
 
     def read_mark(self, word: str, rest: list[str]) -> None:
         """Reads a mark."""
         if MARKS.get(word) != len(rest):
             raise Untranslated(f"a mark that is none: {word} {' '.join(rest)}")
+        # They are used later, and then another line would be named.
+        for text in rest if word in ("keeping", "dropping", "weight") else rest[1:]:
+            number_of(text)
         if self.awaited:
             raise Untranslated(f"METAFONT does not trace {self.awaited}")
         if word == "uses":
@@ -463,15 +474,21 @@ def source_name(source: Source) -> str:
 
 def whole_lines(log: str) -> typing.Iterator[tuple[int, str]]:
     """The lines of a log, each with its number. METAFONT breaks long lines; broken lines of its trace are joined here."""
-    begun = ""
+    begun: list[str] = []
     for number, line in enumerate(log.splitlines(), 1):
-        whole = begun + line
-        is_broken = len(line) == WIDTH and whole.startswith("{") and not whole.endswith("}")
-        begun = whole if is_broken else ""
-        if len(line) == WIDTH and MARK.match(line):
-            raise Untranslated("a name is too long")
-        if not is_broken:
-            yield number, whole
+        begun.append(line)
+        if len(line) != WIDTH or not begun[0].startswith("{") or line.endswith("}"):
+            yield number, "".join(begun)
+            begun = []
+
+
+def read_log(file: pathlib.Path) -> str:
+    """The text of a log."""
+    with file.open("rb") as opened:
+        log = read_up_to(opened, MOST_BYTES)
+    if len(log) > MOST_BYTES:
+        raise Untranslated(f"it has more than {MOST_BYTES} bytes")
+    return log.decode("latin-1")
 
 
 def translate(log: str, script: Script) -> str:
@@ -486,25 +503,24 @@ def translate(log: str, script: Script) -> str:
         raise Untranslated(f"line {number}: {fault}") from None
 
 
-def main() -> int:
+def main(arguments: list[str]) -> int:
     parser = argparse.ArgumentParser(description="Makes a script for mfpic from METAFONT's log and GF file.")
-    parser.add_argument("log", type=pathlib.Path, metavar="LOG", help="the log of METAFONT, which read mf2mfp.mf before the font")
-    parser.add_argument("font", type=pathlib.Path, metavar="FONT", help="the GF file that METAFONT wrote")
+    parser.add_argument("log", type=named_file, metavar="LOG", help="the log of METAFONT, which read mf2mfp.mf before the font")
+    parser.add_argument("font", type=named_file, metavar="FONT", help="the GF file that METAFONT wrote")
     parser.add_argument("--proof", type=int, action="append", default=[], metavar="CODE", help="print a proof of this character")
-    words = parser.parse_args()
+    words = parser.parse_args(arguments)
     path = words.font
     try:
-        font = read_font(path.read_bytes())
+        font = read_font(read_file(path))
         check_proofs(font, words.proof)
         path = words.log
-        script = translate(path.read_text(encoding="latin-1"), Script(font, set(words.proof)))
-    except (OSError, NotGf, Untranslated) as fault:
-        told = fault.strerror if isinstance(fault, OSError) else fault
-        print(f"mf2mfp.py: {path}: {told}", file=sys.stderr)
+        script = translate(read_log(path), Script(font, set(words.proof)))
+    except (OSError, NotGf, Untranslated, MemoryError) as fault:
+        tell_fault("mf2mfp.py", path, fault)
         return 1
     print_made("mf2mfp.py", script)
     return 0
 
 
 if __name__ == "__main__":
-    sys.exit(main())
+    sys.exit(main(sys.argv[1:]))
