@@ -6,7 +6,8 @@
 
 The program mfpic writes 0 for each of these words, and TeX's programs complain about that. Words that are not named stay as they
 are, and so does the rest of the file. `--like` takes all four words from another font, and the other options are applied after
-it. The new file is written beside the old one and then replaces it, so that a fault leaves the old one.
+it. The new file is written beside the old one and then replaces it, so that a fault leaves the old one. What is no regular file, such
+as a pipe, is refused.
 """
 
 import argparse

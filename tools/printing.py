@@ -18,7 +18,9 @@ def text_of(fault: Exception) -> str:
     """What a fault says, without the name of the file."""
     if isinstance(fault, MemoryError):
         return "there is not enough memory"
-    return str(isinstance(fault, OSError) and fault.strerror or fault)
+    if isinstance(fault, OSError) and fault.strerror:
+        return fault.strerror
+    return str(fault)
 
 
 def tell(text: str) -> None:
