@@ -50,6 +50,8 @@ class Opcode(enum.IntEnum):
     POST_POST = 249
 
 
+# The first bytes of the commands that are skipped.
+SPECIALS = frozenset(range(Opcode.XXX1, Opcode.CHAR_LOC))
 # Commands that do nothing, as many as there are.
 NO_OPS = re.compile(b"%c*" % Opcode.NO_OP)
 
@@ -163,7 +165,7 @@ class Reader:
 
     def command(self) -> int:
         """Takes the first byte of the next command. Special commands are skipped."""
-        while (opcode := self.unsigned()) in range(Opcode.XXX1, Opcode.CHAR_LOC):
+        while (opcode := self.unsigned()) in SPECIALS:
             if opcode == Opcode.NO_OP:
                 # A file may have millions of them, which would take minutes one by one.
                 self.place = NO_OPS.match(self.font, self.place).end()
