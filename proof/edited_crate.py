@@ -90,8 +90,8 @@ class Room:
             path = [it for it in function.module.split("::") if it not in ("lib", "main")]
             return self.symbols.get((*path, function.name), [])
         named = {key[0]: them for key, them in self.symbols.items() if len(key) == 2 and key[1] == function.name}
-        # The block `impl Stopped<Infallible>` is called `Stopped+Infallible`.
-        near = [key for key in named if key[0].isupper() and (function.holder.startswith(key) or key.startswith(f"{function.holder}+"))]
+        # The block `impl Stopped<Infallible>` is called `Stopped+Infallible`, and `impl From<Stopped<A>> for B` is `BFromStoppedA`.
+        near = [key for key in named if key[0].isupper() and (function.holder.startswith(key) or key.startswith(function.holder))]
         return named.get(function.holder) or (named[max(near, key=len)] if near else [])
 
 
