@@ -22,7 +22,7 @@ from build import Failure, Prover  # noqa: E402
 NAME = "looks"
 SOURCES = sorted((HERE / NAME).glob("*.rattle"))
 PROGRAM, STAMP = HERE / "out" / NAME, HERE / "out" / "stamp"
-LIBRARIES = "mf_base mf_geom mf_edges mf_rows mf_ops mf_live core left_right logbook crossbeam_utils atomic_table anyhow".split()
+LIBRARIES = "mf_base mf_geom mf_rows_edges mf_rows mf_ops mf_live core left_right logbook crossbeam_utils atomic_table anyhow".split()
 
 THREADS = (1, 2, 4, 16)
 # The rows of the pictures. A picture has at most 8190, and a band 16.

@@ -1,4 +1,4 @@
-"""Runs programs while their allocations are refused. (`wanting_memory.py` uses it.)
+"""Runs programs while their allocations are refused. (`refused_allocations.py` uses it.)
 
 An allocation here is a call of malloc or realloc, or the start of a thread; the code calls it a growth. A library, which `cc`
 compiles and LD_PRELOAD puts before the C library, counts and refuses them.

@@ -25,6 +25,7 @@ from outlines import FINE, PIXEL, PREAMBLE, SHORT, WITHOUT_PICTURE, Ended, call,
 
 ROOT = pathlib.Path(__file__).resolve().parent.parent
 # The folder of the tools is on the path since `outlines` has been read.
+import gf
 import gf2mfp
 import gf2pl
 import gfdiff
@@ -38,7 +39,7 @@ FILLED = RING | {(1, 1)}
 RIGHT = frozenset((x + 1, y) for x, y in SQUARE)
 # The seed of what is random, and how many changed files are tried.
 SEED, CHANGED = 20, 300
-# Kilobytes that a tool may have where memory is wanting, and the bytes of the file that it then reads, which has a hole. Seconds that
+# Kilobytes that a tool may have where an allocation fails, and the bytes of the file that it then reads, which has a hole. Seconds that
 # it may take.
 LITTLE, HOLE, MOST_SECONDS = 100_000, 300_000_000, 20
 # A log that draws the font FINE.
@@ -197,6 +198,27 @@ def check_list(folder: pathlib.Path) -> None:
         (folder / "list.pl").write_text(LIST, encoding="ascii")
         ran = run(["pltotf", folder / "list.pl", folder / "list.tfm"])
         expect((ran.returncode, ran.stdout + ran.stderr) == (0, ""), f"pltotf says {ran.stdout}{ran.stderr}")
+
+
+def check_packed(folder: pathlib.Path) -> None:
+    """A packed font is read as the GF file of which it was made, where the programs for that are installed. One that is cut off is
+    refused."""
+    whole, packed = folder / "whole.gf", folder / "whole.pk"
+    whole.write_bytes(font_of(*BASE))
+    if not (shutil.which("gftopk") and shutil.which("pktogf")):
+        packed.write_bytes(bytes([247, 89, 0]))
+        fails(gf2pl, [packed], f"{packed}: byte 0: a packed font (PK) needs the program pktogf (Debian package texlive-binaries)")
+        return
+    run(["gftopk", str(whole), str(packed)])
+    ends(gfdiff, [whole, packed], Ended(gfdiff.SAME, COMPARED["the same"][2], ""))
+    scripts = [call(gf2mfp, [file]).printed for file in (whole, packed)]
+    expect(scripts[0] == scripts[1], f"the script of the packed font is {scripts[1]} instead of {scripts[0]}")
+    cut = folder / "cut.pk"
+    cut.write_bytes(packed.read_bytes()[:40])
+    seconds, gf.MOST_SECONDS = gf.MOST_SECONDS, 1
+    found = call(gfdiff, [whole, cut])
+    gf.MOST_SECONDS = seconds
+    expect(found.status == gfdiff.TROUBLE and "pktogf makes no GF file" in found.told, f"a font that is cut off ends with {found}")
 
 
 def check_no_list(folder: pathlib.Path) -> None:
@@ -374,6 +396,7 @@ def checks(program: str) -> Iterator[tuple[str, Callable[[pathlib.Path], None]]]
     yield "pixels outside the field", check_outside
     yield "a property list", check_list
     yield "what no metrics can say", check_no_list
+    yield "a packed font", check_packed
     for tool in TOOLS:
         yield f"{tool.__name__}.py: files that are no font", lambda folder, tool=tool: check_bad_files(tool, folder)
         yield f"{tool.__name__}.py: little memory", lambda folder, tool=tool: check_memory(tool, folder)

@@ -1,7 +1,7 @@
 #!/bin/bash
 # Tests the exit statuses and messages of the programs where they fail: words that it does not know, a word that is not UTF-8, a
 # folder as its script, an output that is full or closed, a font file without a character, one that cannot be created or written,
-# memory or threads that are wanting, and an image that would be too large. After a fault of the words or of the script, or in a terminal that is too small, a file that was
+# missing memory or threads, and an image that would be too large. After a fault of the words or of the script, or in a terminal that is too small, a file that was
 # there before is there as it was. And `--pause` makes a script rest.
 set -u
 cd "$(dirname "$0")/.."
@@ -61,7 +61,7 @@ doublings() {
     echo 'shipout a code 65 dx 0 width 0'
 }
 
-# These rows take about 40 MB, so with 20 MB memory is wanting. A thread with a stack of 2 GB does not fit into 1 GB.
+# These rows take about 40 MB, so with 20 MB an allocation fails. A thread with a stack of 2 GB does not fit into 1 GB.
 doublings > "$folder/doublings.mfp"
 export DOUBLINGS=$folder/doublings.mfp
 ends_with 0 '' bash -c 'crates/mfpic/out/mfpic < "$DOUBLINGS"'

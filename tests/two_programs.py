@@ -6,7 +6,7 @@
 Each script is read whole, in pieces of 7 bytes, and a line at a time. Then one read fails, or is interrupted, or the transcript takes
 no more bytes, or from the end of a read on no allocation succeeds in the thread that reads, at each of the first places in turn.
 A library, which `cc` compiles and LD_PRELOAD puts before the C library, does all this to both programs alike. `mfview` writes its
-transcript to standard error, where its message follows. It draws after the end of the script, too: where memory is wanting, and
+transcript to standard error, where its message follows. It draws after the end of the script, too: where an allocation fails, and
 `mfpic` does without, `mfview` may end with `OutOfMemory` after the whole transcript. The last line counts the runs that agree. The
 gate runs this script (see `check`).
 """

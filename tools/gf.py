@@ -1,8 +1,9 @@
 """Reads GF files, METAFONT's generic fonts (The METAFONTbook, Appendix G; docs/library/GF.md).
 
     font = read_font(read_file(path))
+    font = read_font(read_packed_or_not(path))
 
-A place is a number of bytes from the beginning of the file. Special commands (xxx, yyy) and no_op are skipped. `NotGf` is raised
+The second also reads packed fonts (PK files), of which `pktogf` makes GF files, where it is installed. A place is a number of bytes from the beginning of the file. Special commands (xxx, yyy) and no_op are skipped. `NotGf` is raised
 for bytes that are not a GF file.
 """
 
@@ -11,10 +12,14 @@ import enum
 import functools
 import pathlib
 import re
+import subprocess
+import tempfile
 import typing
 
 # The number of the GF format, the byte that fills the end of a file, and the least number of these bytes.
 FORMAT, PADDING, LEAST_PADDING = 131, 223, 4
+# The number of the PK format, and the seconds that `pktogf` may take.
+PACKED, MOST_SECONDS = 89, 20
 # One pixel, in the units of dx.
 PIXEL = 65536
 # The number and the place of a character that does not exist.
@@ -212,6 +217,27 @@ def read_file(file: pathlib.Path) -> bytes:
     if len(font) > MOST_BYTES:
         raise NotGf(MOST_BYTES, "a GF file ends before this byte")
     return font
+
+
+def read_packed_or_not(file: pathlib.Path) -> bytes:
+    """The bytes of a GF file, or of the one that `pktogf` makes of a packed font."""
+    font = read_file(file)
+    if font != bytes([Opcode.PRE, PACKED]):
+        return font
+    with tempfile.TemporaryDirectory() as folder:
+        made = pathlib.Path(folder) / "made.gf"
+        try:
+            words = ["pktogf", str(file.resolve()), str(made)]
+            ran = subprocess.run(words, stdin=subprocess.DEVNULL, capture_output=True, cwd=folder, check=False, timeout=MOST_SECONDS)
+        except FileNotFoundError:
+            raise NotGf(0, "a packed font (PK) needs the program pktogf (Debian package texlive-binaries)") from None
+        except subprocess.TimeoutExpired:
+            # It reads a file that is cut off without an end.
+            raise NotGf(0, f"pktogf makes no GF file of this packed font in {MOST_SECONDS} seconds") from None
+        if ran.returncode != 0 or not made.is_file():
+            told = (ran.stderr + ran.stdout).decode("utf-8", "replace").strip().splitlines()
+            raise NotGf(0, f"pktogf makes no GF file of this packed font: {told[-1] if told else 'it says nothing'}")
+        return read_file(made)
 
 
 def read_font(font: bytes) -> Font:

@@ -216,7 +216,7 @@ def main(words: list[str]) -> int:
     parser.add_argument("file", type=named_file, metavar="FILE.gf")
     file = parser.parse_args(words).file
     try:
-        script = "\n".join([*script_of(gf.read_font(gf.read_file(file))), ""])
+        script = "\n".join([*script_of(gf.read_font(gf.read_packed_or_not(file))), ""])
     except (Failure, gf.NotGf, OSError, MemoryError) as fault:
         tell_fault("gf2mfp.py", file, fault)
         return 1

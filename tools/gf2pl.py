@@ -114,7 +114,7 @@ def main(words: list[str]) -> int:
     named = arguments(words)
     file = named.file
     try:
-        font = gf.read_font(gf.read_file(file))
+        font = gf.read_font(gf.read_packed_or_not(file))
         family_name = named.family or NOT_OF_FAMILY.sub("", file.stem)[:FAMILY]
         made = "\n".join([*list_of(font, words_of(font.words, named), family_name), ""])
     except (Failure, gf.NotGf, OSError, MemoryError) as fault:

@@ -155,9 +155,9 @@ def main(words: list[str]) -> int:
     named = parser.parse_args(words)
     file: pathlib.Path | str = named.a
     try:
-        a = gf.read_font(gf.read_file(named.a))
+        a = gf.read_font(gf.read_packed_or_not(named.a))
         file = named.b
-        b = gf.read_font(gf.read_file(named.b))
+        b = gf.read_font(gf.read_packed_or_not(named.b))
         file = f"{named.a}, {named.b}"
         differences = list(differences_of(a, b))
         lines = script_of(differences) if named.script else report_of(differences, len(a.locators.keys() | b.locators.keys()))

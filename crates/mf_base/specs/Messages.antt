@@ -15,7 +15,7 @@ receipt held holds = record { held = held; holds = holds }
 abbrev pub receipt_of : {W : Type 0} → (W → Option (List ℕ)) → W → W → Receipt
 receipt_of contents before after = receipt (contents before) (contents after)
 
--- a writer that held some bytes has got a front of the text, maybe nothing or all of it, and nothing else
+-- a writer that held some bytes has got a prefix of the text, maybe nothing or all of it, and nothing else
 abbrev pub GetsFront : Option (List ℕ) → Option (List ℕ) → List ℕ → Type 0
 GetsFront held holds text = (front : List ℕ) × (rest : List ℕ) × (text ≡ front ++ rest) × Appends held holds front
 

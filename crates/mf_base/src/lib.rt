@@ -5,4 +5,4 @@ mod memory;
 mod output;
 
 pub use memory::OutOfMemory;
-pub use output::{write_and_flush, write_counted, write_text};
+pub use output::{write_counted, write_text};

@@ -12,7 +12,8 @@ use std::io::{self, ErrorKind, Write};
 /// them.
 pub fn write_counted<W: Write>(writer: &mut W, bytes: &[u8]) -> Result<(), usize>
     ensures all { OnOk result (Appends (W.contents writer.old) (W.contents writer.new) bytes.now) }
-    ensures front { IfErr result (λ count. Appends (W.contents writer.old) (W.contents writer.new) (take count bytes.now)) }
+    ensures front { IfErr result (λ count.
+        Appends (W.contents writer.old) (W.contents writer.new) (take count bytes.now)) }
     ensures within { IfErr result (λ count. count < length bytes.now) }
 {
     let mut sent = 0;
@@ -40,23 +41,12 @@ fn write_once<W: Write>(writer: &mut W, bytes: &[u8]) -> io::Result<usize>
     Err(ErrorKind::Interrupted.into())
 }
 
-/// Writes all these bytes, in as many writes as the writer needs, and flushes. Whether both succeeded: after `true` the writer has
-/// taken all bytes, and after `false` all of them or a front of them. No clause can say whether it was flushed.
-pub fn write_and_flush<W: Write>(writer: &mut W, bytes: &[u8]) -> bool
-    ensures all { result ≡ true → Appends (W.contents writer.old) (W.contents writer.new) bytes.now }
-    ensures front { GetsFront (W.contents writer.old) (W.contents writer.new) bytes.now }
-{
-    if write_counted(writer, bytes).is_err() {
-        return false;
-    }
-    writer.flush().is_ok()
-}
-
-/// Writes a text, such as a message or a piece of one, as far as the writer takes it. Whether it took all; where it did not, it took
-/// the first bytes of the text, fewer than all of them, and perhaps none.
+/// Writes a text, such as a message or a piece of one, as far as the writer takes it. Returns whether it took all; where it did not, it
+/// took the first bytes of the text, fewer than all of them, and perhaps none.
 pub fn write_text<W: Write>(writer: &mut W, text: &str) -> bool
     ensures all { result ≡ true → Appends (W.contents writer.old) (W.contents writer.new) text.now }
-    ensures part { result ≡ false → GetsPart (W.contents writer.old) (W.contents writer.new) text.now }
+    ensures part { result ≡ false
+        → GetsPart (W.contents writer.old) (W.contents writer.new) text.now }
     ensures front { GetsFront (W.contents writer.old) (W.contents writer.new) text.now }
 {
     write_counted(writer, text.as_bytes()).is_ok()

@@ -1,8 +1,8 @@
 -- The command line has plain options only, and the words give numbers to `--viewers`.
 use Rattle.std.proofs.Common.{◌≡◌, IfSome, List, codes, refl, subst, true}
 use Rattle.clap.specs.Words.{App, Row, is_simple_and_free, one_of}
-use Rattle.mf_options.specs.Options.{number_parser}
-use Rattle.mf_options.specs.Values.{AreValuesOf, IsNumberIn}
+use Rattle.mf_cli_options.specs.Options.{number_parser}
+use Rattle.mf_cli_options.specs.Values.{AreValuesOf, IsNumberIn}
 use Rattle.mf_cli.specs.CommandLine.{greatest_viewers, mfpic}
 
 pub mfpic_is_plain : is_simple_and_free mfpic ≡ true

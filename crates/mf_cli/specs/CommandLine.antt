@@ -1,8 +1,8 @@
 -- The command line of the program, as clap reads it.
 use Rattle.std.specs.Prelude.{◌≡◌, ℕ, List, [], Option, codes}
 use Rattle.clap.specs.Words.{App, Text, fault_of, matches_of, new_app, with_rule}
-use Rattle.mf_options.specs.Options.{file_rule, number_rule, without_flags}
-use Rattle.mf_options.specs.Values.{file_in, number_in}
+use Rattle.mf_cli_options.specs.Options.{file_rule, number_rule, without_flags}
+use Rattle.mf_cli_options.specs.Values.{file_in, number_in}
 
 -- the greatest number of viewers (here as well as in the code, so that a wrong number there is not proved)
 abbrev pub greatest_viewers : ℕ

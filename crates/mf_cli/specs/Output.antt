@@ -5,7 +5,7 @@ use Rattle.mf_desk.specs.Performances.{Performs, task}
 use Rattle.mf_desk.specs.Streams.{Streams}
 use Rattle.mf_desk.specs.declared.outcome.Outcome.{Outcome}
 use Rattle.mf_desk.specs.declared.settings.Settings.{Settings}
-use Rattle.mf_session.specs.States.{most_bytes, most_operations}
+use Rattle.mf_desk_session.specs.States.{most_bytes, most_operations}
 
 -- the limits of a script, and the numbers of its font (here as well as in the code, as are the looks, so that a wrong constant there
 -- is not proved)

@@ -4,11 +4,11 @@ ghost use Rattle.mf_cli.specs.declared.fault.ProgramFault.TheVariants.{Run as Ru
 
 use mf_desk::RunFault;
 
-/// Why the program ends with a fault, other than that its words are refused.
+/// Why the program ends with a fault, other than that its command line is refused.
 #[derive(Clone, Copy, Debug, PartialEq, Eq)]
 pub enum ProgramFault {
-    /// The run of the script failed, or memory for it or for the words was missing, or the font file could not be written. The number
-    /// of a `WriteFault` of the font file is less than that of its bytes.
+    /// The run of the script failed, or memory for it or for the command line was missing, or the font file could not be written. The
+    /// number of a `WriteFault` of the font file is less than that of its bytes.
     Run(RunFault),
     /// A font file was asked for, but no character was shipped.
     NoCharacters,

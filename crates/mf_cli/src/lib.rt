@@ -6,6 +6,6 @@ mod run;
 mod words;
 
 pub use fault::ProgramFault;
-pub use mf_options::WordsFault;
+pub use mf_cli_options::WordsFault;
 pub use run::{program, report};
 pub use words::{USAGE, Words, read_words};

@@ -2,20 +2,22 @@
 ghost use Rattle.std.specs.Io.KnownBytes.{IsAtEnd};
 ghost use Rattle.std.specs.Prelude.{◌≡◌, ◌≤◌, ◌⊎◌, IfErr, IfOk, OnOk, option_map, string_bytes};
 ghost use Rattle.mf_base.specs.Messages.{GetsFront};
-ghost use Rattle.mf_options.specs.Values.{texts_of};
+ghost use Rattle.mf_cli_options.specs.Values.{texts_of};
 ghost use Rattle.mf_cli.specs.CommandLine.{IsCommandLine, gf_in, greatest_viewers, viewers_in};
 ghost use Rattle.mf_cli.specs.Faults.{ReportsFault, TellsOfProgram};
 ghost use Rattle.mf_cli.specs.Messages.{message_of, status_of, usage};
 ghost use Rattle.mf_cli.specs.Output.{EndsWell, looks, settings};
 ghost use Rattle.mf_desk.specs.Performances.{Performs, TellsOfRun, task};
-ghost use Rattle.mf_desk.specs.Streams.{Passes, streams};
+ghost use Rattle.mf_desk.specs.Streams.{Passes, streams_of};
 
 use crate::fault::ProgramFault;
 use crate::words::{USAGE, Words, read_words};
+use mf_cli_options::{
+    BAD_WORDS, DONE, RESOURCE_FAULT, STREAM_FAULT, WordsFault, refuse_words, report_fault,
+};
 use mf_desk::{OpenGate, Outcome, RunFault, Settings, write_font};
+use mf_desk_session::{MAX_BYTES, MAX_OPS};
 use mf_gf::FontWords;
-use mf_options::{BAD_WORDS, DONE, STREAM_FAULT, WANTING, WordsFault, refuse_words, report_fault};
-use mf_session::{MAX_BYTES, MAX_OPS};
 use std::alloc::Global;
 use std::io::{Read, Write};
 use std::rt::Files;
@@ -39,7 +41,7 @@ const LOOKS: u32 = 16;
 
 /// Runs the script that `reader` gives, beside as many viewers as the words ask for. It writes the transcript and then the line
 /// of each viewer to `writer`, then the font file where the words ask for one, and one message to `errors` where something went
-/// wrong: all of it, or a front of it where `errors` fails, which changes no status. Answers with the exit status. `words` are those
+/// wrong: all of it, or a prefix of it where `errors` fails, which changes no status. Returns the exit status. `words` are those
 /// of the command line, and the first is the program's name.
 pub fn program<S: Wait + Threads + Files, R: Read, W: Write, E: Write>(
     rt: &S,
@@ -49,20 +51,25 @@ pub fn program<S: Wait + Threads + Files, R: Read, W: Write, E: Write>(
     writer: &mut W,
     errors: &mut E,
 ) -> u8
-    ensures statuses { (result ≡ DONE) ⊎ (result ≡ BAD_WORDS) ⊎ (result ≡ STREAM_FAULT) ⊎ (result ≡ WANTING) }
+    ensures statuses { (result ≡ DONE) ⊎ (result ≡ BAD_WORDS) ⊎ (result ≡ STREAM_FAULT)
+        ⊎ (result ≡ RESOURCE_FAULT) }
     ensures bad_words { result ≡ BAD_WORDS → IsCommandLine (texts_of words) → ⊥ }
-    ensures refused { (IsCommandLine (texts_of words) → ⊥) → (result ≡ BAD_WORDS) ⊎ (result ≡ WANTING) }
+    ensures refused { (IsCommandLine (texts_of words) → ⊥)
+        → (result ≡ BAD_WORDS) ⊎ (result ≡ RESOURCE_FAULT) }
     ensures unread { (IsCommandLine (texts_of words) → ⊥) → reader.new ≡ reader.old }
     ensures unwritten { (IsCommandLine (texts_of words) → ⊥) → writer.new ≡ writer.old }
-    ensures wanting { (IsCommandLine (texts_of words) → ⊥) → result ≡ WANTING
-        → GetsFront (E.contents errors.old) (E.contents errors.new) (message_of (ProgramFault.Run RunFault.OutOfMemory)) }
+    ensures out_of_memory { (IsCommandLine (texts_of words) → ⊥) → result ≡ RESOURCE_FAULT
+        → GetsFront (E.contents errors.old) (E.contents errors.new)
+        (message_of (ProgramFault.Run RunFault.OutOfMemory)) }
     ensures quiet { result ≡ DONE → errors.new ≡ errors.old }
-    ensures usage { result ≡ BAD_WORDS → GetsFront (E.contents errors.old) (E.contents errors.new) usage }
+    ensures usage { result ≡ BAD_WORDS
+        → GetsFront (E.contents errors.old) (E.contents errors.new) usage }
     ensures done { result ≡ DONE → EndsWell (viewers_in (texts_of words)) (gf_in (texts_of words))
-        (streams (R.remaining reader.old) (R.remaining reader.new) (W.contents writer.old) (W.contents writer.new)) }
-    ensures fault { (result ≡ STREAM_FAULT) ⊎ (result ≡ WANTING)
-        → ReportsFault (texts_of words) result (GetsFront (E.contents errors.old) (E.contents errors.new))
-        (streams (R.remaining reader.old) (R.remaining reader.new) (W.contents writer.old) (W.contents writer.new)) }
+        (streams_of R.remaining reader.old reader.new W.contents writer.old writer.new) }
+    ensures fault { (result ≡ STREAM_FAULT) ⊎ (result ≡ RESOURCE_FAULT)
+        → ReportsFault (texts_of words) result
+        (GetsFront (E.contents errors.old) (E.contents errors.new))
+        (streams_of R.remaining reader.old reader.new W.contents writer.old writer.new) }
 {
     let words = match read_words(alloc, words) {
         Ok(words) => words,
@@ -86,9 +93,10 @@ fn perform<S: Wait + Threads + Files, R: Read, W: Write>(
 ) -> Result<(), ProgramFault>
     requires { words.now.viewers ≤ greatest_viewers }
     ensures done { OnOk result (EndsWell words.now.viewers (option_map string_bytes words.now.gf)
-        (streams (R.remaining reader.old) (R.remaining reader.new) (W.contents writer.old) (W.contents writer.new))) }
-    ensures fault { IfErr result (λ fault. TellsOfProgram words.now.viewers (option_map string_bytes words.now.gf) fault
-        (streams (R.remaining reader.old) (R.remaining reader.new) (W.contents writer.old) (W.contents writer.new))) }
+        (streams_of R.remaining reader.old reader.new W.contents writer.old writer.new)) }
+    ensures fault { IfErr result (λ fault.
+        TellsOfProgram words.now.viewers (option_map string_bytes words.now.gf) fault
+        (streams_of R.remaining reader.old reader.new W.contents writer.old writer.new)) }
 {
     let gf = match run_script(rt, alloc, reader, writer, words.viewers) {
         Ok(outcome) => outcome.gf,
@@ -120,9 +128,9 @@ fn run_script<S: Wait + Threads, R: Read, W: Write>(
     requires { viewers ≤ greatest_viewers }
     ensures performance { IfOk result
         (Performs (task settings viewers looks)
-        (streams (R.remaining reader.old) (R.remaining reader.new) (W.contents writer.old) (W.contents writer.new))) }
+        (streams_of R.remaining reader.old reader.new W.contents writer.old writer.new)) }
     ensures fault { IfErr result (λ fault.
-        Passes (streams (R.remaining reader.old) (R.remaining reader.new) (W.contents writer.old) (W.contents writer.new))
+        Passes (streams_of R.remaining reader.old reader.new W.contents writer.old writer.new)
         (TellsOfRun settings viewers fault)) }
     ensures end { OnOk result (IsAtEnd (R.remaining reader.new)) }
 {
@@ -133,7 +141,7 @@ fn run_script<S: Wait + Threads, R: Read, W: Write>(
     mf_desk::perform(rt, alloc, reader, writer, &SETTINGS, viewers, LOOKS, &gate)
 }
 
-/// Reports a fault: writes its message, or a front of it where `errors` fails, and answers with the status.
+/// Reports a fault: writes its message, or a prefix of it where `errors` fails, and returns the status.
 pub fn report<E: Write>(errors: &mut E, fault: ProgramFault) -> u8
     ensures status { result ≡ status_of fault }
     ensures message { GetsFront (E.contents errors.old) (E.contents errors.new) (message_of fault) }
@@ -144,7 +152,7 @@ pub fn report<E: Write>(errors: &mut E, fault: ProgramFault) -> u8
             if cause.is_of_stream() {
                 STREAM_FAULT
             } else {
-                WANTING
+                RESOURCE_FAULT
             }
         }
         ProgramFault::NoCharacters => {

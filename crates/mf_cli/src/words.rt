@@ -1,11 +1,11 @@
 //! The words of the command line, and what they ask for, as clap reads them.
 ghost use Rattle.std.specs.Prelude.{◌≡◌, ◌≤◌, IfOk, IsErrOf, OnOk, option_map, string_bytes};
 ghost use Rattle.clap.specs.Words.{app_of};
-ghost use Rattle.mf_options.specs.Values.{texts_of};
+ghost use Rattle.mf_cli_options.specs.Values.{texts_of};
 ghost use Rattle.mf_cli.specs.CommandLine.{IsCommandLine, gf_in, greatest_viewers, mfpic, viewers_in};
 
 use clap::Command;
-use mf_options::{WordsFault, file, find_matches, new_command, number, with_file, with_number};
+use mf_cli_options::{WordsFault, file, find_matches, new_command, number, with_file, with_number};
 use std::alloc::{AllocError, Global};
 
 /// The usage text: the forms of the command line.

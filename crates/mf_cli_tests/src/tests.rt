@@ -19,14 +19,14 @@ use std::test::Fail;
 use std::thread::Threads;
 
 /// The exit statuses: of a run that is done, of words that are refused, of faults of streams and files, and where memory, a place
-/// or a look is wanting.
+/// or a look is missing.
 const DONE: u8 = 0;
 
 const BAD_WORDS: u8 = 2;
 
 const STREAM_FAULT: u8 = 3;
 
-const WANTING: u8 = 4;
+const RESOURCE_FAULT: u8 = 4;
 
 /// A line, and what it prints.
 const LINE: &[u8] = b"show totalweight currentpicture\n";
@@ -236,9 +236,14 @@ fn assert_reports<R: Abort + AllocGlobal>(rt: &R, fault: RunFault, status: u8, m
 
 #[test]
 fn reports_other_faults(rt: HostRuntime) {
-    assert_reports(&rt, RunFault::OutOfMemory, WANTING, b"mfpic: OutOfMemory\n");
-    assert_reports(&rt, RunFault::NoPlace, WANTING, b"mfpic: NoPlace\n");
-    assert_reports(&rt, RunFault::NoLook, WANTING, b"mfpic: NoLook\n");
+    assert_reports(
+        &rt,
+        RunFault::OutOfMemory,
+        RESOURCE_FAULT,
+        b"mfpic: OutOfMemory\n",
+    );
+    assert_reports(&rt, RunFault::NoPlace, RESOURCE_FAULT, b"mfpic: NoPlace\n");
+    assert_reports(&rt, RunFault::NoLook, RESOURCE_FAULT, b"mfpic: NoLook\n");
     assert_reports(
         &rt,
         RunFault::FileTooLong,
@@ -284,5 +289,5 @@ fn keeps_the_status(rt: HostRuntime) {
     );
     let fault = ProgramFault::Run(RunFault::OutOfMemory);
     let status = report(&mut Sink::failing(alloc, 0), fault);
-    assert_same(&rt, status, WANTING, "messages are not taken");
+    assert_same(&rt, status, RESOURCE_FAULT, "messages are not taken");
 }

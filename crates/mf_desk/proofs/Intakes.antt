@@ -6,7 +6,7 @@ use Rattle.mf_desk.specs.declared.observer.Stopped.{Stopped}
 use Rattle.mf_desk.specs.declared.observer.Stopped.TheVariants.{Run}
 use Rattle.mf_desk.specs.declared.progress.Progress.{Progress}
 use Rattle.mf_desk.specs.Progress.{StopsDuring, GoesOn}
-use Rattle.mf_session.specs.Sessions.{limits}
+use Rattle.mf_desk_session.specs.Sessions.{limits}
 use Rattle.mf_desk.proofs.Stages.{Breaks-between}
 
 -- bytes that consist of first ones and others

@@ -5,8 +5,8 @@ use Rattle.std.proofs.lemmas.List.{take_all, take-append-le, length-take-le}
 use Rattle.std.specs.Str.Lines.{strip_carriage_return}
 use Rattle.mf_desk.specs.declared.line_buffer.TheConstants.{MAX_KEPT}
 use Rattle.mf_text.specs.Lines.{longest_line}
-use Rattle.mf_session.specs.Answers.{Answers}
-use Rattle.mf_session.specs.States.{Answer, Limits, State}
+use Rattle.mf_desk_session.specs.Answers.{Answers}
+use Rattle.mf_desk_session.specs.States.{Answer, Limits, State}
 
 -- all lines that are too long have the same answer
 Answers-too_long : (limits : Limits) (s : State) (xs ys : List ℕ) (a : Answer) → longest_line < length xs → longest_line < length ys

@@ -13,8 +13,8 @@ use Rattle.mf_desk.specs.EndedRuns.{EndsWith, HasSeenLast}
 use Rattle.mf_desk.specs.Faults.{Breaks}
 use Rattle.mf_desk.specs.Performances.{Performs, TellsOfRun, task, run_limits}
 use Rattle.mf_desk.specs.Streams.{Passage, Passes, Streams, streams}
-use Rattle.mf_session.specs.States.{Limits, least_bytes}
-use Rattle.mf_watch.specs.Watchers.{HasSeen}
+use Rattle.mf_desk_session.specs.States.{Limits, least_bytes}
+use Rattle.mf_desk_watch.specs.Watchers.{HasSeen}
 use Rattle.mf_desk.proofs.Stages.{Breaks-nothing}
 
 module _ (settings : Settings) (viewers : ℕ) where

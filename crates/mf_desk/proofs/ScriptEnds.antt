@@ -9,8 +9,8 @@ use Rattle.mf_desk.specs.EndedRuns.{EndsWith}
 use Rattle.mf_desk.specs.Faults.{Breaks}
 use Rattle.mf_desk.specs.Progress.{ReadsThrough}
 use Rattle.mf_desk.specs.Streams.{Passes, Streams}
-use Rattle.mf_session.specs.Endings.{HasEnded}
-use Rattle.mf_session.specs.Sessions.{limits}
+use Rattle.mf_desk_session.specs.Endings.{HasEnded}
+use Rattle.mf_desk_session.specs.Sessions.{limits}
 use Rattle.mf_desk.proofs.Stages.{first-text}
 use Rattle.mf_desk.proofs.ViewerLines.{lines-nobody}
 

@@ -11,8 +11,8 @@ use Rattle.mf_desk.specs.EndedRuns.{EndsWith, IsOver, IsSameEnd, glance}
 use Rattle.mf_desk.specs.Faults.{BreaksOff}
 use Rattle.mf_desk.specs.Performances.{IsCompleteText, IsShownText, TellsOfRun, run_limits, viewer_lines}
 use Rattle.mf_desk.specs.Streams.{Gets, Passes, streams}
-use Rattle.mf_session.specs.States.{Limits}
-use Rattle.mf_watch.specs.Watchers.{glance_at}
+use Rattle.mf_desk_session.specs.States.{Limits}
+use Rattle.mf_desk_watch.specs.Watchers.{glance_at}
 use Rattle.mf_desk.proofs.ViewerLines.{lines-nobody}
 
 pub IsSameEnd-trans : (a b c : EndedRun) → IsSameEnd a b → IsSameEnd b c → IsSameEnd a c

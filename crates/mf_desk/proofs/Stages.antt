@@ -14,18 +14,18 @@ use Rattle.mf_desk.specs.declared.observer.Stopped.{Stopped}
 use Rattle.mf_desk.specs.declared.observer.Stopped.TheVariants.{Run, Observer}
 use Rattle.mf_desk.specs.declared.performer.Performer.{Performer}
 use Rattle.mf_desk.specs.declared.progress.Progress.{Progress}
-use Rattle.mf_session.specs.Answers.{Answers}
+use Rattle.mf_desk_session.specs.Answers.{Answers}
 use Rattle.mf_desk.specs.Ended.{ended_of_parts, last_part, ended_lines, unended_line}
 use Rattle.mf_desk.specs.Faults.{AreWholeLines, Breaks, IsTextSoFar, Stops, StopsAfter}
 use Rattle.mf_desk.specs.Performer.{IsLineText, IsWritten}
 use Rattle.mf_desk.specs.Progress.{HasCounted, HasReadNothing, IsAfter}
 use Rattle.mf_desk.specs.Streams.{Gets, MakesPassage}
-use Rattle.mf_session.specs.Sessions.{HasPerformed, StandsFor, limits}
-use Rattle.mf_session.specs.States.{Answer, Limits, State, answer_with, answers_in_turn, start}
-use Rattle.mf_session.specs.Transcript.{Perform, due_lines}
+use Rattle.mf_desk_session.specs.Sessions.{HasPerformed, StandsFor, limits}
+use Rattle.mf_desk_session.specs.States.{Answer, Limits, State, answer_with, answers_in_turn, start}
+use Rattle.mf_desk_session.specs.Transcript.{Perform, due_lines}
 use Rattle.mf_desk.proofs.Ended.{ended_lines-line_feed, unended_line-line_feed, ended_lines-unbroken, unended_line-unbroken, ended_lines-front, lines-last}
 use Rattle.mf_desk.proofs.LongLines.{take-taken, Answers-kept, Answers-stripped}
-use Rattle.mf_session.proofs.Performing.{Perform-append, Perform-one}
+use Rattle.mf_desk_session.proofs.Performing.{Perform-append, Perform-one}
 
 -- the first of some completely read lines have been performed
 pub first-text : (l : Limits) (left : Option (List ℕ)) (read : List ℕ) (done more : List (List ℕ)) (text : List ℕ) (last : State)

@@ -1,7 +1,7 @@
 -- The lines of viewers.
 use Rattle.std.proofs.Common.{◌≡◌, ◌+◌, ℕ, [], ◌++◌, refl}
 use native.Mathlib.Numerals.{unary_clauses}
-use Rattle.mf_watch.specs.declared.glance.Glance.{Glance}
+use Rattle.mf_desk_watch.specs.declared.glance.Glance.{Glance}
 use Rattle.mf_desk.specs.Performances.{viewer_line, viewer_lines}
 
 -- no viewer has no line

@@ -4,13 +4,13 @@ use Rattle.std.specs.declared.alloc.Global.{Global}
 use Rattle.mf_gf.specs.Keeping.{Keeps, max_bytes_of}
 use Rattle.mf_live.specs.Writers.{ended_identity, ended_published_list}
 use Rattle.mf_desk.specs.declared.ended_run.EndedRun.{EndedRun}
-use Rattle.mf_watch.specs.declared.glance.Glance.{Glance}
-use Rattle.mf_session.specs.Endings.{complete_list}
+use Rattle.mf_desk_watch.specs.declared.glance.Glance.{Glance}
+use Rattle.mf_desk_session.specs.Endings.{complete_list}
 use Rattle.mf_desk.specs.Performances.{IsCompleteText}
-use Rattle.mf_session.specs.States.{Limits}
+use Rattle.mf_desk_session.specs.States.{Limits}
 use Rattle.mf_desk.specs.Streams.{Gets, HasRead, Streams}
-use Rattle.mf_watch.specs.Watchers.{HasSeen, glance_at, record_of}
-use Rattle.mf_watch.specs.declared.watcher.Watcher.{Watcher}
+use Rattle.mf_desk_watch.specs.Watchers.{HasSeen, glance_at, record_of}
+use Rattle.mf_desk_watch.specs.declared.watcher.Watcher.{Watcher}
 
 -- the run of these bytes after the end of the script, once this text was written: the transcript, and the lines of so many viewers;
 -- everything that was accepted is published, and the font file keeps what was shipped

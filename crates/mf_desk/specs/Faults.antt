@@ -4,8 +4,8 @@ use Rattle.std.specs.Io.KnownBytes.{IsAtEnd}
 use Rattle.std.specs.Str.Lines.{lines}
 use Rattle.mf_desk.specs.Ended.{ended_lines}
 use Rattle.mf_desk.specs.Streams.{IsCutAfter, Passage}
-use Rattle.mf_session.specs.States.{State, Limits, start}
-use Rattle.mf_session.specs.Transcript.{IsFirstText, IsTextOf, due_lines}
+use Rattle.mf_desk_session.specs.States.{State, Limits, start}
+use Rattle.mf_desk_session.specs.Transcript.{IsFirstText, IsTextOf, due_lines}
 use Rattle.mf_desk.specs.declared.fault.RunFault.{RunFault}
 use Rattle.mf_desk.specs.declared.fault.RunFault.TheVariants.{OutOfMemory, ReadFault, WriteFault}
 use Rattle.mf_desk.specs.declared.observer.Stopped.{Stopped}

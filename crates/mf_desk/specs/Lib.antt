@@ -6,9 +6,9 @@ pub mod Performances
 pub mod Performer
 pub mod Progress
 pub mod Streams
-pub use Rattle.mf_session.specs.Answers
-pub use Rattle.mf_session.specs.Endings
-pub use Rattle.mf_session.specs.Sessions
-pub use Rattle.mf_session.specs.States
-pub use Rattle.mf_session.specs.Transcript
-pub use Rattle.mf_watch.specs.Watchers
+pub use Rattle.mf_desk_session.specs.Answers
+pub use Rattle.mf_desk_session.specs.Endings
+pub use Rattle.mf_desk_session.specs.Sessions
+pub use Rattle.mf_desk_session.specs.States
+pub use Rattle.mf_desk_session.specs.Transcript
+pub use Rattle.mf_desk_watch.specs.Watchers

@@ -5,16 +5,16 @@ use Rattle.std.specs.Io.KnownBytes.{Appends, IsAtEnd}
 use Rattle.mf_gf.specs.Files.{IsLongFile, file_if_any}
 use Rattle.mf_desk.specs.declared.fault.RunFault.{RunFault}
 use Rattle.mf_desk.specs.declared.fault.RunFault.TheVariants.{OutOfMemory, NoPlace, FileTooLong, ReadFault, WriteFault, NoLook}
-use Rattle.mf_watch.specs.declared.glance.Glance.{Glance}
+use Rattle.mf_desk_watch.specs.declared.glance.Glance.{Glance}
 use Rattle.mf_desk.specs.declared.outcome.Outcome.{Outcome}
 use Rattle.mf_desk.specs.declared.settings.Settings.{Settings}
-use Rattle.mf_session.specs.Endings.{complete_list}
+use Rattle.mf_desk_session.specs.Endings.{complete_list}
 use Rattle.mf_desk.specs.Ended.{ended_lines}
 use Rattle.mf_desk.specs.Faults.{IsTextSoFar}
 use Rattle.mf_desk.specs.Streams.{HasRead, IsCutAfter, Passage, Streams}
-use Rattle.mf_session.specs.States.{Limits, least_bytes, limits_of}
-use Rattle.mf_session.specs.Transcript.{IsTextOf, IsTranscript}
-use Rattle.mf_watch.specs.Watchers.{HasSeen, glance_at}
+use Rattle.mf_desk_session.specs.States.{Limits, least_bytes, limits_of}
+use Rattle.mf_desk_session.specs.Transcript.{IsTextOf, IsTranscript}
+use Rattle.mf_desk_watch.specs.Watchers.{HasSeen, glance_at}
 
 -- the limits of a session, from the settings of a run
 abbrev pub run_limits : Settings → Limits

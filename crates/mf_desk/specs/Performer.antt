@@ -1,8 +1,8 @@
 -- What has been written when a line is performed.
 use Rattle.std.specs.Prelude.{ℕ, List, ◌≡◌, ◌+◌, ◌<◌, ◌^◌, length}
-use Rattle.mf_session.specs.Answers.{Answers}
-use Rattle.mf_session.specs.Sessions.{HasAnswered, StandsFor, limits}
-use Rattle.mf_session.specs.States.{State, answer_with}
+use Rattle.mf_desk_session.specs.Answers.{Answers}
+use Rattle.mf_desk_session.specs.Sessions.{HasAnswered, StandsFor, limits}
+use Rattle.mf_desk_session.specs.States.{State, answer_with}
 use Rattle.mf_desk.specs.declared.performer.Performer.{Performer}
 
 -- the most bytes that a read gives

@@ -1,13 +1,13 @@
 -- The state of a run whose bytes so far are known.
-use Rattle.std.specs.Prelude.{ℕ, List, [], Option, ◌≡◌, ◌++◌, length, take}
+use Rattle.std.specs.Prelude.{ℕ, ◌+◌, List, [], Option, ◌≡◌, ◌++◌, length, take}
 use Rattle.std.specs.Str.Lines.{lines}
 use Rattle.mf_desk.specs.Ended.{ended_lines, unended_line}
 use Rattle.mf_desk.specs.Faults.{Stops}
 use Rattle.mf_desk.specs.Streams.{Gets, HasRead, MakesPassage, Streams}
-use Rattle.mf_session.specs.Sessions.{HasPerformed, limits}
-use Rattle.mf_session.specs.States.{start}
-use Rattle.mf_session.specs.Transcript.{due_lines}
-use Rattle.mf_desk.specs.declared.line_buffer.TheConstants.{MAX_KEPT}
+use Rattle.mf_desk_session.specs.Sessions.{HasPerformed, limits}
+use Rattle.mf_desk_session.specs.States.{start}
+use Rattle.mf_desk_session.specs.Transcript.{due_lines}
+use Rattle.mf_text.specs.Limits.{longest_line}
 use Rattle.mf_desk.specs.declared.performer.Performer.{Performer}
 use Rattle.mf_desk.specs.declared.observer.Stopped.{Stopped}
 use Rattle.mf_desk.specs.declared.progress.Progress.{Progress}
@@ -17,11 +17,11 @@ pub record HasCounted (held : Option (List ℕ)) (ls : List (List ℕ)) (perform
   pub done : HasPerformed (due_lines (limits performer.session) start ls) performer.session held holds
   pub counted : performer.written ≡ length done.text
 
--- the run after these bytes of the script: the lines that a line feed ended have been performed, and of the unended line enough is
--- kept
+-- the run after these bytes of the script: the lines that a line feed ended have been performed, and of the unended line two bytes more
+-- than a line may have are kept
 pub record IsAfter (held : Option (List ℕ)) (read : List ℕ) (progress : Progress) (holds : Option (List ℕ)) : Type 0 where
   pub lines : HasCounted held (ended_lines read) progress.performer holds
-  pub line : progress.line ≡ take MAX_KEPT (unended_line read)
+  pub line : progress.line ≡ take (longest_line + 2) (unended_line read)
 
 -- nothing has been read or written, whatever its writer holds
 abbrev pub HasReadNothing : Progress → Type 0

@@ -13,6 +13,10 @@ pub record Streams : Type 0 where
 abbrev pub streams : Option (List ℕ) → Option (List ℕ) → Option (List ℕ) → Option (List ℕ) → Streams
 streams unread left held holds = record { unread = unread; left = left; held = held; holds = holds }
 
+-- the streams of a reader and a writer, from before a call to after it
+abbrev pub streams_of : {R W : Type 0} → (R → Option (List ℕ)) → R → R → (W → Option (List ℕ)) → W → W → Streams
+streams_of remaining reader after contents writer written = streams (remaining reader) (remaining after) (contents writer) (contents written)
+
 -- what has passed: the bytes that are left where they are known, those that were read, and those that were written
 pub record Passage : Type 0 where
   pub left : Option (List ℕ)

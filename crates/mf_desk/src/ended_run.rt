@@ -11,17 +11,17 @@ ghost use Rattle.mf_desk.specs.Performances.{Performs, TellsOfRun, run_limits, t
 ghost use Rattle.mf_desk.specs.Performer.{most_written_bytes};
 ghost use Rattle.mf_desk.specs.Faults.{BreaksOff};
 ghost use Rattle.mf_desk.specs.Streams.{Gets, Passes, Streams, streams};
-ghost use Rattle.mf_session.specs.States.{Limits};
-ghost use Rattle.mf_watch.specs.Watchers.{HasRoomFor, IsRecord, identity};
+ghost use Rattle.mf_desk_session.specs.States.{Limits};
+ghost use Rattle.mf_desk_watch.specs.Watchers.{HasRoomFor, IsRecord, identity};
 
 use crate::fault::RunFault;
 use crate::outcome::Outcome;
 use crate::output::flush;
 use crate::settings::Settings;
 use mf_base::write_counted;
+use mf_desk_watch::{Glance, Watcher};
 use mf_gf::{GfFault, GfFile};
 use mf_live::{Ended, NoLook, Notice};
-use mf_watch::{Glance, Watcher};
 use std::alloc::{AllocError, Global};
 use std::io::Write;
 use std::sync::Wait;
@@ -46,7 +46,7 @@ impl EndedRun {
         self.ended.notice()
     }
 
-    /// Lets each viewer look once more, in the order of their numbers, then writes their lines, and flushes the writer. Answers with
+    /// Lets each viewer look once more, in the order of their numbers, then writes their lines, and flushes the writer. Returns
     /// the records of all looks. Refused with `OutOfMemory` where an allocation fails, with `WriteFault` where the writer fails, and
     /// with `NoLook` where a look is refused now or was refused in a thread.
     pub fn show<W: Write>(
@@ -55,22 +55,34 @@ impl EndedRun {
         writer: &mut W,
         joined: Result<Vec<Watcher>, NoLook>,
     ) -> Result<Vec<Vec<Glance>>, RunFault>
-        requires identities { IfOk joined (λ watchers. All (λ w. identity w ≡ ended_identity self.old.ended) watchers.items) }
+        requires identities { IfOk joined (λ watchers.
+            All (λ w. identity w ≡ ended_identity self.old.ended) watchers.items) }
         requires rooms { IfOk joined (λ watchers. All (HasRoomFor 1) watchers.items) }
         requires few { IfOk joined (λ watchers. length watchers.items ≤ most_places) }
         requires short { self.old.written ≤ most_written_bytes }
         ensures same { IsSameEnd self.old self.new }
-        ensures records { IfOk result (λ seen. IfOk joined (λ watchers. glances_of seen.items ≡ map (whole_record self.old) watchers.items)) }
-        ensures seen { IfOk result (λ seen. (looks : ℕ) → IfOk joined (λ watchers. All (IsRecord looks) watchers.items)
+        ensures records { IfOk result (λ seen.
+            IfOk joined
+            (λ watchers. glances_of seen.items ≡ map (whole_record self.old) watchers.items)) }
+        ensures seen { IfOk result (λ seen.
+            (looks : ℕ) → IfOk joined (λ watchers. All (IsRecord looks) watchers.items)
             → All (HasSeenLast self.old looks) seen.items) }
-        ensures count { IfOk result (λ seen. (viewers : ℕ) → IfOk joined (λ watchers. length watchers.items ≡ viewers) → length seen.items ≡ viewers) }
-        ensures over { IfOk result (λ seen. (limits : Limits) (unread left held : Option (List ℕ))
+        ensures count { IfOk result (λ seen.
+            (viewers : ℕ) → IfOk joined (λ watchers. length watchers.items ≡ viewers)
+            → length seen.items ≡ viewers) }
+        ensures over { IfOk result (λ seen.
+            (limits : Limits) (unread left held : Option (List ℕ))
             → EndsWith limits 0 (streams unread left held (W.contents writer.old)) self.old
-            → EndsWith limits (length seen.items) (streams unread left held (W.contents writer.new)) self.new) }
-        ensures fault { IfErr result (λ fault. (settings : Settings) (viewers : ℕ) (unread left held : Option (List ℕ)) → IsAtEnd left
-            → IfOk joined (λ watchers. length watchers.items ≡ viewers) → IfErr joined (λ _. 0 < viewers)
-            → EndsWith (run_limits settings) 0 (streams unread left held (W.contents writer.old)) self.old
-            → Passes (streams unread left held (W.contents writer.new)) (TellsOfRun settings viewers fault)) }
+            → EndsWith limits (length seen.items) (streams unread left held (W.contents writer.new))
+            self.new) }
+        ensures fault { IfErr result (λ fault.
+            (settings : Settings) (viewers : ℕ) (unread left held : Option (List ℕ)) → IsAtEnd left
+            → IfOk joined (λ watchers. length watchers.items ≡ viewers)
+            → IfErr joined (λ _. 0 < viewers)
+            → EndsWith (run_limits settings) 0 (streams unread left held (W.contents writer.old))
+            self.old
+            → Passes (streams unread left held (W.contents writer.new))
+            (TellsOfRun settings viewers fault)) }
         ensures placed { result ≢ Err RunFault.NoPlace }
     {
         let watchers = match joined {
@@ -83,7 +95,7 @@ impl EndedRun {
         Ok(seen)
     }
 
-    /// Lets each viewer look once more. Answers with their records, and appends their lines.
+    /// Lets each viewer look once more. Returns their records, and appends their lines.
     fn look_last(
         &mut self,
         alloc: Global,
@@ -96,11 +108,17 @@ impl EndedRun {
         requires none { lines.old.items ≡ [] }
         ensures same { IsSameEnd self.old self.new }
         ensures written { self.new.written ≡ self.old.written }
-        ensures lines { OnOk result (lines.new.items ≡ viewer_lines (length watchers.items) (glance self.old)) }
+        ensures lines { OnOk result
+            (lines.new.items ≡ viewer_lines (length watchers.items) (glance self.old)) }
         ensures count { IfOk result (λ seen. length seen.items ≡ length watchers.items) }
-        ensures records { IfOk result (λ seen. glances_of seen.items ≡ map (whole_record self.old) watchers.items) }
-        ensures seen { IfOk result (λ seen. (looks : ℕ) → All (IsRecord looks) watchers.items → All (HasSeenLast self.old looks) seen.items) }
-        ensures fault { IfErr result (λ fault. (fault ≡ RunFault.OutOfMemory) ⊎ ((fault ≡ RunFault.NoLook) × (0 < length watchers.items))) }
+        ensures records { IfOk result (λ seen.
+            glances_of seen.items ≡ map (whole_record self.old) watchers.items) }
+        ensures seen { IfOk result (λ seen.
+            (looks : ℕ) → All (IsRecord looks) watchers.items
+            → All (HasSeenLast self.old looks) seen.items) }
+        ensures fault { IfErr result (λ fault.
+            (fault ≡ RunFault.OutOfMemory)
+            ⊎ ((fault ≡ RunFault.NoLook) × (0 < length watchers.items))) }
     {
         let mut seen = Vec::with_capacity(alloc, watchers.len())?;
         for watcher in watchers {
@@ -118,8 +136,11 @@ impl EndedRun {
         requires short { self.old.written ≤ most_written_bytes }
         ensures same { IsSameEnd self.old self.new }
         ensures written { OnOk result (self.new.written ≡ self.old.written + length lines.now) }
-        ensures all { OnOk result (Appends (W.contents writer.old) (W.contents writer.new) lines.now) }
-        ensures fault { IfErr result (λ fault. Gets (W.contents writer.old) (W.contents writer.new) (BreaksOff (λ text. text ≡ lines.now) self.old.written fault)) }
+        ensures all { OnOk result
+            (Appends (W.contents writer.old) (W.contents writer.new) lines.now) }
+        ensures fault { IfErr result (λ fault.
+            Gets (W.contents writer.old) (W.contents writer.new)
+            (BreaksOff (λ text. text ≡ lines.now) self.old.written fault)) }
     {
         match write_counted(writer, lines) {
             Ok(()) => self.written += lines.len() as u128,
@@ -136,9 +157,13 @@ impl EndedRun {
         settings: &Settings,
         seen: Vec<Vec<Glance>>,
     ) -> Result<Outcome, RunFault>
-        ensures performance { IfOk result (λ outcome. (looks : ℕ) (s : Streams) → All (HasSeenLast self looks) seen.items
-            → EndsWith (run_limits settings.now) (length seen.items) s self → Performs (task settings.now (length seen.items) looks) s outcome) }
-        ensures fault { IfErr result (λ fault. (s : Streams) → IsAtEnd s.left → EndsWith (run_limits settings.now) (length seen.items) s self
+        ensures performance { IfOk result (λ outcome.
+            (looks : ℕ) (s : Streams) → All (HasSeenLast self looks) seen.items
+            → EndsWith (run_limits settings.now) (length seen.items) s self
+            → Performs (task settings.now (length seen.items) looks) s outcome) }
+        ensures fault { IfErr result (λ fault.
+            (s : Streams) → IsAtEnd s.left
+            → EndsWith (run_limits settings.now) (length seen.items) s self
             → Passes s (TellsOfRun settings.now (length seen.items) fault)) }
         ensures placed { result ≢ Err RunFault.NoPlace }
     {

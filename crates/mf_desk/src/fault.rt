@@ -4,8 +4,8 @@ ghost use Rattle.mf_desk.specs.Names.{is_of_stream, run_fault_text};
 ghost use Rattle.mf_desk.specs.declared.fault.RunFault.TheVariants.{OutOfMemory as NoMemory, NoPlace as NoPlaceLeft, NoLook as NothingSeen};
 
 use mf_base::OutOfMemory;
+use mf_desk_watch::StartFault;
 use mf_live::SheetFault;
-use mf_watch::StartFault;
 use std::alloc::{AllocError, AllocFailed};
 use std::error::Error;
 use std::fmt;
@@ -96,7 +96,7 @@ impl<T: Drop> From<AllocFailed<T>> for RunFault {
 }
 
 impl From<StartFault> for RunFault {
-    ghost use Rattle.mf_watch.specs.declared.fault.StartFault.TheVariants as starts;
+    ghost use Rattle.mf_desk_watch.specs.declared.fault.StartFault.TheVariants as starts;
 
     ghost from_gives = { λ start fault. (start ≡ starts.OutOfMemory → fault ≡ NoMemory) × (start ≡ starts.NoPlace → fault ≡ NoPlaceLeft) };
 

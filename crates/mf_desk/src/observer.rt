@@ -5,7 +5,7 @@ ghost use Rattle.mf_desk.specs.declared.observer.Stopped.TheVariants.{Run as ByR
 ghost use Rattle.mf_text.specs.declared.command.Command.TheVariants as commands;
 
 use crate::fault::RunFault;
-use mf_session::Session;
+use mf_desk_session::Session;
 use mf_text::{Command, TextFault};
 use std::convert::Infallible;
 

@@ -1,6 +1,6 @@
 //! What a run answers.
+use mf_desk_watch::Glance;
 use mf_gf::GfBytes;
-use mf_watch::Glance;
 
 /// What a run of a script has made.
 #[derive(Drop)]

@@ -18,10 +18,12 @@ pub fn flush<W: Write>(writer: &mut W, written: u128) -> Result<(), RunFault>
     }
 }
 
-/// Writes a font file, and replaces what was there. Refused with `WriteFault`, whose number is 0 or less than that of its bytes, where
-/// it cannot be created, or not be written to its end, or not be stored.
+/// Writes a font file, and replaces what was there. Refused with `WriteFault` where it cannot be created, written to its end, or stored.
+/// The number of the fault is 0, or less than the number of bytes of the file.
 pub fn write_font<S: Files>(rt: &S, path: &str, file: &GfBytes) -> Result<(), RunFault>
-    ensures { IfErr result (λ fault. (count : ℕ) × (fault ≡ RunFault.WriteFault count) × ((count ≡ 0) ⊎ (count < length file.now))) }
+    ensures { IfErr result (λ fault.
+        (count : ℕ) × (fault ≡ RunFault.WriteFault count)
+        × ((count ≡ 0) ⊎ (count < length file.now))) }
 {
     match file.write_file(rt, path) {
         Ok(()) => Ok(()),

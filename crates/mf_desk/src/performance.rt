@@ -3,22 +3,22 @@ ghost use Rattle.std.specs.Io.KnownBytes.{IsAtEnd};
 ghost use Rattle.std.specs.Prelude.{◌≡◌, ◌⊎◌, ◌<◌, ◌≤◌, Err, IfErr, IfOk, OnOk};
 ghost use Rattle.mf_live.specs.Desks.{most_places};
 ghost use Rattle.mf_desk.specs.Performances.{Performs, TellsOfRun, task};
-ghost use Rattle.mf_desk.specs.Streams.{Passes, streams};
-ghost use Rattle.mf_session.specs.States.{least_bytes};
+ghost use Rattle.mf_desk.specs.Streams.{Passes, streams_of};
+ghost use Rattle.mf_desk_session.specs.States.{least_bytes};
 
 use crate::fault::RunFault;
 use crate::outcome::Outcome;
 use crate::progress::Progress;
 use crate::settings::Settings;
-use mf_watch::{Gate, Watching};
+use mf_desk_watch::{Gate, Watching};
 use std::alloc::Global;
 use std::io::{Read, Write};
 use std::sync::{Arc, Wait};
 use std::thread::Threads;
 
 /// Runs a script as [`run`](crate::run) does, while viewers look on. Each has a thread of its own, which is started before the
-/// first read, and in which the viewer looks `looks` times; the gate learns of each look while it is held. When the script has
-/// ended and its picture is closed, the threads are joined. Then each viewer looks once more, at the last picture, and a line
+/// first read, and in which the viewer looks `looks` times. While each look is held, `gate.hold` is called, which may wait. When the
+/// script has ended and its picture is closed, the threads are joined. Then each viewer looks once more, at the last picture, and a line
 /// `viewer k revision r totalweight t` is written for it, in order. The font file is finished after that. Requires at most 64
 /// viewers. A publish may wait for looks that are held, and the end of the run waits for all of them.
 ///
@@ -38,15 +38,18 @@ pub fn perform<S: Wait + Threads, R: Read, W: Write, G: Gate + 'static>(
     gate: &Arc<G>,
 ) -> Result<Outcome, RunFault>
     requires { viewers ≤ most_places }
-    ensures too_small { settings.now.max_bytes < least_bytes → (result ≡ Err RunFault.FileTooLong) ⊎ (result ≡ Err RunFault.OutOfMemory) }
-    ensures untouched { settings.now.max_bytes < least_bytes → (reader.new ≡ reader.old) × (writer.new ≡ writer.old) }
-    ensures no_place { result ≡ Err RunFault.NoPlace → (reader.new ≡ reader.old) × (writer.new ≡ writer.old) }
+    ensures too_small { settings.now.max_bytes < least_bytes
+        → (result ≡ Err RunFault.FileTooLong) ⊎ (result ≡ Err RunFault.OutOfMemory) }
+    ensures untouched { settings.now.max_bytes < least_bytes
+        → (reader.new ≡ reader.old) × (writer.new ≡ writer.old) }
+    ensures no_place { result ≡ Err RunFault.NoPlace
+        → (reader.new ≡ reader.old) × (writer.new ≡ writer.old) }
     ensures performance { IfOk result
         (Performs (task settings.now viewers looks)
-        (streams (R.remaining reader.old) (R.remaining reader.new) (W.contents writer.old) (W.contents writer.new))) }
+        (streams_of R.remaining reader.old reader.new W.contents writer.old writer.new)) }
     ensures end { OnOk result (IsAtEnd (R.remaining reader.new)) }
     ensures fault { IfErr result (λ fault.
-        Passes (streams (R.remaining reader.old) (R.remaining reader.new) (W.contents writer.old) (W.contents writer.new))
+        Passes (streams_of R.remaining reader.old reader.new W.contents writer.old writer.new)
         (TellsOfRun settings.now viewers fault)) }
 {
     let (progress, desk) = Progress::new(rt, alloc, settings, viewers)?;

@@ -3,12 +3,12 @@ ghost use Rattle.std.specs.Prelude.{◌≡◌, ◌+◌, ◌≤◌, IfErr, OnOk};
 ghost use Rattle.mf_desk.specs.Faults.{BreaksOff, StopsAfter};
 ghost use Rattle.mf_desk.specs.Performer.{IsLineText, IsWritten, longest_text, most_counted_bytes};
 ghost use Rattle.mf_desk.specs.Streams.{Gets};
-ghost use Rattle.mf_session.specs.Sessions.{identity, limits};
+ghost use Rattle.mf_desk_session.specs.Sessions.{identity, limits};
 
 use crate::fault::RunFault;
 use crate::observer::{Effect, Observer, PerformedLine, Stopped, effect_of};
 use mf_base::write_counted;
-use mf_session::Session;
+use mf_desk_session::Session;
 use mf_text::read_command;
 use std::alloc::Global;
 use std::io::Write;
@@ -35,12 +35,15 @@ impl Performer {
         observer: &mut O,
     ) -> Result<(), Stopped<O::Fault>>
         requires { self.old.written + longest_text ≤ most_counted_bytes }
-        ensures written { OnOk result (Gets (W.contents writer.old) (W.contents writer.new) (IsWritten self.old line.now self.new)) }
+        ensures written { OnOk result
+            (Gets (W.contents writer.old) (W.contents writer.new)
+            (IsWritten self.old line.now self.new)) }
         ensures at_most { OnOk result (self.new.written ≤ self.old.written + longest_text) }
         ensures limits { limits self.new.session ≡ limits self.old.session }
         ensures identity { identity self.new.session ≡ identity self.old.session }
         ensures fault { IfErr result (λ stopped.
-            Gets (W.contents writer.old) (W.contents writer.new) (StopsAfter (IsLineText self.old line.now) self.old.written stopped)) }
+            Gets (W.contents writer.old) (W.contents writer.new)
+            (StopsAfter (IsLineText self.old line.now) self.old.written stopped)) }
     {
         let effect = self.answer(rt, alloc, writer, line)?;
         self.lines = self.lines.wrapping_add(1);
@@ -51,7 +54,7 @@ impl Performer {
         }
     }
 
-    /// Performs a line and writes its text. Answers with what the line has done. An empty line prints nothing and changes nothing, so
+    /// Performs a line and writes its text. Returns what the line has done. An empty line prints nothing and changes nothing, so
     /// nothing is done for it.
     fn answer<S: Wait, W: Write>(
         &mut self,
@@ -61,12 +64,15 @@ impl Performer {
         line: &[u8],
     ) -> Result<Effect, RunFault>
         requires { self.old.written + longest_text ≤ most_counted_bytes }
-        ensures written { OnOk result (Gets (W.contents writer.old) (W.contents writer.new) (IsWritten self.old line.now self.new)) }
+        ensures written { OnOk result
+            (Gets (W.contents writer.old) (W.contents writer.new)
+            (IsWritten self.old line.now self.new)) }
         ensures at_most { OnOk result (self.new.written ≤ self.old.written + longest_text) }
         ensures limits { limits self.new.session ≡ limits self.old.session }
         ensures identity { identity self.new.session ≡ identity self.old.session }
         ensures fault { IfErr result (λ fault.
-            Gets (W.contents writer.old) (W.contents writer.new) (BreaksOff (IsLineText self.old line.now) self.old.written fault)) }
+            Gets (W.contents writer.old) (W.contents writer.new)
+            (BreaksOff (IsLineText self.old line.now) self.old.written fault)) }
     {
         if line.is_empty() {
             return Ok(Effect::Other);

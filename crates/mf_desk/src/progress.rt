@@ -9,9 +9,9 @@ ghost use Rattle.mf_desk.specs.Faults.{Breaks, Stops};
 ghost use Rattle.mf_desk.specs.Performances.{run_limits};
 ghost use Rattle.mf_desk.specs.Performer.{longest_text, most_counted_bytes, most_written_bytes};
 ghost use Rattle.mf_desk.specs.Progress.{GoesOn, HasCounted, HasReadNothing, IsAfter, ReadsThrough, StopsDuring};
-ghost use Rattle.mf_desk.specs.Streams.{Gets, Passes, MakesPassage, Streams, streams};
-ghost use Rattle.mf_session.specs.Sessions.{identity, limits};
-ghost use Rattle.mf_session.specs.States.{least_bytes};
+ghost use Rattle.mf_desk.specs.Streams.{Gets, Passes, MakesPassage, Streams, streams_of};
+ghost use Rattle.mf_desk_session.specs.Sessions.{identity, limits};
+ghost use Rattle.mf_desk_session.specs.States.{least_bytes};
 
 use crate::ended_run::EndedRun;
 use crate::fault::RunFault;
@@ -21,9 +21,9 @@ use crate::output::flush;
 use crate::performer::Performer;
 use crate::settings::Settings;
 use memchr::memchr;
+use mf_desk_session::Session;
 use mf_gf::GfFault;
 use mf_live::Desk;
-use mf_session::Session;
 use std::alloc::Global;
 use std::io::{ErrorKind, Read, Write};
 use std::sync::Wait;
@@ -52,11 +52,15 @@ impl Progress {
     ) -> Result<(Progress, Desk), RunFault>
         requires { viewers ≤ most_places }
         ensures start { IfOk result (λ made. HasReadNothing made.0) }
-        ensures limits { IfOk result (λ made. limits made.0.performer.session ≡ run_limits settings.now) }
-        ensures identity { IfOk result (λ made. desk_identity made.1 ≡ identity made.0.performer.session) }
+        ensures limits { IfOk result (λ made.
+            limits made.0.performer.session ≡ run_limits settings.now) }
+        ensures identity { IfOk result (λ made.
+            desk_identity made.1 ≡ identity made.0.performer.session) }
         ensures places { IfOk result (λ made. remaining_viewers made.1 ≤ viewers) }
-        ensures too_long { (settings.now.max_bytes < least_bytes) ↔ (result ≡ Err RunFault.FileTooLong) }
-        ensures fault { IfErr result (λ fault. (fault ≡ RunFault.FileTooLong) ⊎ (fault ≡ RunFault.OutOfMemory)) }
+        ensures too_long { (settings.now.max_bytes < least_bytes)
+            ↔ (result ≡ Err RunFault.FileTooLong) }
+        ensures fault { IfErr result (λ fault.
+            (fault ≡ RunFault.FileTooLong) ⊎ (fault ≡ RunFault.OutOfMemory)) }
     {
         match Session::new(rt, alloc, viewers, settings.max_ops, settings.max_bytes) {
             Ok((session, desk)) => {
@@ -83,12 +87,13 @@ impl Progress {
     ) -> Result<EndedRun, RunFault>
         requires { HasReadNothing self }
         ensures over { IfOk result (λ run. EndsWith (limits self.performer.session) 0
-            (streams (R.remaining reader.old) (R.remaining reader.new) (W.contents writer.old) (W.contents writer.new)) run) }
-        ensures identity { IfOk result (λ run. ended_identity run.ended ≡ identity self.performer.session) }
+            (streams_of R.remaining reader.old reader.new W.contents writer.old writer.new) run) }
+        ensures identity { IfOk result (λ run.
+            ended_identity run.ended ≡ identity self.performer.session) }
         ensures short { IfOk result (λ run. run.written ≤ most_written_bytes) }
         ensures end { OnOk result (IsAtEnd (R.remaining reader.new)) }
         ensures fault { IfErr result (λ fault.
-            Passes (streams (R.remaining reader.old) (R.remaining reader.new) (W.contents writer.old) (W.contents writer.new))
+            Passes (streams_of R.remaining reader.old reader.new W.contents writer.old writer.new)
             (Breaks (limits self.performer.session) fault)) }
     {
         let mut progress = self;
@@ -113,14 +118,16 @@ impl Progress {
     ) -> Result<(), Stopped<O::Fault>>
         requires { HasReadNothing self.old }
         ensures through { OnOk result
-            (ReadsThrough (streams (R.remaining reader.old) (R.remaining reader.new) (W.contents writer.old) (W.contents writer.new))
+            (ReadsThrough
+            (streams_of R.remaining reader.old reader.new W.contents writer.old writer.new)
             self.new.performer) }
         ensures short { OnOk result (self.new.performer.written ≤ most_written_bytes) }
         ensures limits { limits self.new.performer.session ≡ limits self.old.performer.session }
-        ensures identity { identity self.new.performer.session ≡ identity self.old.performer.session }
+        ensures identity { identity self.new.performer.session
+            ≡ identity self.old.performer.session }
         ensures end { OnOk result (IsAtEnd (R.remaining reader.new)) }
         ensures fault { IfErr result (λ stopped.
-            Passes (streams (R.remaining reader.old) (R.remaining reader.new) (W.contents writer.old) (W.contents writer.new))
+            Passes (streams_of R.remaining reader.old reader.new W.contents writer.old writer.new)
             (Stops (limits self.old.performer.session) stopped)) }
     {
         // Where this memory is missing, nothing was read or written.
@@ -154,12 +161,18 @@ impl Progress {
         bytes: &[u8],
         observer: &mut O,
     ) -> Result<(), Stopped<O::Fault>>
-        requires { self.old.performer.written + length bytes.now * longest_text ≤ most_counted_bytes }
-        ensures after { OnOk result (GoesOn self.old bytes.now (W.contents writer.old) (W.contents writer.new) self.new) }
-        ensures at_most { OnOk result (self.new.performer.written ≤ self.old.performer.written + length bytes.now * longest_text) }
+        requires { self.old.performer.written + length bytes.now * longest_text
+            ≤ most_counted_bytes }
+        ensures after { OnOk result
+            (GoesOn self.old bytes.now (W.contents writer.old) (W.contents writer.new) self.new) }
+        ensures at_most { OnOk result
+            (self.new.performer.written
+            ≤ self.old.performer.written + length bytes.now * longest_text) }
         ensures limits { limits self.new.performer.session ≡ limits self.old.performer.session }
-        ensures identity { identity self.new.performer.session ≡ identity self.old.performer.session }
-        ensures fault { IfErr result (StopsDuring self.old bytes.now (W.contents writer.old) (W.contents writer.new)) }
+        ensures identity { identity self.new.performer.session
+            ≡ identity self.old.performer.session }
+        ensures fault { IfErr result
+            (StopsDuring self.old bytes.now (W.contents writer.old) (W.contents writer.new)) }
     {
         let mut rest = bytes;
         'lines: while let Some(place) = memchr(b'\n', rest) {
@@ -181,11 +194,17 @@ impl Progress {
     ) -> Result<(), Stopped<O::Fault>>
         requires room { self.old.performer.written + longest_text ≤ most_counted_bytes }
         requires unbroken { All (λ byte. byte ≢ 10) bytes.now }
-        ensures after { OnOk result (GoesOn self.old (bytes.now ++ 10 ∷ []) (W.contents writer.old) (W.contents writer.new) self.new) }
-        ensures at_most { OnOk result (self.new.performer.written ≤ self.old.performer.written + longest_text) }
+        ensures after { OnOk result
+            (GoesOn self.old (bytes.now ++ 10 ∷ []) (W.contents writer.old) (W.contents writer.new)
+            self.new) }
+        ensures at_most { OnOk result
+            (self.new.performer.written ≤ self.old.performer.written + longest_text) }
         ensures limits { limits self.new.performer.session ≡ limits self.old.performer.session }
-        ensures identity { identity self.new.performer.session ≡ identity self.old.performer.session }
-        ensures fault { IfErr result (StopsDuring self.old (bytes.now ++ 10 ∷ []) (W.contents writer.old) (W.contents writer.new)) }
+        ensures identity { identity self.new.performer.session
+            ≡ identity self.old.performer.session }
+        ensures fault { IfErr result
+            (StopsDuring self.old (bytes.now ++ 10 ∷ []) (W.contents writer.old)
+            (W.contents writer.new)) }
     {
         if self.line.is_empty() {
             let line = before_line_feed(bytes);
@@ -204,14 +223,20 @@ impl Progress {
         observer: &mut O,
     ) -> Result<(), Stopped<O::Fault>>
         requires { self.old.performer.written + longest_text ≤ most_counted_bytes }
-        ensures done { OnOk result ((held : Option (List ℕ)) (read : List ℕ) → IsAfter held read self.old (W.contents writer.old)
-            → HasCounted held (lines read) self.new.performer (W.contents writer.new)) }
-        ensures at_most { OnOk result (self.new.performer.written ≤ self.old.performer.written + longest_text) }
-        ensures limits { limits self.new.performer.session ≡ limits self.old.performer.session }
-        ensures identity { identity self.new.performer.session ≡ identity self.old.performer.session }
-        ensures fault { IfErr result (λ stopped. (held left : Option (List ℕ)) (read : List ℕ) → IsAtEnd left
+        ensures done { OnOk result
+            ((held : Option (List ℕ)) (read : List ℕ)
             → IsAfter held read self.old (W.contents writer.old)
-            → Gets held (W.contents writer.new) (MakesPassage (Stops (limits self.old.performer.session) stopped) left read)) }
+            → HasCounted held (lines read) self.new.performer (W.contents writer.new)) }
+        ensures at_most { OnOk result
+            (self.new.performer.written ≤ self.old.performer.written + longest_text) }
+        ensures limits { limits self.new.performer.session ≡ limits self.old.performer.session }
+        ensures identity { identity self.new.performer.session
+            ≡ identity self.old.performer.session }
+        ensures fault { IfErr result (λ stopped.
+            (held left : Option (List ℕ)) (read : List ℕ) → IsAtEnd left
+            → IsAfter held read self.old (W.contents writer.old)
+            → Gets held (W.contents writer.new)
+            (MakesPassage (Stops (limits self.old.performer.session) stopped) left read)) }
     {
         if self.line.is_empty() {
             return Ok(());
@@ -230,11 +255,15 @@ impl Progress {
         observer: &mut O,
     ) -> Result<(), Stopped<O::Fault>>
         requires { self.old.performer.written + longest_text ≤ most_counted_bytes }
-        ensures after { OnOk result (GoesOn self.old (10 ∷ []) (W.contents writer.old) (W.contents writer.new) self.new) }
-        ensures at_most { OnOk result (self.new.performer.written ≤ self.old.performer.written + longest_text) }
+        ensures after { OnOk result
+            (GoesOn self.old (10 ∷ []) (W.contents writer.old) (W.contents writer.new) self.new) }
+        ensures at_most { OnOk result
+            (self.new.performer.written ≤ self.old.performer.written + longest_text) }
         ensures limits { limits self.new.performer.session ≡ limits self.old.performer.session }
-        ensures identity { identity self.new.performer.session ≡ identity self.old.performer.session }
-        ensures fault { IfErr result (StopsDuring self.old (10 ∷ []) (W.contents writer.old) (W.contents writer.new)) }
+        ensures identity { identity self.new.performer.session
+            ≡ identity self.old.performer.session }
+        ensures fault { IfErr result
+            (StopsDuring self.old (10 ∷ []) (W.contents writer.old) (W.contents writer.new)) }
     {
         self.performer
             .perform(rt, alloc, writer, self.line.at_line_feed(), observer)?;
@@ -245,7 +274,8 @@ impl Progress {
     /// Keeps bytes that have no line feed. Refused with `OutOfMemory`.
     fn keep(&mut self, bytes: &[u8]) -> Result<(), RunFault>
         requires { All (λ byte. byte ≢ 10) bytes.now }
-        ensures after { OnOk result ((holds : Option (List ℕ)) → GoesOn self.old bytes.now holds holds self.new) }
+        ensures after { OnOk result
+            ((holds : Option (List ℕ)) → GoesOn self.old bytes.now holds holds self.new) }
         ensures same { self.new.performer ≡ self.old.performer }
         ensures fault { IfErr result (λ fault. fault ≡ RunFault.OutOfMemory) }
     {
@@ -262,11 +292,14 @@ impl Progress {
 
     /// Closes the picture of a script that was read to its end. Refused with `OutOfMemory` where an allocation fails.
     pub fn finish<S: Wait>(self, rt: &S) -> Result<EndedRun, RunFault>
-        ensures over { IfOk result (λ run. (s : Streams) → ReadsThrough s self.performer → EndsWith (limits self.performer.session) 0 s run) }
+        ensures over { IfOk result (λ run.
+            (s : Streams) → ReadsThrough s self.performer
+            → EndsWith (limits self.performer.session) 0 s run) }
         ensures identity { IfOk result (λ run. (s : Streams) → ReadsThrough s self.performer
             → ended_identity run.ended ≡ identity self.performer.session) }
         ensures written { IfOk result (λ run. run.written ≡ self.performer.written) }
-        ensures fault { IfErr result (λ fault. (s : Streams) → IsAtEnd s.left → ReadsThrough s self.performer
+        ensures fault { IfErr result (λ fault.
+            (s : Streams) → IsAtEnd s.left → ReadsThrough s self.performer
             → Passes s (Breaks (limits self.performer.session) fault)) }
     {
         let Progress { performer, line: _ } = self;

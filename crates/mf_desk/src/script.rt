@@ -2,8 +2,8 @@
 ghost use Rattle.std.specs.Io.KnownBytes.{IsAtEnd};
 ghost use Rattle.std.specs.Prelude.{◌≡◌, ◌⊎◌, ◌<◌, ℕ, Err, IfErr, IfOk, OnOk};
 ghost use Rattle.mf_desk.specs.Performances.{Performs, TellsOfRun, task};
-ghost use Rattle.mf_desk.specs.Streams.{Passes, streams};
-ghost use Rattle.mf_session.specs.States.{least_bytes};
+ghost use Rattle.mf_desk.specs.Streams.{Passes, streams_of};
+ghost use Rattle.mf_desk_session.specs.States.{least_bytes};
 
 use crate::fault::RunFault;
 use crate::outcome::Outcome;
@@ -28,13 +28,15 @@ pub fn run<S: Wait, R: Read, W: Write>(
 ) -> Result<Outcome, RunFault>
     ensures transcript { IfOk result (λ outcome. (looks : ℕ)
         → Performs (task settings.now 0 looks)
-        (streams (R.remaining reader.old) (R.remaining reader.new) (W.contents writer.old) (W.contents writer.new)) outcome) }
+        (streams_of R.remaining reader.old reader.new W.contents writer.old writer.new) outcome) }
     ensures end { OnOk result (IsAtEnd (R.remaining reader.new)) }
     ensures fault { IfErr result (λ fault.
-        Passes (streams (R.remaining reader.old) (R.remaining reader.new) (W.contents writer.old) (W.contents writer.new))
+        Passes (streams_of R.remaining reader.old reader.new W.contents writer.old writer.new)
         (TellsOfRun settings.now 0 fault)) }
-    ensures too_small { settings.now.max_bytes < least_bytes → (result ≡ Err RunFault.FileTooLong) ⊎ (result ≡ Err RunFault.OutOfMemory) }
-    ensures untouched { settings.now.max_bytes < least_bytes → (reader.new ≡ reader.old) × (writer.new ≡ writer.old) }
+    ensures too_small { settings.now.max_bytes < least_bytes
+        → (result ≡ Err RunFault.FileTooLong) ⊎ (result ≡ Err RunFault.OutOfMemory) }
+    ensures untouched { settings.now.max_bytes < least_bytes
+        → (reader.new ≡ reader.old) × (writer.new ≡ writer.old) }
 {
     let (progress, _) = Progress::new(rt, alloc, settings, 0)?;
     let ended = progress.complete(rt, alloc, reader, writer)?;

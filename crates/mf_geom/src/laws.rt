@@ -19,7 +19,8 @@ ghost use Rattle.mf_geom.specs.Winding.{quarter_at, winding, contour};
 /// adds, summed so, is the weight times the signed area, and under the turning check also times the sign of the turning
 /// number.
 pub fn total_is_area()
-    ensures windings { (ps : List Point) → IsRectilinearCycle ps → sum_over_field (winding ps) ≡ area ps }
+    ensures windings { (ps : List Point) → IsRectilinearCycle ps
+        → sum_over_field (winding ps) ≡ area ps }
     ensures filled { (ps : List Point) (w : ℤ) → IsRectilinearCycle ps →
         sum_over_field (contour ps w On) ≡ (w *ℤ int_signum (turning ps)) *ℤ area ps }
     ensures unchecked { (ps : List Point) (w : ℤ) → IsRectilinearCycle ps →
@@ -58,9 +59,11 @@ pub fn area_is_whole()
 /// first place where it does. It is a cycle exactly where its form has no fault, and a cycle passes the turning check exactly
 /// where that finds no fault.
 pub fn one_fault()
-    ensures refused { (ps : List Point) (fault : CycleFault) → IsFault ps fault ↔ option_or (form_fault ps) (turning_fault ps) ≡ Some fault }
+    ensures refused { (ps : List Point) (fault : CycleFault)
+        → IsFault ps fault ↔ option_or (form_fault ps) (turning_fault ps) ≡ Some fault }
     ensures formed { (ps : List Point) → IsRectilinearCycle ps ↔ form_fault ps ≡ None }
-    ensures passes { (ps : List Point) → IsRectilinearCycle ps → PassesCheck ps ↔ turning_fault ps ≡ None }
+    ensures passes { (ps : List Point) → IsRectilinearCycle ps
+        → PassesCheck ps ↔ turning_fault ps ≡ None }
 {}
 
 /// The winding number of a rectilinear cycle counts its crossings of the ray that leads left from the pixel's centre,

@@ -87,12 +87,13 @@ pub fn first_reversal(points: &[Point]) -> Option<u32>
     first_place(points.len(), |vertex| is_reversal(points, vertex))
 }
 
-/// The first place below `count` for which `at_fault` answers true.
+/// The first place below `count` for which `at_fault` returns true.
 fn first_place<F: Fn(usize) -> bool>(count: usize, at_fault: F) -> Option<u32>
     requires few { count ≤ MAX_POINTS }
     requires callable { (k : ℕ) → k < count → F.pre at_fault k }
     ensures none { IfNone result ((k : ℕ) → k < count → F.post at_fault k false) }
-    ensures some { IfSome result (λ i. (i < count) × F.post at_fault i true × ((k : ℕ) → k < i → F.post at_fault k false)) }
+    ensures some { IfSome result (λ i.
+        (i < count) × F.post at_fault i true × ((k : ℕ) → k < i → F.post at_fault k false)) }
 {
     for place in 0..count {
         if at_fault(place) {

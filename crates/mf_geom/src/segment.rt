@@ -35,7 +35,8 @@ pub fn is_rectilinear(points: &[Point], segment: usize) -> bool
 pub fn is_reversal(points: &[Point], vertex: usize) -> bool
     requires range { StaysInRange points.now }
     requires within { vertex < length points.now }
-    ensures { IsTrue result ↔ IsReversal (segment_into points.now vertex) (segment_at points.now vertex) }
+    ensures { IsTrue result
+        ↔ IsReversal (segment_into points.now vertex) (segment_at points.now vertex) }
 {
     let arriving = step_along(points, previous_place(points, vertex));
     let leaving = step_along(points, vertex);

@@ -22,7 +22,7 @@ module _ (before opened placed named after : Spelling) (place written : ℕ) whe
       → (text : List ℕ) → Holds before text → Holds after (text ++ ending place (place + length text))
   holds_ending opens places names pads room counts text held =
       let padded = write_same _ _ _ _ (take-replicate (padding (place + written + gf.ending_size)) gf.most_padding gf.padding_byte (omega arith)) pads in
-      let all = write_both _ _ _ _ _ (write_both _ _ _ _ _ (write_both _ _ _ _ _ opens places) names) padded text held in
+      let all = write_both (write_both (write_both opens places) names) padded text held in
       ⊎_elim
       (λ long. holds_beyond after (text ++ ending place (place + written)) (text ++ ending place (place + length text))
       (omega (arith, length-append text (ending place (place + written)))) (omega (arith, length-append text (ending place (place + length text)))) all)

@@ -23,9 +23,9 @@ pub short_box : (b : CharacterBox) → is_short b ≡ true → IsShortBox b
 short_box b test = grind (arith, ints, and_parts)
 
 -- the value of `x && y`, where y is evaluated only if x is true
-pub and_then : (x y a b : Bool) → x ≡ true → x ≡ a → y ≡ b → y ≡ (a && b)
-and_then x y true b holds x_is y_is = y_is
-and_then x y false b holds x_is y_is = cc
+pub and_then : {x y a b : Bool} → x ≡ true → x ≡ a → y ≡ b → y ≡ (a && b)
+and_then {x} {y} {a = true} {b} holds x_is y_is = y_is
+and_then {x} {y} {a = false} {b} holds x_is y_is = cc
 
 pub and_else : (x a b : Bool) → x ≡ false → x ≡ a → x ≡ (a && b)
 and_else x true b fails x_is = cc

@@ -119,7 +119,7 @@ module _ (s t : Spelling) (before after : BlackRows) (from column : ℤ) where
         let stretch = paint (distance r.x column) ++ paint r.len in
         record {
           written = so_far.written ++ stretch;
-          writes = write_both _ _ _ _ _ so_far.writes puts;
+          writes = write_both so_far.writes puts;
           rest = append_assoc so_far.written stretch _ ∙ ap (λ more. so_far.written ++ more) (append_assoc (paint (distance r.x column)) (paint r.len) _)
               ∙ ap (λ rs. so_far.written ++ flat_map paint (lengths column rs)) (sym first) ∙ so_far.rest;
           room = room ∙ so_far.room;
@@ -169,9 +169,9 @@ few_after f y (suc m) blank top few =
     subst (λ z. IfSome (blank_after_rows f (y -ℤ pos 1) m (blank_after blank (f y))) (λ n. pos n ≤ℤ (last_in_field -ℤ z))) below
     (few_after f (y -ℤ pos 1) m (blank_after blank (f y)) (omega (arith, ints)) (few_below y blank (f y) top few))
 
-pub none_spelled : (s : Spelling) (left : ℤ) (black : ℤ → ℤ → ℤ) (rows : BlackRows) → black_in rows ≡ black → row_in rows ≡ last_in_field
+pub none_spelled : {s : Spelling} {left : ℤ} {black : ℤ → ℤ → ℤ} {rows : BlackRows} → black_in rows ≡ black → row_in rows ≡ last_in_field
     → runs_in rows ≡ row_runs black last_in_field least_coordinate → AreSpelled s s left black rows None
-none_spelled s left black rows is_black row runs =
+none_spelled {s} {left} {black} {rows} is_black row runs =
     let all : rows_left last_in_field ≡ field_size = omega (arith, ints) in
     record {
       written = [];
@@ -202,7 +202,7 @@ module _ (s t u : Spelling) (left : ℤ) (black : ℤ → ℤ → ℤ) (rows : B
         let few = few_after own y m blank so_far.row.greatest so_far.few in
         record {
           written = so_far.written ++ rows_text own y m blank;
-          writes = write_both _ _ _ _ _ so_far.writes writes;
+          writes = write_both so_far.writes writes;
           rest = append_assoc so_far.written _ _ ∙ ap (λ more. so_far.written ++ more) (sym (rw (all, below) at parts)) ∙ so_far.rest;
           room = room ∙ so_far.room;
           is_black = is_black;
@@ -212,4 +212,4 @@ module _ (s t u : Spelling) (left : ℤ) (black : ℤ → ℤ → ℤ) (rows : B
         }
 
     pub all_spelled : bottom ≡ least_coordinate → Writes s u (rows_text own last_in_field field_size None)
-    all_spelled low = write_same _ _ _ _ so_far.rest (write_both _ _ _ _ _ so_far.writes (rw low at writes))
+    all_spelled low = write_same _ _ _ _ so_far.rest (write_both so_far.writes (rw low at writes))

@@ -10,9 +10,9 @@ use Rattle.mf_gf.specs.Spellings.{Holds}
 abbrev pub Writes : Spelling → Spelling → List ℕ → Type 0
 Writes before after bytes = (text : List ℕ) → Holds before text → Holds after (text ++ bytes)
 
-pub write_both : (before middle after : Spelling) (first second : List ℕ) → Writes before middle first
+pub write_both : {before middle after : Spelling} {first second : List ℕ} → Writes before middle first
     → Writes middle after second → Writes before after (first ++ second)
-write_both before middle after first second writes_first writes_second text held =
+write_both {before} {middle} {after} {first} {second} writes_first writes_second text held =
     subst (Holds after) (append_assoc text first second) (writes_second (text ++ first) (writes_first text held))
 
 pub write_same : (before after : Spelling) (bytes same : List ℕ) → bytes ≡ same → Writes before after bytes → Writes before after same

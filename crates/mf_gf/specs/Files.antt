@@ -151,11 +151,11 @@ pub record IsLongFile (max_bytes : ℕ) (words : FontWords) (comment : List ℕ)
   pub some : characters ≡ [] → ⊥
   pub too_long : max_bytes < length (file_of words comment characters)
 
--- the length of a file is a multiple of 4, and it ends with the identification byte and four to seven padding bytes
+-- the length of a file is a multiple of 4, and it ends with the identification byte (131) and four to seven padding bytes (223)
 pub record IsPadded (file : List ℕ) : Type 0 where
   pub multiple : length file % 4 ≡ 0
   pub before : List ℕ
   pub count : ℕ
-  pub least : gf.least_padding ≤ count
-  pub most : count ≤ gf.most_padding
-  pub ends : file ≡ before ++ gf.id_byte ∷ replicate count gf.padding_byte
+  pub least : 4 ≤ count
+  pub most : count ≤ 7
+  pub ends : file ≡ before ++ 131 ∷ replicate count 223

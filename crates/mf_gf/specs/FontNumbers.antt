@@ -47,10 +47,6 @@ HasPost file Says = (post : Post) × (post_of file ≡ Some post) × Says post
 abbrev pub IsBeforePost : List ℕ → Character → Type 0
 IsBeforePost file c = (start : ℕ) × (p : ℤ) × (there : IsCharacterAt file start c p) × (post_place file ≡ Some (start + there.count))
 
--- the greatest number of four bytes without a sign
-abbrev pub greatest_unsigned : ℕ
-greatest_unsigned = 4294967295
-
 -- a box lies in another
 pub record IsWithin (outer inner : CharacterBox) : Type 0 where
   pub left : outer.min_m ≤ℤ inner.min_m

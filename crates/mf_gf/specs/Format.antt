@@ -60,12 +60,9 @@ post_post = 249
 abbrev pub id_byte : ℕ
 id_byte = 131
 
--- the byte at the end of a file, and how many of them there are at least and at most
+-- the byte at the end of a file, and how many of them there are at most
 abbrev pub padding_byte : ℕ
 padding_byte = 223
-
-abbrev pub least_padding : ℕ
-least_padding = 4
 
 abbrev pub most_padding : ℕ
 most_padding = 7

@@ -34,7 +34,8 @@ pub(crate) fn spell(
     requires bounds { bounds.now ≡ box_of_pixels (black picture.now) }
     requires lawful { IsPicture picture.now }
     requires spelling { IsSpelling out.old }
-    ensures held { (text : List ℕ) → Holds out.old text → Holds out.new (text ++ spell code (pointer earlier) (black picture.now)) }
+    ensures held { (text : List ℕ) → Holds out.old text
+        → Holds out.new (text ++ spell code (pointer earlier) (black picture.now)) }
     ensures room { out.new.room ≡ out.old.room }
 {
     put_begin(out, code, earlier, bounds);
@@ -45,7 +46,8 @@ pub(crate) fn spell(
 /// Begins a character: with boc1 where it is the first of its code and its box allows it, else with boc.
 fn put_begin(out: &mut Spelling, code: u8, earlier: Option<u32>, bounds: &CharacterBox)
     requires { IsBoxInRange bounds.now }
-    ensures held { (text : List ℕ) → Holds out.old text → Holds out.new (text ++ begin code (pointer earlier) bounds.now) }
+    ensures held { (text : List ℕ) → Holds out.old text
+        → Holds out.new (text ++ begin code (pointer earlier) bounds.now) }
     ensures room { out.new.room ≡ out.old.room }
 {
     if earlier.is_none() && is_short(bounds) {
@@ -59,7 +61,8 @@ fn put_begin(out: &mut Spelling, code: u8, earlier: Option<u32>, bounds: &Charac
 fn put_short_begin(out: &mut Spelling, code: u8, bounds: &CharacterBox)
     requires range { IsBoxInRange bounds.now }
     requires short { is_short bounds.now ≡ true }
-    ensures held { (text : List ℕ) → Holds out.old text → Holds out.new (text ++ short_begin code bounds.now) }
+    ensures held { (text : List ℕ) → Holds out.old text
+        → Holds out.new (text ++ short_begin code bounds.now) }
     ensures room { out.new.room ≡ out.old.room }
 {
     out.put(&[
@@ -74,7 +77,8 @@ fn put_short_begin(out: &mut Spelling, code: u8, bounds: &CharacterBox)
 
 /// Begins a character with boc, whose fields have four bytes each.
 fn put_long_begin(out: &mut Spelling, code: u8, earlier: Option<u32>, bounds: &CharacterBox)
-    ensures held { (text : List ℕ) → Holds out.old text → Holds out.new (text ++ long_begin code (pointer earlier) bounds.now) }
+    ensures held { (text : List ℕ) → Holds out.old text
+        → Holds out.new (text ++ long_begin code (pointer earlier) bounds.now) }
     ensures room { out.new.room ≡ out.old.room }
 {
     out.put_byte(BOC);
@@ -88,7 +92,8 @@ fn put_long_begin(out: &mut Spelling, code: u8, earlier: Option<u32>, bounds: &C
 
 /// The field p of boc: the place of the last earlier character with the same code, or -1 (gftype.web).
 fn put_pointer(out: &mut Spelling, earlier: Option<u32>)
-    ensures held { (text : List ℕ) → Holds out.old text → Holds out.new (text ++ word (pointer earlier)) }
+    ensures held { (text : List ℕ) → Holds out.old text
+        → Holds out.new (text ++ word (pointer earlier)) }
     ensures room { out.new.room ≡ out.old.room }
 {
     match earlier {

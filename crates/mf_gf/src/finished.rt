@@ -42,8 +42,10 @@ impl GfBytes {
     /// an error or takes no byte. Its number says how many bytes were written before: fewer than the file has. The clauses say
     /// which bytes these are where a contract can know the bytes of the writer.
     pub fn write_to<W: Write>(&self, writer: &mut W) -> Result<(), WriteFault>
-        ensures all { OnOk result (Appends (W.contents writer.old) (W.contents writer.new) self.now) }
-        ensures front { IfErr result (λ fault. Appends (W.contents writer.old) (W.contents writer.new) (take fault.0 self.now)) }
+        ensures all { OnOk result
+            (Appends (W.contents writer.old) (W.contents writer.new) self.now) }
+        ensures front { IfErr result (λ fault.
+            Appends (W.contents writer.old) (W.contents writer.new) (take fault.0 self.now)) }
         ensures within { IfErr result (λ fault. fault.0 < length self.now) }
     {
         write_counted(writer, &self.bytes).map_err(|count| WriteFault(count as u128))
@@ -64,7 +66,9 @@ impl GfBytes {
     /// Writes all bytes into a file, and waits until they are stored. A pipe or a device, which stores nothing, need not.
     fn store_in<F: OpenFile + Write>(&self, out: &mut F) -> Result<(), WriteFault>
         ensures all { OnOk result (Appends (F.contents out.old) (F.contents out.new) self.now) }
-        ensures front { OnErr result ((count : ℕ) × Appends (F.contents out.old) (F.contents out.new) (take count self.now)) }
+        ensures front { OnErr result
+            ((count : ℕ)
+            × Appends (F.contents out.old) (F.contents out.new) (take count self.now)) }
         ensures few { IfErr result (λ fault. (fault.0 ≡ 0) ⊎ (fault.0 < length self.now)) }
     {
         self.write_to(out)?;

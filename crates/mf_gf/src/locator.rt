@@ -27,7 +27,8 @@ pub(crate) struct Locator {
 impl Locator {
     /// Spells the locator: as char_loc0 where the escapement is a whole number of pixels in 0..=255, else as char_loc.
     pub(crate) fn spell(&self, out: &mut Spelling)
-        ensures held { (text : List ℕ) → Holds out.old text → Holds out.new (text ++ locator_text self.now) }
+        ensures held { (text : List ℕ) → Holds out.old text
+            → Holds out.new (text ++ locator_text self.now) }
         ensures room { out.new.room ≡ out.old.room }
     {
         match self.whole_pixels() {

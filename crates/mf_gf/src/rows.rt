@@ -22,7 +22,10 @@ pub(crate) fn spell_rows(out: &mut Spelling, picture: &Picture, left: i32)
     requires spelling { IsSpelling out.old }
     requires left { IsCoordinate left }
     ensures held { (text : List ℕ) → Holds out.old text
-        → Holds out.new (text ++ rows_text (row_lengths left (black_weights (weight_at picture.now))) last_in_field field_size None) }
+        → Holds out.new
+        (text
+        ++ rows_text (row_lengths left (black_weights (weight_at picture.now)))
+        last_in_field field_size None) }
     ensures room { out.new.room ≡ out.old.room }
 {
     let mut rows = picture.black_rows();
@@ -36,7 +39,7 @@ pub(crate) fn spell_rows(out: &mut Spelling, picture: &Picture, left: i32)
 }
 
 /// Spells the row that a reader has entered, and those below it that are known to be equal to it: their bytes are copied. `blank` is the
-/// number of blank rows between it and the black row above, `None` where there is none. Answers that number for the row below them.
+/// number of blank rows between it and the black row above, `None` where there is none. Returns that number for the row below them.
 fn spell_equal_rows(
     out: &mut Spelling,
     rows: &mut BlackRows<'_>,
@@ -46,12 +49,17 @@ fn spell_equal_rows(
     requires spelling { IsSpelling out.old }
     requires left { IsCoordinate left }
     requires row { IsColumnOrRow (row_in rows.old) }
-    requires runs { runs_in rows.old ≡ row_runs (black_in rows.old) (row_in rows.old) least_coordinate }
+    requires runs { runs_in rows.old
+        ≡ row_runs (black_in rows.old) (row_in rows.old) least_coordinate }
     requires blank { IfSome blank (λ n. pos n ≤ℤ (last_in_field -ℤ row_in rows.old)) }
-    ensures held { (text : List ℕ) → Holds out.old text → Holds out.new
-        (text ++ rows_text (row_lengths left (black_in rows.old)) (row_in rows.old) (rows_between (row_in rows.old) (row_in rows.new)) blank) }
+    ensures held { (text : List ℕ) → Holds out.old text
+        → Holds out.new
+        (text
+        ++ rows_text (row_lengths left (black_in rows.old)) (row_in rows.old)
+        (rows_between (row_in rows.old) (row_in rows.new)) blank) }
     ensures blank { result
-        ≡ blank_after_rows (row_lengths left (black_in rows.old)) (row_in rows.old) (rows_between (row_in rows.old) (row_in rows.new)) blank }
+        ≡ blank_after_rows (row_lengths left (black_in rows.old)) (row_in rows.old)
+        (rows_between (row_in rows.old) (row_in rows.new)) blank }
     ensures room { out.new.room ≡ out.old.room }
     ensures black { black_in rows.new ≡ black_in rows.old }
     ensures rows { AreSameRows (black_in rows.old) (row_in rows.new) (row_in rows.old) }
@@ -73,7 +81,8 @@ fn spell_equal_rows(
 /// Spells the other stretches of a row, from this column on, where the one before them ends.
 fn put_runs(out: &mut Spelling, rows: &mut BlackRows<'_>, column: i32)
     requires column { IsCoordinate column }
-    ensures held { (text : List ℕ) → Holds out.old text → Holds out.new (text ++ flat_map paint (lengths column (runs_in rows.old))) }
+    ensures held { (text : List ℕ) → Holds out.old text
+        → Holds out.new (text ++ flat_map paint (lengths column (runs_in rows.old))) }
     ensures over { runs_in rows.new ≡ [] }
     ensures row { row_in rows.new ≡ row_in rows.old }
     ensures black { black_in rows.new ≡ black_in rows.old }
@@ -91,7 +100,8 @@ fn put_runs(out: &mut Spelling, rows: &mut BlackRows<'_>, column: i32)
 fn put_stretch(out: &mut Spelling, white: u32, black: u32)
     requires white { white ≤ greatest_halfword }
     requires black { black ≤ greatest_halfword }
-    ensures held { (text : List ℕ) → Holds out.old text → Holds out.new (text ++ (paint white ++ paint black)) }
+    ensures held { (text : List ℕ) → Holds out.old text
+        → Holds out.new (text ++ (paint white ++ paint black)) }
     ensures room { out.new.room ≡ out.old.room }
 {
     if white <= MOST_PAINTED && black <= MOST_PAINTED {
@@ -107,7 +117,8 @@ fn put_stretch(out: &mut Spelling, white: u32, black: u32)
 fn start_row(out: &mut Spelling, blank: Option<u32>, offset: u32)
     requires blank { IfSome blank (λ n. n ≤ greatest_halfword) }
     requires offset { offset ≤ greatest_halfword }
-    ensures held { (text : List ℕ) → Holds out.old text → Holds out.new (text ++ row_start blank offset) }
+    ensures held { (text : List ℕ) → Holds out.old text
+        → Holds out.new (text ++ row_start blank offset) }
     ensures room { out.new.room ≡ out.old.room }
 {
     if let Some(blank) = blank {
@@ -125,7 +136,8 @@ fn repeat_row(out: &mut Spelling, offset: u32, start: usize, end: usize, count: 
     requires offset { offset ≤ greatest_halfword }
     requires part { IsPart out.old start end }
     ensures rows { (before part after : List ℕ) → HasPart out.old start end before part after
-        → HasPart out.new start end before part (after ++ repeated count (row_start (Some 0) offset ++ part)) }
+        → HasPart out.new start end before part
+        (after ++ repeated count (row_start (Some 0) offset ++ part)) }
     ensures room { out.new.room ≡ out.old.room }
 {
     for _ in 0..count {

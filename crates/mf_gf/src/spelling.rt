@@ -3,8 +3,9 @@ ghost use Rattle.std.specs.Prelude.{◌≤◌, ◌^◌};
 
 mod writing;
 
-/// Bytes that are being written, with room for at most `room` of them. Bytes for which there is no room, or for which an
-/// allocation fails, are only counted. So a file that is too long is refused as such, whether or not there is memory for it.
+/// A buffer of bytes that are being written, at most `room` of them: a limit, and not a capacity. Bytes for which there is no room, or
+/// for which an allocation fails, are only counted. So a file that is too long is refused as such, whether or not there is memory for
+/// it.
 #[derive(Drop)]
 pub(crate) struct Spelling {
     bytes: Vec<u8>,

@@ -28,7 +28,8 @@ impl Spelling {
     #[tactic(auto, unfolding(crate::specs::Spelling::paint))]
     pub(crate) fn paint(&mut self, length: u32)
         requires { length ≤ greatest_halfword }
-        ensures held { (text : List ℕ) → Holds self.old text → Holds self.new (text ++ paint length) }
+        ensures held { (text : List ℕ) → Holds self.old text
+            → Holds self.new (text ++ paint length) }
         ensures room { self.new.room ≡ self.old.room }
     {
         if length <= MOST_PAINTED {
@@ -55,7 +56,8 @@ impl Spelling {
     /// Appends a command that goes to the next row, to this offset from the left end of the box.
     pub(crate) fn new_row(&mut self, offset: u32)
         requires { offset ≤ most_new_row }
-        ensures held { (text : List ℕ) → Holds self.old text → Holds self.new (text ++ new_row offset) }
+        ensures held { (text : List ℕ) → Holds self.old text
+            → Holds self.new (text ++ new_row offset) }
         ensures room { self.new.room ≡ self.old.room }
     {
         self.put_byte(NEW_ROW_0 + offset as u8);
@@ -66,7 +68,8 @@ impl Spelling {
     fn put_parameter(&mut self, opcode: u8, parameter: u32)
         requires opcode { opcode < greatest_byte }
         requires parameter { parameter ≤ greatest_halfword }
-        ensures held { (text : List ℕ) → Holds self.old text → Holds self.new (text ++ with_parameter opcode parameter) }
+        ensures held { (text : List ℕ) → Holds self.old text
+            → Holds self.new (text ++ with_parameter opcode parameter) }
         ensures room { self.new.room ≡ self.old.room }
     {
         if parameter <= u8::MAX as u32 {

@@ -45,8 +45,8 @@ pub forks : (seat : ℕ) (v : View) → Forks EachSeatKnows seat v v v
 forks seat v x views kept at = grind (arith, EachSeatKnows-push, EachSeatKnows-set, ints)
 
 -- a seat takes over what another knows
-pub merges : (seat : ℕ) (v : View) (other : ℕ) (w : View) → Merges EachSeatKnows seat v other w w newcomer
-merges seat v other w x views kept at apart there = grind (arith, at_set, EachSeatKnows-set, knows_nothing)
+pub merges : {seat : ℕ} {v : View} {other : ℕ} {w : View} → Merges EachSeatKnows seat v other w w newcomer
+merges {seat} {v} {other} {w} x views kept at apart there = grind (arith, at_set, EachSeatKnows-set, knows_nothing)
 
 -- a look keeps the rule
 pub looks : (seat : ℕ) (v : View) → Turns EachSeatKnows seat v (λ x. x) (λ v x y w. IsLook v y w)

@@ -20,7 +20,7 @@ pub data Event : Type 0 where
   Discard : Bool → Event
   -- the viewer with this number looks
   Look : ℕ → Event
-  -- a notice of what is published is made; a notice of a look tells what one could have told right after that publish
+  -- a notice of what is published is made; one that a look makes tells what one made right after the publish that it shows would tell
   Tell : Event
   -- the viewer with the first number learns the notice with the second
   Learn : ℕ → ℕ → Event

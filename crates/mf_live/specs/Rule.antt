@@ -33,11 +33,11 @@ pub record IsKnowledgeOf (b : Book) (lines : List Line) (k : Knowledge) : Type 0
   pub book : k.seen.book ≡ b
   pub prefix : IsPrefix k.seen.log lines
 
--- once a seat knows which picture it is, what it knows of the history is a prefix of what the shown version knows
+-- once a seat knows which picture it looks at, what it knows of the history is a prefix of what the shown version knows
 abbrev pub Knows : Version → View → Type 0
 Knows x v = v.identified ≡ true → IsKnowledgeOf (book_of x) (lines_of x) v.knowledge
 
--- the rule: it says that of each seat
+-- the rule: this is so of each seat
 pub record EachSeatKnows (x : Version) (views : List View) : Type 0 where
   pub each_seat : (seat : ℕ) (v : View) → get_elem? views seat ≡ some v → Knows x v
 

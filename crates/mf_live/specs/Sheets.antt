@@ -41,7 +41,7 @@ pub record HasLearnt (before : Viewer) (whole : List Entry) (after : Viewer) : T
   pub learnt : learnt_list after ≡ longer (learnt_list before) whole
   pub keeps : (L : List Entry) → Extends after L → Extends before L × IsWholePrefix whole L
 
--- a viewer has looked at a list that the events that it knows have published, and has seen no longer list
+-- a viewer has looked at a list that the events that it knows have published, and that list is all that it has seen
 pub record HasLookedAt (whole : List Entry) (after : Viewer) : Type 0 where
   pub looked : looked_at_list after ≡ whole
   pub seen : seen_list after ≡ whole

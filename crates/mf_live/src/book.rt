@@ -5,9 +5,9 @@ use logbook::{Gain, Plain, Play, Rule, Word};
 use std::marker::{Brand, PhantomData};
 
 /// The rule of a book: its events could happen, in their order, and each pen that has written a line is used up.
-pub struct Law;
+pub struct BookRule;
 
-impl Rule<Line, u64> for Law {
+impl Rule<Line, u64> for BookRule {
     ghost use Rattle.std.specs.Prelude.{[]};
     ghost use base.Fml.{ftrue};
     ghost use Rattle.mf_live.specs.Books.{IsLawfulBook};
@@ -90,4 +90,4 @@ impl Play<Line, u64> for Confirm {
 }
 
 /// The first word of a book. It is 0 until the first pen is made, and 1 from then on.
-pub type Head = Word<Line, u64, Law>;
+pub type Head = Word<Line, u64, BookRule>;

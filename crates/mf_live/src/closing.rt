@@ -15,8 +15,8 @@ pub struct Closing {
     ghost closed: { is_closed (accepted_list holder) ≡ true },
 }
 
-/// A picture whose end mark is published: no call changes it any more. Viewers may look at it until `discard` ends it. It is not
-/// `Drop`, since ending it may mean waiting for looks.
+/// A picture whose end mark is published: no call changes it any more. Viewers may look at it until `discard` frees it. It is not
+/// `Drop`, since freeing it may mean waiting for looks.
 pub struct Ended {
     pub(crate) holder: Holder,
     ghost closed: { is_closed (published_list holder) ≡ true },
@@ -26,6 +26,6 @@ pub struct Ended {
 pub enum CloseFault {
     /// The writer, as it was.
     Kept(Writer),
-    /// The end mark is set, and nothing was published. No call answers this: `Writer::close` allocates before it sets the mark.
+    /// The end mark is set, and nothing was published. No function returns this: `Writer::close` allocates before it sets the mark.
     Halfway(Closing),
 }

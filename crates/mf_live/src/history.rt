@@ -5,7 +5,7 @@ ghost use Rattle.mf_live.specs.Events.{events_of};
 ghost use Rattle.mf_live.specs.Happening.{Happen-prop};
 ghost use Rattle.mf_live.specs.World.{Happen, new_world};
 
-use crate::book::{Head, Law};
+use crate::book::{BookRule, Head};
 use crate::event::Line;
 use logbook::{Pen, Seen};
 
@@ -14,7 +14,7 @@ mod writing;
 /// The first lines of a picture's book, as far as they are known.
 #[derive(Drop)]
 pub struct Knowledge {
-    pub(crate) seen: Seen<Line, u64, Law>,
+    pub(crate) seen: Seen<Line, u64, BookRule>,
 }
 
 /// All of a picture's book, and the one pen that can write its next line. None of it but the word has bytes.

@@ -1,7 +1,7 @@
 //! Laws of the live picture. Each is the contract of a function that does nothing, or only calls others, because the toolchain
 //! proves a statement only where a function's contract names it.
 ghost use Rattle.std.specs.Prelude.{◌≡◌, ◌⊎◌, ◌≤◌, true, false, List, IfErr, IfOk, MatchResult, OnOk};
-ghost use Rattle.mf_live.specs.Entries.{Entry, revision_at, is_closed, picture_at, IsUnrefused};
+ghost use Rattle.mf_live.specs.Entries.{Entry, revision_at, is_closed, IsUnrefused};
 ghost use Rattle.mf_live.specs.Events.{Event};
 ghost use Rattle.mf_live.specs.Prefixes.{IsWholePrefix, HasWholePublishes};
 ghost use Rattle.mf_live.specs.Sheets.{HasLearnt};
@@ -28,7 +28,8 @@ pub fn every_schedule(max_ops: u32)
 /// A whole prefix of what is published has, of each publish, nothing or all of it. So has what a look shows (`look_is_published`).
 #[tactic(auto, using(crate::proofs::WholePublishes::whole_publishes))]
 pub fn looks_show_whole_publishes()
-    ensures { (shown : List Entry) (events : List Event) → IsWholePrefix shown (published_list_of events)
+    ensures { (shown : List Entry) (events : List Event)
+        → IsWholePrefix shown (published_list_of events)
         → HasWholePublishes shown (published_list_of events) }
 {}
 
@@ -38,8 +39,10 @@ pub fn looks_show_whole_publishes()
 pub fn writer_is_lawful(writer: &Writer)
     ensures unrefused { IsUnrefused (writers.accepted_list writer.now) }
     ensures few { revision_at (writers.accepted_list writer.now) ≤ writers.max_ops writer.now }
-    ensures whole { IsWholePrefix (writers.published_list writer.now) (writers.accepted_list writer.now) }
-    ensures pending { IsPending (writers.published_list writer.now) (writers.accepted_list writer.now) }
+    ensures whole { IsWholePrefix (writers.published_list writer.now)
+        (writers.accepted_list writer.now) }
+    ensures pending { IsPending (writers.published_list writer.now)
+        (writers.accepted_list writer.now) }
     ensures running { is_closed (writers.accepted_list writer.now) ≡ false }
 {}
 
@@ -52,7 +55,8 @@ pub fn published_is_visible(writer: &Writer)
 /// accepted nothing more. So a viewer that learns of a notice learns of a published list.
 #[tactic(auto, using(crate::proofs::Looking::is_published))]
 pub fn notice_is_published(notice: &Notice)
-    ensures { viewers.IsPublished (viewers.notice_events notice.now) (viewers.told_list notice.now) }
+    ensures { viewers.IsPublished (viewers.notice_events notice.now)
+        (viewers.told_list notice.now) }
 {}
 
 /// Of two notices of one picture, the list of the one is a whole prefix of the list of the other, whatever became of its writer.
@@ -69,7 +73,8 @@ pub fn one_history(first: &Notice, second: &Notice)
 pub fn look_is_published(look: &Look, writer: &mut Writer)
     requires { viewers.look_identity look.now ≡ writers.identity writer.old }
     ensures same { writers.IsSameWriter writer.old writer.new }
-    ensures published { IsWholePrefix (viewers.shown_list look.now) (writers.published_list writer.new) }
+    ensures published { IsWholePrefix (viewers.shown_list look.now)
+        (writers.published_list writer.new) }
 {
     told_is_published(&look.notice(), writer);
 }
@@ -79,7 +84,8 @@ pub fn look_is_published(look: &Look, writer: &mut Writer)
 pub fn told_is_published(notice: &Notice, writer: &mut Writer)
     requires { viewers.notice_identity notice.now ≡ writers.identity writer.old }
     ensures same { writers.IsSameWriter writer.old writer.new }
-    ensures published { IsWholePrefix (viewers.told_list notice.now) (writers.published_list writer.new) }
+    ensures published { IsWholePrefix (viewers.told_list notice.now)
+        (writers.published_list writer.new) }
 {
     writer.holder.history.confirm(&notice.knowledge);
 }
@@ -89,7 +95,8 @@ pub fn told_is_published(notice: &Notice, writer: &mut Writer)
 pub fn told_is_published_halfway(notice: &Notice, closing: &mut Closing)
     requires { viewers.notice_identity notice.now ≡ writers.closing_identity closing.old }
     ensures same { writers.IsSameClosing closing.old closing.new }
-    ensures published { IsWholePrefix (viewers.told_list notice.now) (writers.closing_published_list closing.new) }
+    ensures published { IsWholePrefix (viewers.told_list notice.now)
+        (writers.closing_published_list closing.new) }
 {
     closing.holder.history.confirm(&notice.knowledge);
 }
@@ -99,7 +106,8 @@ pub fn told_is_published_halfway(notice: &Notice, closing: &mut Closing)
 pub fn told_is_published_at_the_end(notice: &Notice, ended: &mut Ended)
     requires { viewers.notice_identity notice.now ≡ writers.ended_identity ended.old }
     ensures same { writers.IsSameEnded ended.old ended.new }
-    ensures published { IsWholePrefix (viewers.told_list notice.now) (writers.ended_published_list ended.new) }
+    ensures published { IsWholePrefix (viewers.told_list notice.now)
+        (writers.ended_published_list ended.new) }
 {
     ended.holder.history.confirm(&notice.knowledge);
 }
@@ -110,12 +118,15 @@ pub fn told_is_published_at_the_end(notice: &Notice, ended: &mut Ended)
 pub fn last_look(viewer: Viewer, notice: Notice) -> Result<Look, (Viewer, NoLook)>
     requires identity { viewers.notice_identity notice ≡ viewers.identity viewer }
     requires closed { is_closed (viewers.told_list notice) ≡ true }
-    ensures identity { MatchResult result (λ look. viewers.look_identity look ≡ viewers.identity viewer)
+    ensures identity { MatchResult result
+        (λ look. viewers.look_identity look ≡ viewers.identity viewer)
         (λ refused. viewers.identity refused.0 ≡ viewers.identity viewer) }
     ensures shown { IfOk result (λ look. viewers.shown_list look ≡ viewers.told_list notice) }
-    ensures published { IfOk result (λ look. viewers.IsPublished (viewers.look_events look) (viewers.told_list notice)) }
+    ensures published { IfOk result (λ look.
+        viewers.IsPublished (viewers.look_events look) (viewers.told_list notice)) }
     ensures extends { OnOk result (viewers.Extends viewer (viewers.told_list notice)) }
-    ensures learnt { IfErr result (λ refused. HasLearnt viewer (viewers.told_list notice) refused.0) }
+    ensures learnt { IfErr result (λ refused.
+        HasLearnt viewer (viewers.told_list notice) refused.0) }
 {
     let mut viewer = viewer;
     viewer.learn(notice);

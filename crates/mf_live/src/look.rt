@@ -4,7 +4,7 @@ ghost use Rattle.left_right.specs.Sides.{view};
 ghost use Rattle.mf_live.specs.Rule.{knowledge_of};
 
 use crate::notice::Notice;
-use crate::rule::Lists;
+use crate::rule::SeatRule;
 use crate::version::Version;
 use crate::view::View;
 use left_right::reader::Reading;
@@ -21,7 +21,7 @@ pub struct NoLook;
 /// A look of a viewer. What it shows stays as it is until the look ends: the writer waits for a held look before it changes that
 /// copy. A look that is dropped ends, and its viewer with it.
 pub struct Look {
-    pub(crate) reading: Reading<Version, View, Lists>,
+    pub(crate) reading: Reading<Version, View, SeatRule>,
     pub(crate) known: Notice,
     ghost identified: { (view reading.place).identified ≡ true },
     ghost book: { (view reading.place).knowledge.seen.book ≡ known.knowledge.seen.book },

@@ -6,9 +6,9 @@ use crossbeam_utils::rule::{Outcome, Protocol};
 use left_right::writer::Writer;
 
 /// The rule: what any seat knows of the history is a prefix of what the shown version knows.
-pub struct Lists;
+pub struct SeatRule;
 
-impl Protocol<Version, View> for Lists {
+impl Protocol<Version, View> for SeatRule {
     ghost use Rattle.mf_live.specs.Rule.{EachSeatKnows, newcomer};
 
     ghost holds = { EachSeatKnows };
@@ -55,4 +55,4 @@ impl Join<View> for Takes {
 }
 
 /// The two copies of the picture.
-pub type Swap = Writer<Version, (), View, Lists>;
+pub type Swap = Writer<Version, (), View, SeatRule>;

@@ -1,4 +1,4 @@
-//! Sheets: looks that are kept.
+//! Sheets: snapshots of what looks have shown.
 ghost use Rattle.std.specs.Prelude.{◌≡◌};
 ghost use Rattle.mf_live.specs.Entries.{picture_at};
 ghost use Rattle.mf_live.specs.Viewers.{told_list};
@@ -11,7 +11,7 @@ use std::fmt;
 
 mod taking;
 
-/// What a look has shown. It stays as it is, whatever is published later. It may share rows with the live picture.
+/// A snapshot of what a look has shown. It stays as it is, whatever is published later. It may share rows with the live picture.
 #[derive(Drop)]
 pub struct Sheet {
     pub(crate) picture: Picture,

@@ -59,7 +59,7 @@ fn assert_shows(rt: &impl Abort, viewer: Viewer, revision: u32, total: i64) -> V
     }
 }
 
-/// A picture whose end mark is set but not published yet. No call answers one: `close` allocates before it sets the mark.
+/// A picture whose end mark is set but not published yet. No function returns one: `close` allocates before it sets the mark.
 #[tactic(auto, using(crate::proofs::Ending::end_closes))]
 fn half_close(writer: Writer) -> Closing
     ensures { writers.closing_identity result ≡ writers.identity writer }

@@ -5,7 +5,7 @@ ghost use Rattle.mf_live.specs.Books.{BeginsWith};
 
 use crate::history::Knowledge;
 use crate::notice::Notice;
-use crate::rule::Lists;
+use crate::rule::SeatRule;
 use crate::version::Version;
 use crate::view::View;
 use left_right::reader::Reader;
@@ -15,7 +15,7 @@ mod looking;
 /// A place from which to look at a picture. It may go to any thread, and has one look at a time.
 #[derive(Drop)]
 pub struct Viewer {
-    pub(crate) reader: Reader<Version, View, Lists>,
+    pub(crate) reader: Reader<Version, View, SeatRule>,
     /// The longest notice that it has learnt.
     pub(crate) known: Notice,
     /// What its last look that was answered knew.

@@ -12,7 +12,7 @@ use Rattle.mf_geom.specs.Sum.{sum_below}
 use Rattle.mf_geom.proofs.Areas.{sum_below-unit_step_in_field}
 use Rattle.mf_geom.proofs.Crossings.{unit_step-reached, unit_step-beyond}
 use Rattle.mf_geom.proofs.Sums.{sum_below-same, sum_below-zero, sum_below-next, sum_below-sub, sum_below-mul, sum_below-swap}
-use Rattle.mf_edges.specs.Axes.{opposite}
+use Rattle.mf_rows_edges.specs.Axes.{opposite}
 use Rattle.mf_rows.specs.Moves.{quarter_turn}
 use borrow.Author.Differences.{up, down, product_is}
 

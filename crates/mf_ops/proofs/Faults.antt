@@ -13,9 +13,9 @@ use Rattle.mf_geom.specs.declared.cycle.CycleFault.{CycleFault}
 use Rattle.mf_geom.specs.Faults.{turning_fault}
 use Rattle.mf_geom.specs.Winding.{filling_weight, contour}
 use Rattle.mf_geom.specs.Field.{IsInField}
-use Rattle.mf_strips.specs.declared.fault.AddFault.{AddFault}
-use Rattle.mf_strips.specs.declared.fault.AddFault.TheVariants as add
-use Rattle.mf_edges.specs.LawfulWeights.{IsLawfulWeight}
+use Rattle.mf_rows_strips.specs.declared.fault.AddFault.{AddFault}
+use Rattle.mf_rows_strips.specs.declared.fault.AddFault.TheVariants as add
+use Rattle.mf_rows_edges.specs.LawfulWeights.{IsLawfulWeight}
 use Rattle.mf_rows.specs.Dots.{Dot, AreDotsFrom, IsPicture, weight_at, place}
 use Rattle.mf_rows.specs.Sums.{HasWeights, IsUnlawfulSomewhere}
 use Rattle.mf_rows.specs.Weights.{picture_of}

@@ -12,11 +12,11 @@ use borrow.Author.Differences.{up, down}
 use Rattle.mf_rows.proofs.DotsLemmas.{dots_from-lawful}
 use Rattle.mf_rows.specs.Bounds.{IsLeastBox}
 use Rattle.mf_rows.specs.declared.bounds.Box4.{Box4}
-use Rattle.mf_edges.specs.declared.stretch.Stretch.{Stretch}
+use Rattle.mf_rows_edges.specs.declared.stretch.Stretch.{Stretch}
 use Rattle.mf_rows.specs.Dots.{Dot, IsPicture, start_of_field}
-use Rattle.mf_edges.specs.Axes.{PlaceStaysInside}
+use Rattle.mf_rows_edges.specs.Axes.{PlaceStaysInside}
 use Rattle.mf_rows.specs.Moves.{PixelsStayInside}
-use Rattle.mf_edges.proofs.Sources.{mul-le}
+use Rattle.mf_rows_edges.proofs.Sources.{mul-le}
 use Rattle.mf_ops.specs.Moves.{Factors, scale_by, shift_by, stays_inside}
 use Rattle.mf_ops.proofs.Faults.{IsForWeights}
 use Rattle.mf_ops.specs.declared.op.Op.TheVariants.{Shift, Scale}

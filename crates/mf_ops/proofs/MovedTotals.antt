@@ -6,15 +6,15 @@ use Rattle.std.specs.Int.RustNames.{unsigned_abs}
 use Rattle.std.specs.List.{All, list_any}
 use Rattle.std.proofs.lemmas.Int.{ints, unsigned_abs-mul}
 use Rattle.mf_geom.specs.Field.{IsColumnOrRow, sum_over_field}
-use Rattle.mf_edges.specs.declared.stretch.Stretch.{Stretch}
+use Rattle.mf_rows_edges.specs.declared.stretch.Stretch.{Stretch}
 use Rattle.mf_rows.specs.Dots.{Dot, IsPicture, start_of_field, total_of, weight_at}
-use Rattle.mf_edges.specs.Axes.{IsStretch, PlaceStaysInside, opposite, source_of, target_of}
+use Rattle.mf_rows_edges.specs.Axes.{IsStretch, PlaceStaysInside, opposite, source_of, target_of}
 use Rattle.mf_rows.specs.Moves.{quarter_turn}
 use Rattle.mf_rows.specs.Weights.{picture_of}
 use Rattle.mf_rows.proofs.DotsLemmas.{dots_from-lawful}
 use Rattle.mf_rows.proofs.FieldTotals.{total_of-picture_of, total_of-picture}
 use Rattle.mf_rows.proofs.StretchBounds.{holds_at_weight}
-use Rattle.mf_edges.proofs.Sources.{source_of-is, target_of-next}
+use Rattle.mf_rows_edges.proofs.Sources.{source_of-is, target_of-next}
 use Rattle.mf_ops.specs.Moves.{AreFactors, Factors, IsFactor, scale_by, scale_source, shift_by, turn_by}
 use Rattle.mf_ops.specs.Step.{op_fault, step_at, next_picture}
 use Rattle.mf_ops.specs.declared.op.Op.TheVariants as ops

@@ -16,7 +16,7 @@ use Rattle.mf_geom.specs.Winding.{contour, winding}
 use Rattle.mf_rows.specs.declared.sign.Sign.{Sign}
 use Rattle.mf_rows.specs.declared.sign.Sign.TheVariants.{Plus, Minus}
 use Rattle.mf_rows.specs.Dots.{Dot, IsDot, IsPicture, start_of_field, weight_at}
-use Rattle.mf_edges.specs.Axes.{opposite, PlaceStaysInside}
+use Rattle.mf_rows_edges.specs.Axes.{opposite, PlaceStaysInside}
 use Rattle.mf_rows.proofs.DotsLemmas.{IsAt, weight_at-dot, dots_from-lawful, weight_at-outside}
 use Rattle.mf_ops.specs.Cull.{IsLawfulCull, culled_weight}
 use Rattle.mf_rows.specs.Moves.{quarter_turn}

@@ -3,9 +3,9 @@ use Rattle.std.proofs.Common.{◌≡◌, ◌↔◌, ℕ, zero, suc, ℤ, pos, ne
 use Rattle.std.specs.Int.{int_max, int_min}
 use Rattle.std.proofs.lemmas.Bool.{cond-false}
 use Rattle.std.proofs.lemmas.Int.{ints, clamps, by_lt_z}
-use Rattle.mf_edges.specs.declared.stretch.Stretch.{Stretch}
-use Rattle.mf_edges.specs.Axes.{IsStretch, target_of, source_of, opposite}
-use Rattle.mf_edges.proofs.Sources.{mul-next, target_of-next, source_of-reached, source_of-from, source_of-is}
+use Rattle.mf_rows_edges.specs.declared.stretch.Stretch.{Stretch}
+use Rattle.mf_rows_edges.specs.Axes.{IsStretch, target_of, source_of, opposite}
+use Rattle.mf_rows_edges.proofs.Sources.{mul-next, target_of-next, source_of-reached, source_of-from, source_of-is}
 use Rattle.mf_ops.specs.Moves.{IsFactor, scale_by, scale_source}
 
 -- the part of the axis between p * f and (p + 1) * f contains column, or row, q

@@ -4,13 +4,13 @@ use Rattle.std.proofs.lemmas.Bool.{cond-false}
 use Rattle.std.proofs.lemmas.Int.{ints, by_lt_z}
 use Rattle.std.specs.List.{All}
 use Rattle.mf_geom.specs.Coordinates.{least_coordinate, greatest_coordinate, last_in_field}
-use Rattle.mf_edges.specs.declared.stretch.Stretch.{Stretch}
+use Rattle.mf_rows_edges.specs.declared.stretch.Stretch.{Stretch}
 use Rattle.mf_rows.specs.Dots.{Dot, IsPicture, weight_at}
-use Rattle.mf_edges.specs.Axes.{IsStretch, PlaceStaysInside, opposite, source_of}
+use Rattle.mf_rows_edges.specs.Axes.{IsStretch, PlaceStaysInside, opposite, source_of}
 use Rattle.mf_rows.specs.Moves.{PixelsStayInside, moved_columns, moved_rows}
 use Rattle.mf_rows.specs.Sums.{HasWeights}
 use Rattle.mf_rows.proofs.DotsLemmas.{dots_from-lawful, weight_at-dot}
-use Rattle.mf_edges.proofs.Sources.{source_of-reached, source_of-from}
+use Rattle.mf_rows_edges.proofs.Sources.{source_of-reached, source_of-from}
 use Rattle.mf_ops.specs.Moves.{Factors, IsFactor, on_side, reflection, scale_by, scale_source}
 use Rattle.mf_ops.specs.Step.{step_at}
 use Rattle.mf_ops.proofs.Places.{IsStretch-size, by_size, end-negative, opposite-opposite, start-negative}
@@ -29,12 +29,12 @@ pub record AreMade (f a : ℤ) (signed sized : Stretch) : Type 0 where
   pub signed_is : signed ≡ scale_by f
   pub sized_is : sized ≡ by_size f
 
-pub stretches_made : (z f n : ℤ) (signed sized : Stretch) → IsFactor z → z ≡ f → signed ≡ scale_by (to_z w32 (of_z w32 z))
+pub stretches_made : {z f n : ℤ} {signed sized : Stretch} → IsFactor z → z ≡ f → signed ≡ scale_by (to_z w32 (of_z w32 z))
     → n ≡ pos (nat_abs (to_z w32 (of_z w32 z))) → sized ≡ scale_by (to_z w32 (of_z w32 n)) → AreMade f (to_z w32 (of_z w32 z)) signed sized
-stretches_made z f n signed sized is_factor value signed_made size sized_made = grind (arith, ints, factor_passed, IsStretch-size, sym)
+stretches_made {z} {f} {n} {signed} {sized} is_factor value signed_made size sized_made = grind (arith, ints, factor_passed, IsStretch-size, sym)
 
-pub IsStretch-made : (f a : ℤ) (signed sized : Stretch) → AreMade f a signed sized → IsStretch sized
-IsStretch-made f a signed sized made = rw made.sized_is (IsStretch-size f made.factor)
+pub IsStretch-made : {f a : ℤ} {signed sized : Stretch} → AreMade f a signed sized → IsStretch sized
+IsStretch-made {f} {a} {signed} {sized} made = rw made.sized_is (IsStretch-size f made.factor)
 
 -- the source of a place of the field is in the field
 source_of-least : (f q : ℤ) → IsFactor f → least_coordinate ≤ℤ q → least_coordinate ≤ℤ source_of (by_size f) q

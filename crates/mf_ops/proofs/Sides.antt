@@ -12,13 +12,13 @@ use Rattle.mf_geom.specs.Crossing.{unit_step, crossing, crossing_at}
 use Rattle.mf_geom.specs.Lawful.{IsRectilinearCycle}
 use Rattle.mf_geom.specs.Path.{Segment, point_at, segment_at, across, up, IsInRange, IsRectilinear}
 use Rattle.mf_geom.specs.Sum.{sum_below}
-use Rattle.mf_geom.specs.Winding.{contour}
+use Rattle.mf_geom.specs.Winding.{contour, winding}
 use Rattle.mf_geom.proofs.Crossings.{unit_step-reached, crossings-beside}
 use Rattle.mf_geom.proofs.Products.{mul-add, mul-self}
-use Rattle.mf_strips.specs.declared.corner.Corner.{Corner}
+use Rattle.mf_rows_strips.specs.declared.corner.Corner.{Corner}
 use Rattle.mf_rows.specs.Corners.{IsCorner, IsCornerWeight, AreCorners, added_by, added_by_all, with_corners_at}
 use Rattle.mf_rows.specs.Dots.{Dot, weight_at}
-use Rattle.mf_ops.specs.Sides.{HasSide, AddWinding}
+use Rattle.mf_ops.specs.Sides.{HasSide}
 use Rattle.mf_ops.specs.Step.{step_at}
 use Rattle.mf_ops.specs.declared.op.Op.TheVariants.{Contour}
 
@@ -136,7 +136,7 @@ AreCorners-sides ps w ks cycle sides =
     }
 
 -- so a picture to which the sides of a contour were added has the weights of the step with the turning check off
-pub with_corners_at-contour : (ds : List Dot) (ps : List Point) (w : ℤ) (ks : List Corner) → AddWinding ps w ks → (x y : ℤ)
-    → with_corners_at ds ks x y ≡ step_at ds (Contour ps w Off) x y
+pub with_corners_at-contour : (ds : List Dot) (ps : List Point) (w : ℤ) (ks : List Corner)
+    → ((x y : ℤ) → added_by_all ks x y ≡ w *ℤ winding ps x y) → (x y : ℤ) → with_corners_at ds ks x y ≡ step_at ds (Contour ps w Off) x y
 unfolding with_corners_at contour
-with_corners_at-contour ds ps w ks adds x y = λ t. weight_at ds x y +ℤ adds.added x y t
+with_corners_at-contour ds ps w ks adds x y = λ t. weight_at ds x y +ℤ adds x y t

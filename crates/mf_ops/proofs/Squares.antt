@@ -2,7 +2,7 @@
 use Rattle.std.proofs.Common.{◌≡◌, ℤ, ◌-ℤ◌, arith}
 use Rattle.std.proofs.lemmas.Int.{ints, clamps}
 use Rattle.mf_geom.specs.declared.point.Point.{Point}
-use Rattle.mf_edges.specs.Axes.{opposite}
+use Rattle.mf_rows_edges.specs.Axes.{opposite}
 use Rattle.mf_ops.specs.Moves.{scale_source}
 use Rattle.mf_ops.specs.Squares.{Covers, MovesPixels}
 use Rattle.mf_ops.specs.declared.op.Op.{Op}

@@ -1,6 +1,6 @@
 -- How refusals of sums of pictures become refusals of operations.
-use Rattle.mf_strips.specs.declared.fault.AddFault.{AddFault}
-use Rattle.mf_strips.specs.declared.fault.AddFault.TheVariants as add
+use Rattle.mf_rows_strips.specs.declared.fault.AddFault.{AddFault}
+use Rattle.mf_rows_strips.specs.declared.fault.AddFault.TheVariants as add
 use Rattle.mf_ops.specs.declared.op.OpFault.{OpFault}
 use Rattle.mf_ops.specs.declared.op.OpFault.TheVariants as op
 

@@ -3,8 +3,8 @@
 -- square contains it (the law `squares_move_with_the_plane`).
 use Rattle.std.specs.Prelude.{◌≢◌, ◌&&◌, Bool, ℤ, pos, nat_abs, ◌+ℤ◌, int_lt, if◌then◌else◌}
 use Rattle.mf_geom.specs.Coordinates.{IsCoordinate, is_coordinate}
-use Rattle.mf_edges.specs.Axes.{opposite, source_of, target_of}
-use Rattle.mf_edges.specs.declared.stretch.Stretch.{Stretch}
+use Rattle.mf_rows_edges.specs.Axes.{opposite, source_of, target_of}
+use Rattle.mf_rows_edges.specs.declared.stretch.Stretch.{Stretch}
 use Rattle.mf_rows.specs.Moves.{moved_columns, moved_rows, quarter_turn}
 use Rattle.mf_ops.specs.declared.quarter.TurnCount.{TurnCount}
 use Rattle.mf_ops.specs.declared.quarter.TurnCount.TheVariants.{Once, Twice, Thrice}

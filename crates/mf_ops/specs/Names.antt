@@ -3,7 +3,7 @@ use Rattle.std.specs.Prelude.{ℕ, List, codes}
 use Rattle.mf_base.specs.Names.{memory_text}
 use Rattle.mf_geom.specs.Names.{fault_text}
 use Rattle.mf_rows.specs.Names.{add_fault_text}
-use Rattle.mf_strips.specs.declared.fault.AddFault.TheVariants as add
+use Rattle.mf_rows_strips.specs.declared.fault.AddFault.TheVariants as add
 use Rattle.mf_ops.specs.declared.op.OpFault.{OpFault}
 use Rattle.mf_ops.specs.declared.op.OpFault.TheVariants.{Cycle, OutOfField, WeightTooLarge, OutOfMemory}
 

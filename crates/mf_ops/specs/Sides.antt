@@ -3,8 +3,7 @@ use Rattle.std.specs.Prelude.{◌≡◌, ◌≢◌, Some, ◌≤◌, ℤ, ◌*�
 use Rattle.mf_geom.specs.declared.point.Point.{Point}
 use Rattle.mf_geom.specs.Crossing.{crossing}
 use Rattle.mf_geom.specs.Path.{Segment}
-use Rattle.mf_geom.specs.Winding.{winding}
-use Rattle.mf_strips.specs.declared.corner.Corner.{Corner}
+use Rattle.mf_rows_strips.specs.declared.corner.Corner.{Corner}
 use Rattle.mf_geom.specs.declared.check.Check.TheVariants.{Off}
 use Rattle.mf_geom.specs.declared.cycle.CycleFault.{CycleFault}
 use Rattle.mf_rows.specs.Corners.{IsCorner, added_by_all}
@@ -21,10 +20,6 @@ pub record HasSide (w : ℤ) (e : Segment) (old new : List Corner) : Type 0 wher
   pub few : length more ≤ 2
   pub corners : All IsCorner more
   pub added : (x y : ℤ) → added_by_all more x y ≡ w *ℤ crossing x y e
-
--- these corners add to each pixel the weight w times the winding number of the cycle
-pub record AddWinding (ps : List Point) (w : ℤ) (ks : List Corner) : Type 0 where
-  pub added : (x y : ℤ) → added_by_all ks x y ≡ w *ℤ winding ps x y
 
 -- the operation fills the cycle with the weight w, however the cycle turns
 pub record FillsWith (op : Op) (ps : List Point) (w : ℤ) : Type 0 where

@@ -2,8 +2,8 @@
 use Rattle.std.specs.Prelude.{◌≡◌, ◌≢◌, ◌&&◌, Bool, false, not, ℤ, pos, ◌+ℤ◌, ◌-ℤ◌, List, Option, None, Some, if◌then◌else◌}
 use Rattle.std.specs.List.{list_any}
 use Rattle.std.specs.Option.{option_map, option_or}
-use Rattle.mf_edges.specs.LawfulWeights.{least_weight, greatest_weight}
-use Rattle.mf_edges.specs.WeightMaps.{is_within}
+use Rattle.mf_rows_edges.specs.LawfulWeights.{least_weight, greatest_weight}
+use Rattle.mf_rows_edges.specs.WeightMaps.{is_within}
 use Rattle.mf_geom.specs.declared.check.Check.TheVariants.{On}
 use Rattle.mf_geom.specs.Faults.{turning_fault}
 use Rattle.mf_geom.specs.Field.{IsInField}

@@ -1,11 +1,11 @@
 //! Culls: each pixel gets a new weight that depends on whether its old one lies in a given range.
 ghost use Rattle.std.specs.Prelude.{◌≡◌, ◌↔◌, ℤ, IsOk, IfOk};
-ghost use Rattle.mf_edges.specs.WeightMaps.{IsWeightMap, mapped_weight};
+ghost use Rattle.mf_rows_edges.specs.WeightMaps.{IsWeightMap, mapped_weight};
 ghost use Rattle.mf_ops.specs.Cull.{IsLawfulCull, culled_weight};
 ghost use Rattle.mf_ops.specs.declared.cull.CullRule.TheVariants.{Keeping, Dropping};
 
 use crate::weight::Weight;
-use mf_edges::WeightMap;
+use mf_rows_edges::WeightMap;
 use std::error::Error;
 use std::fmt;
 use std::marker::Model;
@@ -87,7 +87,7 @@ impl Cull {
     }
 
     /// The map from old to new weights that this cull applies to each pixel.
-    #[tactic(auto, unfolding(mf_edges::specs::WeightMaps::mapped_weight))]
+    #[tactic(auto, unfolding(mf_rows_edges::specs::WeightMaps::mapped_weight))]
     pub(crate) fn weight_map(&self) -> WeightMap
         ensures lawful { IsWeightMap result }
         ensures value { (v : ℤ) → mapped_weight result v ≡ culled_weight self.now v }

@@ -1,13 +1,14 @@
 //! Filling a contour: the sides of its cycle become corners, and these are added to the picture.
-ghost use Rattle.std.specs.Prelude.{◌≡◌, None, Some, IfOk, IfErr, OnOk, OnErr, ◌*ℤ◌, List};
+ghost use Rattle.std.specs.Prelude.{◌≡◌, None, Some, IfOk, IfErr, OnOk, OnErr, ℤ, ◌*ℤ◌, List};
 ghost use Rattle.std.specs.Int.{int_signum};
 ghost use Rattle.mf_geom.specs.Path.{IsInRange, IsRectilinear};
 ghost use Rattle.mf_geom.specs.Turning.{turning};
+ghost use Rattle.mf_geom.specs.Winding.{winding};
 ghost use Rattle.mf_geom.specs.Faults.{turning_fault};
 ghost use Rattle.mf_geom.specs.declared.check.Check.TheVariants.{Off};
-ghost use Rattle.mf_rows.specs.Corners.{IsCornerWeight, AreCorners};
+ghost use Rattle.mf_rows.specs.Corners.{IsCornerWeight, AreCorners, added_by_all};
 ghost use Rattle.mf_rows.specs.Dots.{Dot};
-ghost use Rattle.mf_ops.specs.Sides.{HasSide, AddWinding, FillsWith};
+ghost use Rattle.mf_ops.specs.Sides.{HasSide, FillsWith};
 ghost use Rattle.mf_ops.specs.Step.{IsRefusal, next_picture, op_fault};
 ghost use Rattle.mf_ops.specs.declared.op.Op.TheVariants.{Contour};
 
@@ -24,7 +25,8 @@ use std::alloc::Global;
 pub fn filling_weight(cycle: &Cycle, weight: Weight, check: Check) -> Result<i32, OpFault>
     ensures fills { IfOk result (FillsWith (Contour cycle.now weight check) cycle.now) }
     ensures lawful { IfOk result IsCornerWeight }
-    ensures refused { IfErr result (λ fault. (ds : List Dot) → op_fault ds (Contour cycle.now weight check) ≡ Some fault) }
+    ensures refused { IfErr result (λ fault.
+        (ds : List Dot) → op_fault ds (Contour cycle.now weight check) ≡ Some fault) }
 {
     match check {
         Check::Off => Ok(weight.get()),
@@ -61,7 +63,8 @@ fn with_sign_of(turning: i32, weight: Weight) -> i32
 /// A refusal leaves the picture as it was.
 pub fn fill(alloc: Global, picture: &mut Picture, cycle: &Cycle, weight: i32) -> Result<(), OpFault>
     requires { IsCornerWeight weight }
-    ensures step { OnOk result (picture.new ≡ next_picture picture.old (Contour cycle.now weight Off)) }
+    ensures step { OnOk result
+        (picture.new ≡ next_picture picture.old (Contour cycle.now weight Off)) }
     ensures unchanged { OnErr result (picture.new ≡ picture.old) }
     ensures accepted { OnOk result (op_fault picture.old (Contour cycle.now weight Off) ≡ None) }
     ensures refused { IfErr result (IsRefusal picture.old (Contour cycle.now weight Off)) }
@@ -76,7 +79,8 @@ pub fn fill(alloc: Global, picture: &mut Picture, cycle: &Cycle, weight: i32) ->
 fn corners_of(alloc: Global, cycle: &Cycle, weight: i32) -> Result<Vec<Corner>, OutOfMemory>
     requires { IsCornerWeight weight }
     ensures lawful { IfOk result (λ corners. AreCorners corners.items) }
-    ensures added { IfOk result (λ corners. AddWinding cycle.now weight corners.items) }
+    ensures added { IfOk result (λ corners.
+        (x y : ℤ) → added_by_all corners.items x y ≡ weight *ℤ winding cycle.now x y) }
 {
     let count = cycle.points().len();
     let mut rising = Vec::with_capacity(alloc, count)?;
@@ -105,7 +109,8 @@ fn push_side(
     requires from { IsInRange from }
     requires to { IsInRange to }
     requires weight { IsCornerWeight weight }
-    ensures { OnOk result (HasSide weight (record { from = from; to = to }) corners.old.items corners.new.items) }
+    ensures { OnOk result
+        (HasSide weight (record { from = from; to = to }) corners.old.items corners.new.items) }
 {
     if from.x == to.x {
         corners.push(Corner {

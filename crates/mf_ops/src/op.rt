@@ -138,11 +138,15 @@ pub fn after(alloc: Global, picture: &Picture, op: &Op) -> Result<Picture, OpFau
     ensures step { IfOk result (λ new. new ≡ next_picture picture.now op.now) }
     ensures accepted { OnOk result (op_fault picture.now op.now ≡ None) }
     ensures refused { IfErr result (IsRefusal picture.now op.now) }
-    ensures turning { (fault : CycleFault) → op_fault picture.now op.now ≡ Some (OpFault.Cycle fault) → result ≡ Err (OpFault.Cycle fault) }
-    ensures out_of_field { op_fault picture.now op.now ≡ Some OpFault.OutOfField → result ≡ Err OpFault.OutOfField }
+    ensures turning { (fault : CycleFault)
+        → op_fault picture.now op.now ≡ Some (OpFault.Cycle fault)
+        → result ≡ Err (OpFault.Cycle fault) }
+    ensures out_of_field { op_fault picture.now op.now ≡ Some OpFault.OutOfField
+        → result ≡ Err OpFault.OutOfField }
     ensures clears { op.now ≡ ops.Clear → IsOk result }
     ensures blank { (sign : Sign) → picture.now ≡ [] → op.now ≡ ops.Also [] sign → IsOk result }
-    ensures culls_blank { (cull : CullRule) → picture.now ≡ [] → op.now ≡ ops.Cull cull → IsOk result }
+    ensures culls_blank { (cull : CullRule) → picture.now ≡ [] → op.now ≡ ops.Cull cull
+        → IsOk result }
 {
     match op {
         // The turning check comes before the copy, and so this is not `apply` on a copy: a failed copy must not hide its refusal.
@@ -173,11 +177,15 @@ pub fn apply(alloc: Global, picture: &mut Picture, op: &Op) -> Result<(), OpFaul
     ensures unchanged { OnErr result (picture.new ≡ picture.old) }
     ensures accepted { OnOk result (op_fault picture.old op.now ≡ None) }
     ensures refused { IfErr result (IsRefusal picture.old op.now) }
-    ensures turning { (fault : CycleFault) → op_fault picture.old op.now ≡ Some (OpFault.Cycle fault) → result ≡ Err (OpFault.Cycle fault) }
-    ensures out_of_field { op_fault picture.old op.now ≡ Some OpFault.OutOfField → result ≡ Err OpFault.OutOfField }
+    ensures turning { (fault : CycleFault)
+        → op_fault picture.old op.now ≡ Some (OpFault.Cycle fault)
+        → result ≡ Err (OpFault.Cycle fault) }
+    ensures out_of_field { op_fault picture.old op.now ≡ Some OpFault.OutOfField
+        → result ≡ Err OpFault.OutOfField }
     ensures clears { op.now ≡ ops.Clear → IsOk result }
     ensures blank { (sign : Sign) → op.now ≡ ops.Also [] sign → IsOk result }
-    ensures culls_blank { (cull : CullRule) → picture.old ≡ [] → op.now ≡ ops.Cull cull → IsOk result }
+    ensures culls_blank { (cull : CullRule) → picture.old ≡ [] → op.now ≡ ops.Cull cull
+        → IsOk result }
 {
     match op {
         Op::Contour(cycle, weight, check) => {

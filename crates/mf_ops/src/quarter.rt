@@ -30,7 +30,7 @@ pub struct Quarter {
     turns: TurnCount,
 }
 
-/// How often a picture is turned by 90 degrees.
+/// How many times a picture is turned by 90 degrees.
 #[derive(Clone, Copy, Debug, PartialEq, Eq)]
 pub enum TurnCount {
     /// By 90 degrees.
@@ -54,7 +54,8 @@ impl Model for Quarter {
 impl Quarter {
     /// The turn by an angle of 90, 180 or 270 degrees. Any other angle is refused with `BadTurn`.
     pub fn new(angle: i32) -> Result<Quarter, BadTurn>
-        ensures accepted { IsOk result ↔ ((angle ≡ pos 90) ⊎ (angle ≡ pos 180) ⊎ (angle ≡ pos 270)) }
+        ensures accepted { IsOk result
+            ↔ ((angle ≡ pos 90) ⊎ (angle ≡ pos 180) ⊎ (angle ≡ pos 270)) }
         ensures value { IfOk result (λ quarter. degrees quarter ≡ angle) }
     {
         let turns = match angle {
@@ -66,7 +67,7 @@ impl Quarter {
         Ok(Quarter { turns })
     }
 
-    /// How often a picture is turned by 90 degrees.
+    /// How many times a picture is turned by 90 degrees.
     pub(crate) fn turns(&self) -> TurnCount
         ensures { result ≡ self.now }
     {

@@ -3,7 +3,7 @@ ghost use Rattle.std.specs.Prelude.{◌≡◌, ◌↔◌, None, Some, Err, IfOk,
 ghost use Rattle.mf_geom.specs.Coordinates.{IsCoordinate};
 ghost use Rattle.mf_geom.specs.Field.{IsColumnOrRow};
 ghost use Rattle.mf_rows.specs.Dots.{IsPicture, weight_at};
-ghost use Rattle.mf_edges.specs.Axes.{PlaceStaysInside, target_of};
+ghost use Rattle.mf_rows_edges.specs.Axes.{PlaceStaysInside, target_of};
 ghost use Rattle.mf_rows.specs.Moves.{PixelsStayInside};
 ghost use Rattle.mf_rows.specs.Sums.{HasWeights};
 ghost use Rattle.mf_ops.specs.Moves.{reflection, turn_by};
@@ -14,9 +14,9 @@ use crate::op::OpFault;
 use crate::quarter::{Quarter, TurnCount};
 use crate::scale::Scale;
 use mf_base::OutOfMemory;
-use mf_edges::Stretch;
 use mf_geom::MAX_COORDINATE;
 use mf_rows::Picture;
+use mf_rows_edges::Stretch;
 use std::alloc::Global;
 
 /// The greatest absolute value of a coordinate, as an `i64`: moved points are computed in 64 bits, so that nothing overflows.
@@ -27,7 +27,8 @@ pub fn shift(alloc: Global, picture: &Picture, right: i32, up: i32) -> Result<Pi
     ensures step { IfOk result (λ new. new ≡ next_picture picture.now (ops.Shift right up)) }
     ensures accepted { OnOk result (op_fault picture.now (ops.Shift right up) ≡ None) }
     ensures refused { IfErr result (IsRefusal picture.now (ops.Shift right up)) }
-    ensures out_of_field { op_fault picture.now (ops.Shift right up) ≡ Some OpFault.OutOfField → result ≡ Err OpFault.OutOfField }
+    ensures out_of_field { op_fault picture.now (ops.Shift right up) ≡ Some OpFault.OutOfField
+        → result ≡ Err OpFault.OutOfField }
 {
     let columns = stretch(1, right);
     let rows = stretch(1, up);
@@ -42,7 +43,8 @@ pub fn scale(alloc: Global, picture: &Picture, scale: Scale) -> Result<Picture, 
     ensures step { IfOk result (λ new. new ≡ next_picture picture.now (ops.Scale scale)) }
     ensures accepted { OnOk result (op_fault picture.now (ops.Scale scale) ≡ None) }
     ensures refused { IfErr result (IsRefusal picture.now (ops.Scale scale)) }
-    ensures out_of_field { op_fault picture.now (ops.Scale scale) ≡ Some OpFault.OutOfField → result ≡ Err OpFault.OutOfField }
+    ensures out_of_field { op_fault picture.now (ops.Scale scale) ≡ Some OpFault.OutOfField
+        → result ≡ Err OpFault.OutOfField }
 {
     let (x, y) = (scale.x(), scale.y());
     if !pixels_stay_inside(picture, &stretch(x, 0), &stretch(y, 0)) {

@@ -5,7 +5,7 @@ use Rattle.std.specs.List.{flat_map}
 use Rattle.std.proofs.lemmas.Bool.{cond-true, cond-false}
 use Rattle.std.proofs.lemmas.Int.{ints, by_lt_z}
 use Rattle.mf_geom.specs.Coordinates.{least_coordinate, greatest_coordinate}
-use Rattle.mf_strips.specs.RowEdges.{AreSameRows, weights_of}
+use Rattle.mf_rows_strips.specs.RowEdges.{AreSameRows, weights_of}
 use Rattle.mf_rows.specs.declared.walk.Walk.{Walk}
 use Rattle.mf_rows.specs.BlackRows.{black_weights, row_runs}
 use Rattle.mf_rows.specs.Dots.{weight_at}

@@ -2,8 +2,8 @@
 use Rattle.std.proofs.Common.{◌≡◌, Bool, true, false, not, Option, Some, None, is_some, MatchOption, List, [], ◌∷◌, length, refl, sym, ap, ◌∙◌, arith}
 use Rattle.std.proofs.lemmas.Bool.{false≢true}
 use Rattle.std.proofs.lemmas.Int.{ints}
-use Rattle.mf_edges.specs.declared.weight_map.WeightMap.{WeightMap}
-use Rattle.mf_edges.specs.WeightMaps.{IsWeightMap}
+use Rattle.mf_rows_edges.specs.declared.weight_map.WeightMap.{WeightMap}
+use Rattle.mf_rows_edges.specs.WeightMaps.{IsWeightMap}
 use Rattle.std.specs.List.{flat_map}
 use Rattle.mf_rows.specs.declared.run.Run.{Run}
 use Rattle.mf_rows.specs.Dots.{Dot, weight_at}

@@ -4,12 +4,12 @@ use Rattle.std.specs.Int.RustNames.{unsigned_abs}
 use Rattle.std.proofs.lemmas.Int.{ints, by_lt_z}
 use Rattle.mf_geom.specs.Coordinates.{least_coordinate, greatest_coordinate, last_in_field}
 use Rattle.mf_geom.specs.Field.{IsInField}
-use Rattle.mf_edges.specs.declared.edge.Edge.{Edge}
-use Rattle.mf_edges.specs.LawfulWeights.{IsLawfulWeight}
-use Rattle.mf_edges.specs.Merging.{IsDifference}
-use Rattle.mf_strips.specs.declared.row_edges.RowEdges.{RowEdges}
-use Rattle.mf_strips.specs.Rests.{IsNextEdge}
-use Rattle.mf_strips.specs.RowEdges.{AreSameRows, weight_left, weights_of}
+use Rattle.mf_rows_edges.specs.declared.edge.Edge.{Edge}
+use Rattle.mf_rows_edges.specs.LawfulWeights.{IsLawfulWeight}
+use Rattle.mf_rows_edges.specs.Merging.{IsDifference}
+use Rattle.mf_rows_strips.specs.declared.row_edges.RowEdges.{RowEdges}
+use Rattle.mf_rows_strips.specs.Rests.{IsNextEdge}
+use Rattle.mf_rows_strips.specs.RowEdges.{AreSameRows, weight_left, weights_of}
 use Rattle.mf_rows.specs.declared.walk.Walk.{Walk}
 use Rattle.mf_rows.specs.Reading.{IsReading}
 use Rattle.mf_rows.specs.Remaining.{remaining_runs, dots_from, HasPassed, HasPassedRow, IsAtStart}

@@ -8,8 +8,8 @@ use Rattle.mf_geom.specs.Field.{IsInField, sum_over_field}
 use Rattle.mf_geom.specs.Sum.{sum_below}
 use Rattle.mf_geom.proofs.Products.{mul-add}
 use Rattle.mf_geom.proofs.Sums.{sum_below-next}
-use Rattle.mf_edges.specs.LawfulWeights.{IsLawfulWeight, greatest_weight}
-use Rattle.mf_strips.specs.RowEdges.{AreSameRows, weights_of}
+use Rattle.mf_rows_edges.specs.LawfulWeights.{IsLawfulWeight, greatest_weight}
+use Rattle.mf_rows_strips.specs.RowEdges.{AreSameRows, weights_of}
 use Rattle.mf_rows.specs.declared.walk.Walk.{Walk}
 use Rattle.mf_rows.specs.Remaining.{HasPassed}
 use Rattle.mf_rows.specs.Totals.{sum_from, row_total, rows_total}

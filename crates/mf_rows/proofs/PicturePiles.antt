@@ -7,24 +7,24 @@ use Rattle.std.specs.declared.sync.Arc.{Arc}
 use Rattle.std.proofs.lemmas.Int.{ints, by_lt_z}
 use Rattle.std.proofs.lemmas.List.Elements.{All-head, All-tail}
 use Rattle.mf_geom.specs.Field.{IsInField}
-use Rattle.mf_edges.specs.Edges.{weight_in}
-use Rattle.mf_edges.specs.LawfulWeights.{IsLawfulWeight}
-use Rattle.mf_edges.specs.Axes.{PlaceStaysInside}
-use Rattle.mf_edges.specs.declared.stretch.Stretch.{Stretch}
-use Rattle.mf_edges.proofs.ReachesLemmas.{wider_reach}
-use Rattle.mf_strips.specs.declared.part.Part.{Part}
-use Rattle.mf_strips.specs.declared.pile.Pile.{Pile}
-use Rattle.mf_strips.specs.Corners.{HaveFieldStripWeights}
-use Rattle.mf_strips.specs.declared.corner.Corner.{Corner}
-use Rattle.mf_strips.specs.Changes.{negated_weight_in}
-use Rattle.mf_strips.specs.Moves.{StripsStayInside}
-use Rattle.mf_strips.specs.Parts.{strips_in, weight_in_part, weight_in_parts}
-use Rattle.mf_strips.specs.PileWeights.{weight_in_pile, weight_with_part}
-use Rattle.mf_strips.specs.Strips.{row_in, weight_in_strips, HaveStripWeights}
-pub use Rattle.mf_strips.proofs.Outside.{by_field}
-use Rattle.mf_strips.proofs.Outside.{strips_outside}
-pub use Rattle.mf_strips.proofs.PilesLemmas.{unlawful_as}
-use Rattle.mf_strips.proofs.StripsLemmas.{no_weight}
+use Rattle.mf_rows_edges.specs.Edges.{weight_in}
+use Rattle.mf_rows_edges.specs.LawfulWeights.{IsLawfulWeight}
+use Rattle.mf_rows_edges.specs.Axes.{PlaceStaysInside}
+use Rattle.mf_rows_edges.specs.declared.stretch.Stretch.{Stretch}
+use Rattle.mf_rows_edges.proofs.ReachesLemmas.{wider_reach}
+use Rattle.mf_rows_strips.specs.declared.part.Part.{Part}
+use Rattle.mf_rows_strips.specs.declared.pile.Pile.{Pile}
+use Rattle.mf_rows_strips.specs.Corners.{HaveFieldStripWeights}
+use Rattle.mf_rows_strips.specs.declared.corner.Corner.{Corner}
+use Rattle.mf_rows_strips.specs.Changes.{negated_weight_in}
+use Rattle.mf_rows_strips.specs.Moves.{StripsStayInside}
+use Rattle.mf_rows_strips.specs.Parts.{strips_in, weight_in_part, weight_in_parts}
+use Rattle.mf_rows_strips.specs.PileWeights.{weight_in_pile, weight_with_part}
+use Rattle.mf_rows_strips.specs.Strips.{row_in, weight_in_strips, HaveStripWeights}
+pub use Rattle.mf_rows_strips.proofs.Outside.{by_field}
+use Rattle.mf_rows_strips.proofs.Outside.{strips_outside}
+pub use Rattle.mf_rows_strips.proofs.PilesLemmas.{unlawful_as}
+use Rattle.mf_rows_strips.proofs.StripsLemmas.{no_weight}
 use Rattle.mf_rows.specs.Dots.{Dot, IsPicture, weight_at}
 use Rattle.mf_rows.specs.Corners.{added_by_all, with_corners_at}
 use Rattle.mf_rows.specs.Moves.{PixelsStayInside}

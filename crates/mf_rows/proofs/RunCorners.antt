@@ -5,10 +5,10 @@ use Rattle.std.proofs.lemmas.Int.{ints, by_lt_z}
 use Rattle.std.proofs.lemmas.List.Elements.{All-nil, All-cons, All-append, All-weaker}
 use Rattle.mf_geom.specs.Coordinates.{greatest_coordinate}
 use Rattle.mf_geom.specs.Field.{IsInField}
-use Rattle.mf_strips.specs.Corners.{added_by, added_by_all, AreSweptCorners, HaveFieldStripWeights, IsPlaced}
-use Rattle.mf_strips.specs.Strips.{EdgeStrip, weight_in_strips}
-use Rattle.mf_strips.specs.declared.corner.Corner.{Corner}
-use Rattle.mf_strips.proofs.TurnsLemmas.{added_by_all-append}
+use Rattle.mf_rows_strips.specs.Corners.{added_by, added_by_all, AreSweptCorners, HaveFieldStripWeights, IsPlaced}
+use Rattle.mf_rows_strips.specs.Strips.{EdgeStrip, weight_in_strips}
+use Rattle.mf_rows_strips.specs.declared.corner.Corner.{Corner}
+use Rattle.mf_rows_strips.proofs.TurnsLemmas.{added_by_all-append}
 use Rattle.mf_rows.specs.declared.run.Run.{Run}
 use Rattle.mf_rows.specs.Corners.{AreBuilt, corners_of, picture_of_corners}
 use Rattle.mf_rows.specs.Dots.{Dot, IsPicture, place, start_of_field, weight_at}

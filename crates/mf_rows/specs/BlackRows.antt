@@ -2,7 +2,7 @@
 use Rattle.std.specs.Prelude.{ℤ, pos, ◌-ℤ◌, int_lt, List, if◌then◌else◌}
 use Rattle.std.specs.Int.RustNames.{unsigned_abs}
 use Rattle.mf_geom.specs.Coordinates.{greatest_coordinate}
-use Rattle.mf_strips.specs.RowEdges.{weights_of}
+use Rattle.mf_rows_strips.specs.RowEdges.{weights_of}
 use Rattle.mf_rows.specs.declared.black_rows.BlackRows.{BlackRows}
 use Rattle.mf_rows.specs.declared.run.Run.{Run}
 use Rattle.mf_rows.specs.Runs.{runs_of}

@@ -1,13 +1,13 @@
 -- Corners that are added to a picture, and those of runs.
 use Rattle.std.specs.Prelude.{ℤ, pos, neg_ℤ, ◌+ℤ◌, ◌≤ℤ◌, List, [], ◌∷◌}
-use Rattle.mf_strips.specs.declared.corner.Corner.{Corner}
-use Rattle.mf_strips.specs.Corners.{AreSweptCorners}
+use Rattle.mf_rows_strips.specs.declared.corner.Corner.{Corner}
+use Rattle.mf_rows_strips.specs.Corners.{AreSweptCorners}
 use Rattle.mf_rows.specs.declared.run.Run.{Run}
 use Rattle.mf_rows.specs.Dots.{Dot, start_of_field, weight_at}
 use Rattle.mf_rows.specs.Order.{AreBefore}
 use Rattle.mf_rows.specs.Weights.{picture_of}
-unfoldable pub use Rattle.mf_strips.specs.Corners.{added_by, added_by_all}
-pub use Rattle.mf_strips.specs.Corners.{greatest_corner_weight, IsCornerWeight, IsCorner, AreCorners, IsPlaced}
+unfoldable pub use Rattle.mf_rows_strips.specs.Corners.{added_by, added_by_all}
+pub use Rattle.mf_rows_strips.specs.Corners.{greatest_corner_weight, IsCornerWeight, IsCorner, AreCorners, IsPlaced}
 
 -- the weight of the pixel (x, y) after corners are added to a picture
 unfoldable pub with_corners_at : List Dot → List Corner → ℤ → ℤ → ℤ

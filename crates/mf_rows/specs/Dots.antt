@@ -4,7 +4,7 @@ use Rattle.std.specs.Prelude.{◌≢◌, ◌&&◌, ℤ, pos, ◌+ℤ◌, ◌-ℤ
 use Rattle.std.specs.Ordering.{int_eq}
 use Rattle.mf_geom.specs.Coordinates.{least_coordinate, last_in_field, field_size}
 use Rattle.mf_geom.specs.Field.{IsInField}
-use Rattle.mf_edges.specs.LawfulWeights.{IsLawfulWeight}
+use Rattle.mf_rows_edges.specs.LawfulWeights.{IsLawfulWeight}
 
 -- a pixel (x, y) of nonzero weight
 pub record Dot : Type 0 where

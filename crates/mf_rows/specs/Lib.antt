@@ -14,6 +14,6 @@ pub mod WeightMaps
 pub mod Weights
 pub use Rattle.mf_geom.specs.Coordinates
 pub use Rattle.mf_geom.specs.Field
-pub use Rattle.mf_edges.specs.LawfulWeights
-pub use Rattle.mf_strips.specs.Names
-pub use Rattle.mf_strips.specs.RowEdges
+pub use Rattle.mf_rows_edges.specs.LawfulWeights
+pub use Rattle.mf_rows_strips.specs.Names
+pub use Rattle.mf_rows_strips.specs.RowEdges

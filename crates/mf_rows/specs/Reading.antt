@@ -2,7 +2,7 @@
 use Rattle.std.specs.Prelude.{◌≡◌, ℤ, pos, ◌+ℤ◌, ◌-ℤ◌, ◌≤ℤ◌, ◌<ℤ◌}
 use Rattle.std.proofs.Props.{props}
 use Rattle.mf_geom.specs.Coordinates.{least_coordinate, greatest_coordinate, last_in_field}
-use Rattle.mf_strips.specs.RowEdges.{AreSameRows}
+use Rattle.mf_rows_strips.specs.RowEdges.{AreSameRows}
 
 -- in row y, whose weights are those of f, weight w begins at column x, and the edges to the right of it make the weights g; the rows down to
 -- row `bottom` are equal to it

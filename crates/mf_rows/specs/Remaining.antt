@@ -6,7 +6,7 @@ use Rattle.mf_rows.specs.declared.run.Run.{Run}
 use Rattle.mf_rows.specs.declared.walk.Walk.{Walk}
 use Rattle.mf_rows.specs.Dots.{Dot}
 use Rattle.mf_rows.specs.Runs.{runs_of}
-use Rattle.mf_strips.specs.RowEdges.{weights_of}
+use Rattle.mf_rows_strips.specs.RowEdges.{weights_of}
 use Rattle.mf_rows.specs.Weights.{row_of, rows_of}
 
 -- the pixels of nonzero weight from column x of row y on, in reading order

@@ -2,7 +2,7 @@
 use Rattle.std.specs.Prelude.{◌≡◌, ℤ, ◌+ℤ◌, ◌-ℤ◌, List}
 use Rattle.mf_geom.specs.Field.{IsInField}
 use Rattle.mf_rows.specs.Dots.{Dot, weight_at}
-pub use Rattle.mf_strips.specs.Strips.{IsUnlawfulSomewhere}
+pub use Rattle.mf_rows_strips.specs.Strips.{IsUnlawfulSomewhere}
 
 -- a picture has the weight f x y at each pixel (x, y) of the field
 pub record HasWeights (f : ℤ → ℤ → ℤ) (ds : List Dot) : Type 0 where

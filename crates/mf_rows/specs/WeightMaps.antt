@@ -1,7 +1,7 @@
 -- Pictures after each weight is mapped by itself.
 use Rattle.std.specs.Prelude.{ℤ}
-use Rattle.mf_edges.specs.declared.weight_map.WeightMap.{WeightMap}
-use Rattle.mf_edges.specs.WeightMaps.{mapped_weight}
+use Rattle.mf_rows_edges.specs.declared.weight_map.WeightMap.{WeightMap}
+use Rattle.mf_rows_edges.specs.WeightMaps.{mapped_weight}
 
 -- the weights f after each of them is mapped
 abbrev pub mapped_weights : WeightMap → (ℤ → ℤ → ℤ) → ℤ → ℤ → ℤ

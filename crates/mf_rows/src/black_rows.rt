@@ -1,11 +1,11 @@
 //! The rows of the black pixels of a picture, one after another.
 use crate::run::Run;
 use crate::walk::Walk;
-use mf_strips::Pile;
+use mf_rows_strips::Pile;
 
 /// A reader of the black pixels of a picture, those of positive weight: it is in one row at a time, from the top row of the field down, and
-/// gives the stretches of black pixels of that row from left to right. It passes rows at once that are known to be equal, and allocates
-/// nothing.
+/// gives the stretches of black pixels of that row from left to right. Rows that are known to be equal can be passed in one step. It
+/// allocates nothing.
 #[derive(Drop)]
 pub struct BlackRows<'a> {
     walk: Walk<'a>,
@@ -18,8 +18,8 @@ impl<'a> BlackRows<'a> {
     ghost use Rattle.mf_rows.specs.BlackRows.{black_in, black_weights, row_in, row_runs, runs_in};
     ghost use Rattle.mf_rows.specs.Order.{IsRun};
     ghost use Rattle.mf_rows.specs.Runs.{with_next};
-    ghost use Rattle.mf_strips.specs.PileWeights.{weight_in_pile};
-    ghost use Rattle.mf_strips.specs.RowEdges.{AreSameRows};
+    ghost use Rattle.mf_rows_strips.specs.PileWeights.{weight_in_pile};
+    ghost use Rattle.mf_rows_strips.specs.RowEdges.{AreSameRows};
 
     /// A reader in the top row of the field.
     pub(crate) fn of(pile: &'a Pile) -> BlackRows<'a>
@@ -44,7 +44,7 @@ impl<'a> BlackRows<'a> {
         self.walk.next_black()
     }
 
-    /// Passes the rows below that are known to be equal to the row, and answers how many. The reader is then in the lowest of them. Requires
+    /// Passes the rows below that are known to be equal to the row, and returns how many. The reader is then in the lowest of them. Requires
     /// that the row has no more stretches.
     pub fn pass_equal_rows(&mut self) -> u32
         requires { runs_in self.old ≡ [] }
@@ -56,11 +56,12 @@ impl<'a> BlackRows<'a> {
         self.walk.pass_equal_rows()
     }
 
-    /// Goes to the next row down, and answers whether there is one in the field.
+    /// Goes to the next row down, and returns whether there is one in the field.
     pub fn next_row(&mut self) -> bool
         ensures row { IsTrue result → row_in self.new ≡ row_in self.old -ℤ pos 1 }
         ensures within { IsTrue result → least_coordinate <ℤ row_in self.old }
-        ensures runs { IsTrue result → runs_in self.new ≡ row_runs (black_in self.new) (row_in self.new) least_coordinate }
+        ensures runs { IsTrue result
+            → runs_in self.new ≡ row_runs (black_in self.new) (row_in self.new) least_coordinate }
         ensures last { IsFalse result → row_in self.old ≡ least_coordinate }
         ensures black { black_in self.new ≡ black_in self.old }
     {

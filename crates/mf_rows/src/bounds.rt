@@ -51,7 +51,7 @@ impl Box4 {
         }
     }
 
-    /// Whether it has more columns, or more rows, than this. Requires a box that is not empty, with columns and rows in -4095..=4094.
+    /// Whether it has more columns than `most`, or more rows. Requires a box that is not empty, with columns and rows in -4095..=4094.
     pub fn is_larger_than(&self, most: u32) -> bool
         requires { IsBoxOfField self.now }
         ensures { IsTrue result ↔ IsLargerThan most self.now }

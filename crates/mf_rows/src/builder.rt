@@ -7,11 +7,11 @@ ghost use Rattle.mf_rows.specs.Runs.{dots_of};
 use crate::picture::Picture;
 use crate::run::{Run, START_OF_FIELD};
 use mf_base::OutOfMemory;
-use mf_strips::{Corner, part_of_corners};
+use mf_rows_strips::{Corner, part_of_corners};
 use std::alloc::Global;
 use std::marker::Model;
 
-/// Builds a picture from its runs: rows from the top down, columns from left to right. In this order GF files have them
+/// Builds a picture from its runs: rows from the top down, columns from left to right. GF files have them in this order
 /// (The METAFONTbook, Appendix G).
 #[derive(Debug, Drop)]
 pub struct RowBuilder {

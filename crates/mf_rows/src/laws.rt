@@ -3,18 +3,18 @@
 ghost use Rattle.std.specs.Prelude.{◌≡◌, ◌↔◌, ℤ, pos, ◌+ℤ◌, ◌≤ℤ◌, All, List, [], flat_map};
 ghost use Rattle.std.specs.Arc.{arc_value};
 ghost use Rattle.mf_geom.specs.Field.{IsInField, sum_over_field};
-ghost use Rattle.mf_edges.specs.Axes.{IsStretch, source_of, target_of};
-ghost use Rattle.mf_edges.specs.declared.stretch.Stretch.{Stretch};
-ghost use Rattle.mf_edges.specs.LawfulWeights.{IsLawfulWeight};
+ghost use Rattle.mf_rows_edges.specs.Axes.{IsStretch, source_of, target_of};
+ghost use Rattle.mf_rows_edges.specs.declared.stretch.Stretch.{Stretch};
+ghost use Rattle.mf_rows_edges.specs.LawfulWeights.{IsLawfulWeight};
 ghost use Rattle.mf_rows.specs.Bounds.{IsLeastBox};
 ghost use Rattle.mf_rows.specs.declared.bounds.Box4.{Box4};
 ghost use Rattle.mf_rows.specs.Dots.{Dot, IsPicture, total_of, weight_at};
-ghost use Rattle.mf_edges.specs.Edges.{AreEdges, weight_in};
-ghost use Rattle.mf_strips.specs.declared.part.Part.{Part};
-ghost use Rattle.mf_strips.specs.declared.pile.Pile.{Pile};
-ghost use Rattle.mf_strips.specs.Parts.{strips_in, weight_in_part, weight_in_parts};
-ghost use Rattle.mf_strips.specs.PileWeights.{weight_in_pile};
-ghost use Rattle.mf_strips.specs.Strips.{row_in};
+ghost use Rattle.mf_rows_edges.specs.Edges.{AreEdges, weight_in};
+ghost use Rattle.mf_rows_strips.specs.declared.part.Part.{Part};
+ghost use Rattle.mf_rows_strips.specs.declared.pile.Pile.{Pile};
+ghost use Rattle.mf_rows_strips.specs.Parts.{strips_in, weight_in_part, weight_in_parts};
+ghost use Rattle.mf_rows_strips.specs.PileWeights.{weight_in_pile};
+ghost use Rattle.mf_rows_strips.specs.Strips.{row_in};
 ghost use Rattle.mf_rows.specs.Order.{IsRun};
 ghost use Rattle.mf_rows.specs.Runs.{dots_of, runs_of, AreMaximal, IsMaximalRun};
 ghost use Rattle.mf_rows.specs.Weights.{picture_of, HaveSameWeights};
@@ -37,13 +37,16 @@ pub fn runs_are_as_long_as_can_be()
 /// The picture of given weights has them at each pixel of the field, and is a picture where they are lawful.
 #[tactic(auto, using(crate::proofs::WeightsLemmas::given_weights))]
 pub fn picture_has_its_weights()
-    ensures weights { (f : ℤ → ℤ → ℤ) (x y : ℤ) → IsInField x y → weight_at (picture_of f) x y ≡ f x y }
-    ensures lawful { (f : ℤ → ℤ → ℤ) → ((x y : ℤ) → IsInField x y → IsLawfulWeight (f x y)) → IsPicture (picture_of f) }
+    ensures weights { (f : ℤ → ℤ → ℤ) (x y : ℤ) → IsInField x y
+        → weight_at (picture_of f) x y ≡ f x y }
+    ensures lawful { (f : ℤ → ℤ → ℤ) → ((x y : ℤ) → IsInField x y → IsLawfulWeight (f x y))
+        → IsPicture (picture_of f) }
 {}
 
 /// The weights of a picture are lawful, and 0 outside the field; its runs and its least box lie in the field.
 pub fn pictures_lie_in_the_field()
-    ensures outside { (ds : List Dot) (x y : ℤ) → IsPicture ds → (IsInField x y → ⊥) → weight_at ds x y ≡ pos 0 }
+    ensures outside { (ds : List Dot) (x y : ℤ) → IsPicture ds → (IsInField x y → ⊥)
+        → weight_at ds x y ≡ pos 0 }
     ensures lawful { (ds : List Dot) (x y : ℤ) → IsPicture ds → IsLawfulWeight (weight_at ds x y) }
     ensures runs { (ds : List Dot) → IsPicture ds → All IsRun (runs_of ds) }
     ensures bounds { (ds : List Dot) (b : Box4) → IsPicture ds → IsLeastBox ds b →
@@ -69,10 +72,14 @@ pub fn same_weights_make_same_pictures()
 #[tactic(auto, using(crate::proofs::PicturePiles::weights_of_edges))]
 pub fn weight_is_the_sum_of_edges()
     ensures lawful { (p : Pile) → IsPicture (picture_of (weight_in_pile p)) }
-    ensures parts { (p : Pile) (x y : ℤ) → weight_at (picture_of (weight_in_pile p)) x y ≡ weight_in_parts p.parts.items x y }
-    ensures edges { (p : Part) (x y : ℤ) → weight_in_part p x y ≡ weight_in (row_in [] (strips_in p) y) x }
+    ensures parts { (p : Pile) (x y : ℤ)
+        → weight_at (picture_of (weight_in_pile p)) x y ≡ weight_in_parts p.parts.items x y }
+    ensures edges { (p : Part) (x y : ℤ)
+        → weight_in_part p x y ≡ weight_in (row_in [] (strips_in p) y) x }
     ensures rows { (p : Part) (y : ℤ) → AreEdges (row_in [] (strips_in p) y) }
-    ensures other_rows { (p : Pile) (x y : ℤ) → All (λ q. row_in [] (strips_in (arc_value q)) y ≡ []) p.parts.items → weight_at (picture_of (weight_in_pile p)) x y ≡ pos 0 }
+    ensures other_rows { (p : Pile) (x y : ℤ)
+        → All (λ q. row_in [] (strips_in (arc_value q)) y ≡ []) p.parts.items
+        → weight_at (picture_of (weight_in_pile p)) x y ≡ pos 0 }
 {}
 
 /// The total weight of a picture is the sum of its weights over all pixels of the field, since a pixel of weight 0 adds

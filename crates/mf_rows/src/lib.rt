@@ -15,7 +15,7 @@ pub use black_rows::BlackRows;
 pub use bounds::{Box4, extent};
 pub use builder::RowBuilder;
 pub use mf_base::OutOfMemory;
-pub use mf_strips::{AddFault, Corner};
+pub use mf_rows_strips::{AddFault, Corner};
 pub use picture::Picture;
 pub use run::Run;
 pub use runs::Runs;

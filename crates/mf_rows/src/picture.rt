@@ -7,8 +7,8 @@ use crate::run::Run;
 use crate::runs::Runs;
 use crate::walk::Walk;
 use mf_base::OutOfMemory;
-use mf_edges::WeightMap;
-use mf_strips::{AddFault, Corner, Part, Pile, mapped, negated, part_of_corners};
+use mf_rows_edges::WeightMap;
+use mf_rows_strips::{AddFault, Corner, Part, Pile, mapped, negated, part_of_corners};
 use std::alloc::Global;
 use std::marker::Model;
 use std::sync::Arc;
@@ -19,7 +19,7 @@ mod moves;
 /// elsewhere have weight 0 (The METAFONTbook, chapter 13).
 ///
 /// It keeps edges: in each row that is not blank, the columns at which the weight changes (mf.web, "edge structures").
-/// They are in parts, whose weights are added up, and which are never written once they are made, so pictures share them (`mf_strips`).
+/// They are in parts, whose weights are added up, and which are never written once they are made, so pictures share them (`mf_rows_strips`).
 #[derive(Debug, Drop)]
 pub struct Picture {
     pile: Pile,
@@ -32,7 +32,7 @@ impl Model for Picture {
     ghost Value = { List Dot };
 
     ghost use Rattle.mf_rows.specs.Weights.{picture_of};
-    ghost use Rattle.mf_strips.specs.PileWeights.{weight_in_pile};
+    ghost use Rattle.mf_rows_strips.specs.PileWeights.{weight_in_pile};
 
     ghost view = { λ p. picture_of (weight_in_pile p.pile) };
 }
@@ -42,16 +42,16 @@ impl Picture {
     ghost use Rattle.mf_geom.specs.Coordinates.{last_in_field, least_coordinate};
     ghost use Rattle.mf_rows.specs.BlackRows.{black_in, black_weights, row_in, row_runs, runs_in};
     ghost use Rattle.mf_rows.specs.Bounds.{AreBounds, IsLeastBox, among, is_positive_at};
-    ghost use Rattle.mf_strips.specs.Corners.{AreCorners, HaveFieldStripWeights};
+    ghost use Rattle.mf_rows_strips.specs.Corners.{AreCorners, HaveFieldStripWeights};
     ghost use Rattle.mf_rows.specs.Corners.{with_corners_at};
     ghost use Rattle.mf_rows.specs.Dots.{IsPicture, weight_at, total_of};
     ghost use Rattle.mf_rows.specs.Runs.{runs_of};
     ghost use Rattle.mf_rows.specs.Sums.{HasWeights, IsUnlawfulSomewhere, difference_at, sum_at};
-    ghost use Rattle.mf_edges.specs.WeightMaps.{IsWeightMap};
+    ghost use Rattle.mf_rows_edges.specs.WeightMaps.{IsWeightMap};
     ghost use Rattle.mf_rows.specs.WeightMaps.{mapped_weights};
     ghost use Rattle.mf_rows.specs.Weights.{HaveSameWeights, picture_of};
-    ghost use Rattle.mf_strips.specs.Parts.{strips_in, weight_in_part};
-    ghost use Rattle.mf_strips.specs.PileWeights.{weight_in_pile};
+    ghost use Rattle.mf_rows_strips.specs.Parts.{strips_in, weight_in_part};
+    ghost use Rattle.mf_rows_strips.specs.PileWeights.{weight_in_pile};
     ghost use Rattle.std.specs.Arc.{arc_value};
 
     /// The blank picture, METAFONT's `nullpicture`: every weight is 0.
@@ -95,7 +95,7 @@ impl Picture {
     }
 
     /// The sum of all weights, at most 2,197,882,568,700 in absolute value. METAFONT's `totalweight` is this number, scaled (mf.web:
-    /// `total_weight`). It passes equal rows once.
+    /// `total_weight`). It goes through equal rows that lie together only once.
     pub fn total(&self) -> i64
         ensures value { result ≡ total_of self.now }
         ensures lawful { IsPicture self.now }
@@ -107,7 +107,7 @@ impl Picture {
         walk.total()
     }
 
-    /// The least box of the pixels of nonzero weight, `None` where the picture is blank. It passes equal rows once.
+    /// The least box of the pixels of nonzero weight, `None` where the picture is blank. It goes through equal rows that lie together only once.
     #[tactic(auto, using(crate::proofs::LeastBoxes::least_boxes))]
     pub fn bounds(&self) -> Option<Box4>
         ensures blank { IsNone result ↔ (self.now ≡ []) }
@@ -164,7 +164,8 @@ impl Picture {
         ensures blank { other.now ≡ [] → IsOk result }
         ensures unchanged { OnErr result (self.new ≡ self.old) }
         ensures lawful { OnOk result (IsPicture self.new) }
-        ensures too_large { IfErr result (λ fault. fault ≢ AddFault.OutOfMemory → IsUnlawfulSomewhere (sum_at self.old other.now)) }
+        ensures too_large { IfErr result (λ fault.
+            fault ≢ AddFault.OutOfMemory → IsUnlawfulSomewhere (sum_at self.old other.now)) }
     {
         // Naming the field gives the proof what its type says.
         let _ = &self.pile;
@@ -188,7 +189,8 @@ impl Picture {
         ensures blank { other.now ≡ [] → IsOk result }
         ensures unchanged { OnErr result (self.new ≡ self.old) }
         ensures lawful { OnOk result (IsPicture self.new) }
-        ensures too_large { IfErr result (λ fault. fault ≢ AddFault.OutOfMemory → IsUnlawfulSomewhere (difference_at self.old other.now)) }
+        ensures too_large { IfErr result (λ fault.
+            fault ≢ AddFault.OutOfMemory → IsUnlawfulSomewhere (difference_at self.old other.now)) }
     {
         // Naming the field gives the proof what its type says.
         let _ = &self.pile;
@@ -230,10 +232,13 @@ impl Picture {
     /// would exceed 32767 in absolute value, and with `OutOfMemory` where an allocation fails; a refusal leaves the picture as it was.
     pub fn add_corners(&mut self, alloc: Global, corners: Vec<Corner>) -> Result<(), AddFault>
         requires { AreCorners corners.items }
-        ensures weights { OnOk result (HasWeights (with_corners_at self.old corners.items) self.new) }
+        ensures weights { OnOk result
+            (HasWeights (with_corners_at self.old corners.items) self.new) }
         ensures unchanged { OnErr result (self.new ≡ self.old) }
         ensures lawful { OnOk result (IsPicture self.new) }
-        ensures too_large { IfErr result (λ fault. fault ≢ AddFault.OutOfMemory → IsUnlawfulSomewhere (with_corners_at self.old corners.items)) }
+        ensures too_large { IfErr result (λ fault.
+            fault ≢ AddFault.OutOfMemory
+            → IsUnlawfulSomewhere (with_corners_at self.old corners.items)) }
     {
         let part = part_of_corners(alloc, corners)?;
         self.pile.add(alloc, Arc::new(alloc, part)?)
@@ -281,7 +286,8 @@ impl Picture {
     /// The picture of a part.
     pub(crate) fn of_part(alloc: Global, part: Part) -> Result<Picture, OutOfMemory>
         ensures value { IfOk result (λ picture. picture ≡ picture_of (weight_in_part part)) }
-        ensures weights { (f : ℤ → ℤ → ℤ) → HaveFieldStripWeights f (strips_in part) → IfOk result (HasWeights f) }
+        ensures weights { (f : ℤ → ℤ → ℤ) → HaveFieldStripWeights f (strips_in part)
+            → IfOk result (HasWeights f) }
         ensures lawful { IfOk result IsPicture }
     {
         let pile = Pile::of(alloc, Arc::new(alloc, part)?)?;

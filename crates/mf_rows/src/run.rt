@@ -1,11 +1,11 @@
 //! Runs of pixels.
 ghost use Rattle.std.specs.Prelude.{◌≡◌, ◌≢◌, ◌↔◌, IsTrue, pos, ◌+ℤ◌, ◌≤ℤ◌};
 ghost use Rattle.mf_geom.specs.Coordinates.{least_coordinate, greatest_coordinate, last_in_field};
-ghost use Rattle.mf_edges.specs.LawfulWeights.{IsLawfulWeight};
+ghost use Rattle.mf_rows_edges.specs.LawfulWeights.{IsLawfulWeight};
 ghost use Rattle.mf_rows.specs.Dots.{place};
 ghost use Rattle.mf_rows.specs.Order.{IsRun};
 
-use mf_edges::{FIELD_END, FIELD_START, is_lawful_weight};
+use mf_rows_edges::{FIELD_END, FIELD_START, is_lawful_weight};
 
 /// How many columns the field has.
 const FIELD_SIZE: i32 = FIELD_END - FIELD_START;
@@ -29,7 +29,7 @@ impl Run {
     pub(crate) fn is_lawful(&self) -> bool
         ensures { IsTrue result ↔ IsRun self.now }
     {
-        self.len > 0 && self.lies_in_columns() && self.lies_in_rows() && self.has_weight()
+        self.len > 0 && self.lies_in_columns() && self.lies_in_rows() && self.has_lawful_weight()
     }
 
     /// The place of its first pixel in reading order.
@@ -43,20 +43,22 @@ impl Run {
 
     /// Whether all its columns lie in the field.
     fn lies_in_columns(&self) -> bool
-        ensures { IsTrue result ↔ ((least_coordinate ≤ℤ self.now.x) × ((self.now.x +ℤ pos self.now.len) ≤ℤ greatest_coordinate)) }
+        ensures { IsTrue result
+            ↔ ((least_coordinate ≤ℤ self.now.x) × ((self.now.x +ℤ pos self.now.len) ≤ℤ greatest_coordinate)) }
     {
         FIELD_START <= self.x && i64::from(self.x) + i64::from(self.len) <= i64::from(FIELD_END)
     }
 
     /// Whether its row lies in the field.
     fn lies_in_rows(&self) -> bool
-        ensures { IsTrue result ↔ ((least_coordinate ≤ℤ self.now.y) × (self.now.y ≤ℤ last_in_field)) }
+        ensures { IsTrue result
+            ↔ ((least_coordinate ≤ℤ self.now.y) × (self.now.y ≤ℤ last_in_field)) }
     {
         FIELD_START <= self.y && self.y < FIELD_END
     }
 
     /// Whether its weight is lawful and not 0.
-    fn has_weight(&self) -> bool
+    fn has_lawful_weight(&self) -> bool
         ensures { IsTrue result ↔ (IsLawfulWeight self.now.weight × (self.now.weight ≢ pos 0)) }
     {
         self.weight != 0 && is_lawful_weight(self.weight)

@@ -1,10 +1,10 @@
 //! The maximal runs of a picture, one after another.
 ghost use Rattle.mf_rows.specs.Weights.{picture_of};
-ghost use Rattle.mf_strips.specs.PileWeights.{weight_in_pile};
+ghost use Rattle.mf_rows_strips.specs.PileWeights.{weight_in_pile};
 
 use crate::run::Run;
 use crate::walk::Walk;
-use mf_strips::Pile;
+use mf_rows_strips::Pile;
 use std::marker::Model;
 
 /// An iterator over the maximal runs of a picture: rows from the top down, columns from left to right. To callers it is

@@ -3,12 +3,12 @@ ghost use Rattle.std.specs.Prelude.{◌≡◌, ◌≢◌, [], ◌∷◌, ℤ, If
 ghost use Rattle.mf_geom.specs.Coordinates.{least_coordinate, greatest_coordinate};
 ghost use Rattle.mf_geom.specs.Field.{IsColumnOrRow};
 ghost use Rattle.mf_rows.specs.Reading.{AreBlankBelow, IsReading, IsReading-prop};
-ghost use Rattle.mf_strips.specs.RowEdges.{AreSameRows, weight_left, weights_of};
+ghost use Rattle.mf_rows_strips.specs.RowEdges.{AreSameRows, weight_left, weights_of};
 
 use crate::bounds::{Box4, Pixels};
 use crate::run::Run;
-use mf_edges::{FIELD_END, FIELD_START};
-use mf_strips::{Pile, RowEdges};
+use mf_rows_edges::{FIELD_END, FIELD_START};
+use mf_rows_strips::{Pile, RowEdges};
 
 /// A walk over the pixels of a picture, which gives its maximal runs: rows from the top down, columns from left to right. It passes each
 /// edge once, and equal blank rows together.
@@ -35,7 +35,7 @@ impl<'a> Walk<'a> {
     ghost use Rattle.mf_rows.specs.Runs.{with_next};
     ghost use Rattle.mf_rows.specs.Totals.{row_total};
     ghost use Rattle.mf_rows.specs.Weights.{picture_of};
-    ghost use Rattle.mf_strips.specs.PileWeights.{weight_in_pile};
+    ghost use Rattle.mf_rows_strips.specs.PileWeights.{weight_in_pile};
 
     /// The walk over the picture of a pile.
     pub(crate) fn of(pile: &'a Pile) -> Walk<'a>
@@ -53,7 +53,7 @@ impl<'a> Walk<'a> {
         }
     }
 
-    /// The least box of these pixels, `None` where there are none. Requires a walk that is at its start. Equal rows are passed once.
+    /// The least box of these pixels, `None` where there are none. Requires a walk that is at its start. It goes through equal rows that lie together only once.
     pub(crate) fn bounds(&mut self, pixels: Pixels) -> Option<Box4>
         requires { IsAtStart (weights_of self.old.edges) self.old }
         ensures { AreBounds (among pixels (weights_of self.old.edges)) result }
@@ -71,7 +71,8 @@ impl<'a> Walk<'a> {
     /// The least box round that of these pixels in the rows above, and those of the row and of the rows that are equal to it.
     fn widen(&mut self, bounds: Option<Box4>, pixels: Pixels) -> Option<Box4>
         requires column { self.old.x <ℤ least_coordinate }
-        requires bounds { AreBounds (from_row (self.old.y +ℤ pos 1) (among pixels (weights_of self.old.edges))) bounds }
+        requires bounds { AreBounds (from_row (self.old.y +ℤ pos 1) (among pixels (weights_of self.old.edges)))
+            bounds }
         ensures bounds { AreBounds (from_row self.old.bottom (among pixels (weights_of self.old.edges))) result }
         ensures passed { HasPassedRow self.old self.new }
     {
@@ -88,11 +89,14 @@ impl<'a> Walk<'a> {
         Some(own.with(bounds))
     }
 
-    /// The first and the last column of the row that have these pixels, where it is that of a single part and these are the columns at
-    /// which its first edge begins and its last one ends; else `None`. Requires that no pixel of the row was passed yet.
-    fn ends(&self, pixels: Pixels) -> Option<(i32, i32)>
+    /// The first and the last column of the row that have these pixels, told by its first and its last edge. `None` where these do not
+    /// tell: where the picture has not exactly one part, the row is blank, or its first or last nonzero pixel is not one of these.
+    /// Requires that no pixel of the row was passed yet.
+    fn columns_at_ends(&self, pixels: Pixels) -> Option<(i32, i32)>
         requires { self.now.x <ℤ least_coordinate }
-        ensures { IfSome result (λ columns. AreColumns (among pixels (weights_of self.now.edges)) self.now.y greatest_coordinate columns.0 columns.1) }
+        ensures { IfSome result (λ columns.
+            AreColumns (among pixels (weights_of self.now.edges)) self.now.y greatest_coordinate
+            columns.0 columns.1) }
     {
         let (first, last) = self.edges.ends()?;
         if pixels.has(first.weight) && pixels.has(-last.weight) {
@@ -105,10 +109,11 @@ impl<'a> Walk<'a> {
     /// that no pixel of the row was passed yet.
     fn columns(&mut self, pixels: Pixels) -> (i32, i32)
         requires { self.old.x <ℤ least_coordinate }
-        ensures columns { AreColumns (among pixels (weights_of self.old.edges)) self.old.y greatest_coordinate result.0 result.1 }
+        ensures columns { AreColumns (among pixels (weights_of self.old.edges)) self.old.y greatest_coordinate
+            result.0 result.1 }
         ensures passed { HasPassedRow self.old self.new }
     {
-        if let Some(columns) = self.ends(pixels) {
+        if let Some(columns) = self.columns_at_ends(pixels) {
             return columns;
         }
         let (mut first, mut last) = (FIELD_END, FIELD_END);
@@ -123,7 +128,7 @@ impl<'a> Walk<'a> {
         (first, last)
     }
 
-    /// The sum of all weights. Requires a walk that is at its start. Equal rows are passed once.
+    /// The sum of all weights. Requires a walk that is at its start. It goes through equal rows that lie together only once.
     pub(crate) fn total(&mut self) -> i64
         requires { IsAtStart (weights_of self.old.edges) self.old }
         ensures { result ≡ total_of (picture_of (weights_of self.old.edges)) }
@@ -142,7 +147,8 @@ impl<'a> Walk<'a> {
     /// The sum of the weights of the row. Requires that none of its pixels was passed yet.
     fn row_total(&mut self) -> i32
         requires { self.old.x <ℤ least_coordinate }
-        ensures total { result ≡ row_total (weights_of self.old.edges) self.old.y greatest_coordinate }
+        ensures total { result
+            ≡ row_total (weights_of self.old.edges) self.old.y greatest_coordinate }
         ensures passed { HasPassedRow self.old self.new }
     {
         let mut total = 0;
@@ -154,7 +160,7 @@ impl<'a> Walk<'a> {
         total
     }
 
-    /// Moves on to the next run, past pixels of weight 0. Answers whether there is one.
+    /// Moves on to the next run, past pixels of weight 0. Returns whether there is one.
     fn find_run(&mut self) -> bool
         ensures runs { remaining_runs self.new ≡ remaining_runs self.old }
         ensures found { IsTrue result → self.new.weight ≢ pos 0 }
@@ -195,8 +201,10 @@ impl<'a> Walk<'a> {
     #[inline(always)]
     pub(crate) fn next_black(&mut self) -> Option<Run>
         ensures next { row_runs (black_weights (weights_of self.old.edges)) self.old.y self.old.x
-            ≡ with_next result (row_runs (black_weights (weights_of self.old.edges)) self.old.y self.new.x) }
-        ensures over { IfNone result (row_runs (black_weights (weights_of self.old.edges)) self.old.y self.new.x ≡ []) }
+            ≡ with_next result
+            (row_runs (black_weights (weights_of self.old.edges)) self.old.y self.new.x) }
+        ensures over { IfNone result
+            (row_runs (black_weights (weights_of self.old.edges)) self.old.y self.new.x ≡ []) }
         ensures run { IfSome result IsRun }
         ensures passed { HasPassedRow self.old self.new }
     {
@@ -230,7 +238,7 @@ impl<'a> Walk<'a> {
         }
     }
 
-    /// Passes the rows below that are known to be equal to the row, and answers how many: the walk is then in the lowest of them, at the
+    /// Passes the rows below that are known to be equal to the row, and returns how many: the walk is then in the lowest of them, at the
     /// same column.
     pub(crate) fn pass_equal_rows(&mut self) -> u32
         ensures weights { weights_of self.new.edges ≡ weights_of self.old.edges }
@@ -243,7 +251,7 @@ impl<'a> Walk<'a> {
         rows
     }
 
-    /// Goes to the left end of the next row down, and answers whether there is one in the field.
+    /// Goes to the left end of the next row down, and returns whether there is one in the field.
     pub(crate) fn next_row(&mut self) -> bool
         ensures weights { weights_of self.new.edges ≡ weights_of self.old.edges }
         ensures row { IsTrue result → self.new.y ≡ self.old.y -ℤ pos 1 }
@@ -272,7 +280,8 @@ impl<'a> Walk<'a> {
 
     /// The lowest row that is known to be blank below the row, which is blank from column `start` on; the row itself where none is.
     fn blank_down_to(&self, start: i32) -> i32
-        requires { (z : ℤ) → start ≤ℤ z → z <ℤ greatest_coordinate → weights_of self.now.edges z self.now.y ≡ pos 0 }
+        requires { (z : ℤ) → start ≤ℤ z → z <ℤ greatest_coordinate
+            → weights_of self.now.edges z self.now.y ≡ pos 0 }
         ensures { AreBlankBelow (weights_of self.now.edges) result self.now.y }
     {
         if start < FIELD_START {

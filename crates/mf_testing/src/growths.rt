@@ -1,6 +1,6 @@
 //! Marks the place in a test where its allocations are to be refused.
 //!
-//! A test that runs by itself has ample memory. `tests/wanting_memory.py` runs each test of a module `growths` with a library
+//! A test that runs by itself has ample memory. `tests/refused_allocations.py` runs each test of a module `growths` with a library
 //! that counts the allocations from `refuse_growths` to `grow_again`. It refuses the first of them, then the second, and so on,
 //! each alone and then together with all later ones, until there are no more. The library recognises the places by
 //! allocations of sizes that nothing else asks for.

@@ -11,5 +11,5 @@ pub mod Syntax
 pub mod TokenTexts
 pub mod Token
 pub mod Tokens
-pub use Rattle.mf_show.specs.Grid
-pub use Rattle.mf_show.specs.RunText
+pub use Rattle.mf_text_show.specs.Grid
+pub use Rattle.mf_text_show.specs.RunText

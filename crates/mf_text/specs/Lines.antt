@@ -10,7 +10,7 @@ use Rattle.mf_text.specs.Syntax.{IsSyntaxFault}
 use Rattle.mf_text.specs.Token.{Ahead}
 use Rattle.mf_text.specs.Tokens.{tokens, without_columns}
 
--- the byte is text: a tab or printed ASCII
+-- the byte is text: a tab or printable ASCII
 abbrev pub is_text_byte : ℕ → Bool
 is_text_byte b = b == tab || (nat_le space b && nat_le b last_printed)
 

@@ -24,7 +24,7 @@ pub enum TextFault {
     OutOfMemory,
     /// The line has more than 65,536 bytes.
     LineTooLong,
-    /// Some byte of the line, comments included, is neither a tab nor printed ASCII.
+    /// Some byte of the line, comments included, is neither a tab nor printable ASCII.
     NotAscii,
     /// The line is not in the grammar. The number is a column, in bytes from 1: that of the first token such that no line of
     /// the grammar begins with the tokens up to and including it, or one past the last token where the line ends too early. A

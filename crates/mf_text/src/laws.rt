@@ -18,7 +18,8 @@ use crate::fault::TextFault;
 #[tactic(auto, using(crate::proofs::Cuts::are_tokens, crate::proofs::Cuts::one_cut))]
 pub fn tokens_are_as_long_as_can_be()
     ensures cut { (line : List ℕ) → AreTokens 1 line (tokens line) }
-    ensures one_cut { (line : List ℕ) (others : List PlacedToken) → AreTokens 1 line others → others ≡ tokens line }
+    ensures one_cut { (line : List ℕ) (others : List PlacedToken) → AreTokens 1 line others
+        → others ≡ tokens line }
 {}
 
 /// A list of tokens is at most one line of the grammar.
@@ -31,15 +32,19 @@ pub fn one_line()
 pub fn one_answer()
     ensures some { (bytes : List ℕ) → ((given : Command) × Gives bytes given)
         ⊎ ((fault : TextFault) × (fault ≢ TextFault.OutOfMemory) × IsRefused bytes fault) }
-    ensures command { (bytes : List ℕ) (one other : Command) → Gives bytes one → Gives bytes other → one ≡ other }
+    ensures command { (bytes : List ℕ) (one other : Command) → Gives bytes one → Gives bytes other
+        → one ≡ other }
     ensures refusal { (bytes : List ℕ) (one other : TextFault) → one ≢ TextFault.OutOfMemory
-        → other ≢ TextFault.OutOfMemory → IsRefused bytes one → IsRefused bytes other → one ≡ other }
-    ensures not_both { (bytes : List ℕ) (given : Command) (fault : TextFault) → fault ≢ TextFault.OutOfMemory → Gives bytes given → IsRefused bytes fault → ⊥ }
+        → other ≢ TextFault.OutOfMemory → IsRefused bytes one → IsRefused bytes other
+        → one ≡ other }
+    ensures not_both { (bytes : List ℕ) (given : Command) (fault : TextFault)
+        → fault ≢ TextFault.OutOfMemory → Gives bytes given → IsRefused bytes fault → ⊥ }
 {}
 
 /// Tokens that go wrong at a column are not a line of the grammar.
 pub fn wrong_is_no_line()
-    ensures { (ahead : Ahead) (column : ℕ) → IsSyntaxFault ahead column → IsLine (without_columns ahead.tokens) → ⊥ }
+    ensures { (ahead : Ahead) (column : ℕ) → IsSyntaxFault ahead column
+        → IsLine (without_columns ahead.tokens) → ⊥ }
 {}
 
 /// Tokens are a prefix of some line of the grammar, or of none.

@@ -1,4 +1,4 @@
-//! The command language of pictures: which commands the lines of a script give. And the texts of pictures, which `mf_show` makes.
+//! The command language of pictures: which commands the lines of a script give. And the texts of pictures, which `mf_text_show` makes.
 #![tactic(auto)]
 
 mod code;
@@ -20,4 +20,4 @@ pub use fault::TextFault;
 pub use lines::read_command;
 pub use mf_base::OutOfMemory;
 pub use mf_geom::Check;
-pub use mf_show::{GridFault, proof_grid, show_runs};
+pub use mf_text_show::{GridFault, proof_grid, show_runs};

@@ -81,7 +81,7 @@ fn command_of_line(alloc: Global, tokens: Tokens<'_>) -> Result<Command, TextFau
 fn nothing(tokens: &mut Tokens<'_>) -> Result<Command, TextFault>
     ensures { AnswersLine (from (rests.line_end Nothing) (ahead tokens.old)) result }
 {
-    tokens.end()?;
+    tokens.pass_line_end()?;
     Ok(Command::Nothing)
 }
 
@@ -102,21 +102,24 @@ fn addto(alloc: Global, tokens: &mut Tokens<'_>) -> Result<Command, TextFault>
 
 /// The line after `addto`, a name and `contour`.
 fn add_contour(alloc: Global, tokens: &mut Tokens<'_>, name: Name) -> Result<Command, TextFault>
-    ensures { AnswersLine (from (rests.path (λ p. rests.weight_then_end (AddContour name p))) (ahead tokens.old)) result }
+    ensures { AnswersLine
+        (from (rests.path (λ p. rests.weight_then_end (AddContour name p))) (ahead tokens.old))
+        result }
 {
     let path = tokens.path(alloc)?;
     let weight = tokens.weight()?;
-    tokens.end()?;
+    tokens.pass_line_end()?;
     contour_command(name, path, weight)
 }
 
 /// The line after `addto`, a name, `also`, and `-` where it comes.
 #[inline(always)]
 fn also(tokens: &mut Tokens<'_>, name: Name, sign: Sign) -> Result<Command, TextFault>
-    ensures { AnswersLine (from (rests.source_then_end (AddPicture name sign)) (ahead tokens.old)) result }
+    ensures { AnswersLine (from (rests.source_then_end (AddPicture name sign)) (ahead tokens.old))
+        result }
 {
     let source = tokens.source()?;
-    tokens.end()?;
+    tokens.pass_line_end()?;
     Ok(Command::Also(name, source, sign))
 }
 
@@ -138,7 +141,7 @@ fn keep(tokens: &mut Tokens<'_>, name: Name) -> Result<Command, TextFault>
 {
     let range = tokens.pair()?;
     let weight = tokens.weight()?;
-    tokens.end()?;
+    tokens.pass_line_end()?;
     keep_command(name, range, weight)
 }
 
@@ -148,7 +151,7 @@ fn drop_range(tokens: &mut Tokens<'_>, name: Name) -> Result<Command, TextFault>
 {
     let range = tokens.pair()?;
     let weight = tokens.weight()?;
-    tokens.end()?;
+    tokens.pass_line_end()?;
     drop_command(name, range, weight)
 }
 
@@ -160,7 +163,7 @@ fn show(tokens: &mut Tokens<'_>) -> Result<Command, TextFault>
         return total(tokens);
     }
     let source = tokens.source()?;
-    tokens.end()?;
+    tokens.pass_line_end()?;
     Ok(Command::Show(source))
 }
 
@@ -169,7 +172,7 @@ fn total(tokens: &mut Tokens<'_>) -> Result<Command, TextFault>
     ensures { AnswersLine (from (rests.source_then_end ShowTotal) (ahead tokens.old)) result }
 {
     let source = tokens.source()?;
-    tokens.end()?;
+    tokens.pass_line_end()?;
     Ok(Command::Total(source))
 }
 
@@ -178,7 +181,7 @@ fn proof(tokens: &mut Tokens<'_>) -> Result<Command, TextFault>
     ensures { AnswersLine (from (rests.source_then_end ShowProof) (ahead tokens.old)) result }
 {
     let source = tokens.source()?;
-    tokens.end()?;
+    tokens.pass_line_end()?;
     Ok(Command::Proof(source))
 }
 
@@ -193,7 +196,7 @@ fn shipout(tokens: &mut Tokens<'_>) -> Result<Command, TextFault>
     let dx = tokens.int()?;
     tokens.pass_word(Word::Width)?;
     let width = tokens.int()?;
-    tokens.end()?;
+    tokens.pass_line_end()?;
     Ok(Command::Ship(source, code.value(), dx.value(), width.value()))
 }
 
@@ -203,7 +206,7 @@ fn turning_check(tokens: &mut Tokens<'_>) -> Result<Command, TextFault>
 {
     tokens.pass_mark(Mark::Becomes)?;
     let number = tokens.int()?;
-    tokens.end()?;
+    tokens.pass_line_end()?;
     Ok(Command::Turning(check(number.value())))
 }
 
@@ -211,7 +214,7 @@ fn turning_check(tokens: &mut Tokens<'_>) -> Result<Command, TextFault>
 fn publish(tokens: &mut Tokens<'_>) -> Result<Command, TextFault>
     ensures { AnswersLine (from (rests.line_end PublishAll) (ahead tokens.old)) result }
 {
-    tokens.end()?;
+    tokens.pass_line_end()?;
     Ok(Command::Publish)
 }
 
@@ -231,7 +234,7 @@ fn assignment(tokens: &mut Tokens<'_>, name: Name) -> Result<Command, TextFault>
 fn clear(tokens: &mut Tokens<'_>, name: Name) -> Result<Command, TextFault>
     ensures { AnswersLine (from (rests.line_end (Clear name)) (ahead tokens.old)) result }
 {
-    tokens.end()?;
+    tokens.pass_line_end()?;
     Ok(Command::Clear(name))
 }
 
@@ -265,45 +268,51 @@ fn scale_or_turn(tokens: &mut Tokens<'_>, name: Name) -> Result<Command, TextFau
 
 /// The line after a name, `:=`, the same name and `scaled`.
 fn scale_both(tokens: &mut Tokens<'_>, name: Name) -> Result<Command, TextFault>
-    ensures { AnswersLine (from (rests.int_then_end (λ n. Move name (Scaled n))) (ahead tokens.old)) result }
+    ensures { AnswersLine (from (rests.int_then_end (λ n. Move name (Scaled n))) (ahead tokens.old))
+        result }
 {
     let factor = tokens.int()?;
-    tokens.end()?;
+    tokens.pass_line_end()?;
     scale_command(name, factor.value(), factor.value())
 }
 
 /// The line after a name, `:=`, the same name and `xscaled`.
 fn scale_columns(tokens: &mut Tokens<'_>, name: Name) -> Result<Command, TextFault>
-    ensures { AnswersLine (from (rests.int_then_end (λ n. Move name (XScaled n))) (ahead tokens.old)) result }
+    ensures { AnswersLine (from (rests.int_then_end (λ n. Move name (XScaled n))) (ahead tokens.old))
+        result }
 {
     let factor = tokens.int()?;
-    tokens.end()?;
+    tokens.pass_line_end()?;
     scale_command(name, factor.value(), 1)
 }
 
 /// The line after a name, `:=`, the same name and `yscaled`.
 fn scale_rows(tokens: &mut Tokens<'_>, name: Name) -> Result<Command, TextFault>
-    ensures { AnswersLine (from (rests.int_then_end (λ n. Move name (YScaled n))) (ahead tokens.old)) result }
+    ensures { AnswersLine (from (rests.int_then_end (λ n. Move name (YScaled n))) (ahead tokens.old))
+        result }
 {
     let factor = tokens.int()?;
-    tokens.end()?;
+    tokens.pass_line_end()?;
     scale_command(name, 1, factor.value())
 }
 
 /// The line after a name, `:=`, the same name and `rotated`.
 fn turn(tokens: &mut Tokens<'_>, name: Name) -> Result<Command, TextFault>
-    ensures { AnswersLine (from (rests.int_then_end (λ n. Move name (Rotated n))) (ahead tokens.old)) result }
+    ensures { AnswersLine (from (rests.int_then_end (λ n. Move name (Rotated n))) (ahead tokens.old))
+        result }
 {
     let angle = tokens.int()?;
-    tokens.end()?;
+    tokens.pass_line_end()?;
     turn_command(name, angle)
 }
 
 /// The line after a name, `:=`, the same name and `shifted`.
 fn shift(tokens: &mut Tokens<'_>, name: Name) -> Result<Command, TextFault>
-    ensures { AnswersLine (from (rests.pair (λ by. rests.line_end (Move name (Shifted by)))) (ahead tokens.old)) result }
+    ensures { AnswersLine
+        (from (rests.pair (λ by. rests.line_end (Move name (Shifted by)))) (ahead tokens.old))
+        result }
 {
     let by = tokens.pair()?.value();
-    tokens.end()?;
+    tokens.pass_line_end()?;
     Ok(Command::Shift(name, by.x, by.y))
 }

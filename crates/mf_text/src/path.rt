@@ -33,7 +33,8 @@ impl Path {
 
     /// Adds a point after the others.
     pub fn push(&mut self, point: Point)
-        ensures { (before : List points.Point) → HasPoints self.old before → HasPoints self.new (before ++ point ∷ []) }
+        ensures { (before : List points.Point) → HasPoints self.old before
+            → HasPoints self.new (before ++ point ∷ []) }
     {
         if self.corners > MAX_POINTS {
             return;
@@ -47,7 +48,8 @@ impl Path {
     /// The points: all of them, unless there are more than a cycle may have. Refused with `OutOfMemory` where an allocation
     /// failed for one of them.
     pub fn points(self) -> Result<Vec<Point>, OutOfMemory>
-        ensures points { (all : List points.Point) → HasPoints self all → self.corners ≤ most_points → IfOk result (λ points. points.items ≡ all) }
+        ensures points { (all : List points.Point) → HasPoints self all → self.corners ≤ most_points
+            → IfOk result (λ points. points.items ≡ all) }
         ensures refused { IsErr result → IsTrue self.is_out_of_memory }
     {
         if self.is_out_of_memory {

@@ -1,5 +1,6 @@
-//! Phrases of lines, each passed by a function of its own. A fault is the column, in bytes from 1, at which the line goes
-//! wrong.
+//! Phrases of lines, each passed (consumed) by a function of its own. `takes_..` passes a token only where it comes next, and says whether
+//! it did; `pass_..` passes the token that must come next; the others pass a phrase, and return its value if it has one. A fault is the
+//! column, in bytes from 1, at which the line goes wrong.
 ghost use Rattle.std.specs.Prelude.{◌≡◌, Ok, IfOk};
 ghost use Rattle.mf_text.specs.Grammar.{Line, name_token};
 ghost use Rattle.mf_text.specs.Reads.{Closes, LeavesNoMore, PassesPhrase, PassesPath, TakesValue, ahead, then_end, then_from, then_value};
@@ -22,7 +23,9 @@ impl Tokens<'_> {
     /// Passes this word, which must come next.
     #[tactic(auto, using(crate::proofs::Reading::from_one, crate::proofs::Reading::from_one_none))]
     pub fn pass_word(&mut self, word: Word) -> Result<(), SyntaxFault>
-        ensures { (this : Rest) → from (rests.One (token.Word word) this) (ahead self.old) ≡ then_from (λ _. this) (ahead self.new) result }
+        ensures { (this : Rest)
+            → from (rests.One (token.Word word) this) (ahead self.old)
+            ≡ then_from (λ _. this) (ahead self.new) result }
     {
         if self.takes_word(word) {
             return Ok(());
@@ -34,7 +37,9 @@ impl Tokens<'_> {
     #[inline(always)]
     #[tactic(auto, using(crate::proofs::Reading::from_one, crate::proofs::Reading::from_one_none))]
     pub fn pass_mark(&mut self, mark: Mark) -> Result<(), SyntaxFault>
-        ensures read { (this : Rest) → from (rests.One (token.Mark mark) this) (ahead self.old) ≡ then_from (λ _. this) (ahead self.new) result }
+        ensures read { (this : Rest)
+            → from (rests.One (token.Mark mark) this) (ahead self.old)
+            ≡ then_from (λ _. this) (ahead self.new) result }
         ensures within { IfOk result (λ _. LeavesNoMore self.new self.old) }
     {
         if self.takes_mark(mark) {
@@ -48,7 +53,9 @@ impl Tokens<'_> {
     #[inline(always)]
     pub fn takes_name(&mut self) -> Option<Name>
         ensures took { TakesValue name_in self.old self.new result }
-        ensures read { (this : Name → Rest) → (other : Rest) → from (OrTake Names this other) (ahead self.old) ≡ then_value this other (ahead self.new) result }
+        ensures read { (this : Name → Rest) → (other : Rest)
+            → from (OrTake Names this other) (ahead self.old)
+            ≡ then_value this other (ahead self.new) result }
     {
         if let Some(letter) = self.takes_letter() {
             return Some(Name::Register(letter));
@@ -74,7 +81,9 @@ impl Tokens<'_> {
     /// Passes this name, which must come next.
     #[tactic(auto, using(crate::proofs::Reading::takes_same_name))]
     pub fn pass_name(&mut self, name: Name) -> Result<(), SyntaxFault>
-        ensures { (this : Rest) → from (rests.One (name_token name) this) (ahead self.old) ≡ then_from (λ _. this) (ahead self.new) result }
+        ensures { (this : Rest)
+            → from (rests.One (name_token name) this) (ahead self.old)
+            ≡ then_from (λ _. this) (ahead self.new) result }
     {
         let mut after = *self;
         if after.takes_name() == Some(name) {
@@ -234,9 +243,9 @@ impl Tokens<'_> {
         Ok(None)
     }
 
-    /// Passes the end of a line after its command: `;`, or nothing.
+    /// Passes the end of a line after its command: `;`, if it is there, after which no token may be left.
     #[inline(always)]
-    pub fn end(&mut self) -> Result<(), SyntaxFault>
+    pub fn pass_line_end(&mut self) -> Result<(), SyntaxFault>
         ensures { Closes self.old result }
     {
         self.takes_mark(Mark::Semicolon);

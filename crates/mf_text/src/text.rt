@@ -44,7 +44,7 @@ fn are_text(bytes: &[u8]) -> bool
     text
 }
 
-/// Whether a byte is text: a tab or printed ASCII.
+/// Whether a byte is text: a tab or printable ASCII.
 fn is_text_byte(byte: u8) -> bool
     ensures { result ≡ is_text_byte byte }
 {

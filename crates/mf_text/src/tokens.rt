@@ -1,5 +1,5 @@
-//! The tokens of a line, passed one after another where they are in its bytes. No token is made: the reader asks for the one
-//! that may come next.
+//! The tokens of a line, read where they are in its bytes. No token is made: the reader asks for the one that may come next. To pass
+//! a token is to consume it.
 ghost use Rattle.std.specs.Prelude.{◌≡◌, ◌+◌, ◌<◌, ◌^◌, length};
 ghost use Rattle.mf_text.specs.Token as token;
 ghost use Rattle.mf_text.specs.Token.{column_of, letter_in, value_in};
@@ -58,8 +58,8 @@ impl<'a> Tokens<'a> {
         }
     }
 
-    /// Passes the blanks at the front, where mostly there are none, as before the tokens of a contour. They are counted out of
-    /// line: where they are not, the code after it reckons places by what it has passed.
+    /// Passes the blanks at the front, where mostly there are none, as before the tokens of a contour. They are counted by a function
+    /// that is not inlined: if it were, the code after it would compute each position from the number of blanks passed.
     #[inline(always)]
     fn skip_rare_blanks(&mut self)
         ensures same { remaining_tokens self.new ≡ remaining_tokens self.old }
@@ -87,7 +87,9 @@ impl<'a> Tokens<'a> {
     /// is searched for the word that is there: only a few words may come at any place.
     #[tactic(auto, using(crate::proofs::FirstTokens::takes_this))]
     pub fn takes_word(&mut self, word: Word) -> bool
-        ensures read { (this other : Rest) → from (Or (token.Word word) this other) (ahead self.old) ≡ from (if result then this else other) (ahead self.new) }
+        ensures read { (this other : Rest)
+            → from (Or (token.Word word) this other) (ahead self.old)
+            ≡ from (if result then this else other) (ahead self.new) }
         ensures took { TakesToken (token.Word word) self.old self.new result }
     {
         let mut start = *self;
@@ -106,10 +108,13 @@ impl<'a> Tokens<'a> {
     #[inline(always)]
     #[tactic(auto, using(crate::proofs::FirstTokens::takes_this, crate::proofs::FirstTokens::leaves_fewer))]
     pub fn takes_mark(&mut self, mark: Mark) -> bool
-        ensures read { (this other : Rest) → from (Or (token.Mark mark) this other) (ahead self.old) ≡ from (if result then this else other) (ahead self.new) }
+        ensures read { (this other : Rest)
+            → from (Or (token.Mark mark) this other) (ahead self.old)
+            ≡ from (if result then this else other) (ahead self.new) }
         ensures took { TakesToken (token.Mark mark) self.old self.new result }
         ensures within { LeavesNoMore self.new self.old }
-        ensures fewer { result ≡ true → length (remaining_tokens self.new) < length (remaining_tokens self.old) }
+        ensures fewer { result ≡ true
+            → length (remaining_tokens self.new) < length (remaining_tokens self.old) }
     {
         let mut start = *self;
         start.skip_rare_blanks();
@@ -166,7 +171,8 @@ impl<'a> Tokens<'a> {
         requires { IsClear self.now.rest.now }
         ensures ended { result ≡ true → remaining_tokens self.now ≡ [] }
         ensures more { result ≡ false → remaining_tokens self.now ≢ [] }
-        ensures column { result ≡ false → (past : ℕ) → column_of (remaining_tokens self.now) past ≡ self.now.column }
+        ensures column { result ≡ false → (past : ℕ)
+            → column_of (remaining_tokens self.now) past ≡ self.now.column }
     {
         match self.rest {
             [] => true,

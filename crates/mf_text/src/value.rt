@@ -18,7 +18,8 @@ use mf_ops::{Cull, Quarter, Scale, Weight};
 /// point, with another fault of the points, or with `BadWeight`.
 #[tactic(auto, using(std::proofs::lemmas::Int::ints, crate::proofs::Reading::many_points))]
 pub fn contour_command(name: Name, path: Path, weight: Option<Int>) -> Result<Command, TextFault>
-    ensures { (tree : grammar.Path) → HasPoints path (path_value tree) → IsAnswerOf (grammar.AddContour name tree weight) result }
+    ensures { (tree : grammar.Path) → HasPoints path (path_value tree)
+        → IsAnswerOf (grammar.AddContour name tree weight) result }
 {
     if path.corners > MAX_POINTS {
         return Err(TextFault::Cycle(CycleFault::TooManyPoints));
@@ -32,7 +33,8 @@ fn contour_through(
     points: Vec<Point>,
     weight: Option<Int>,
 ) -> Result<Command, TextFault>
-    ensures answer { (tree : grammar.Path) → points.items ≡ path_value tree → IsAnswerOf (grammar.AddContour name tree weight) result }
+    ensures answer { (tree : grammar.Path) → points.items ≡ path_value tree
+        → IsAnswerOf (grammar.AddContour name tree weight) result }
     ensures fault { IfErr result (λ fault. fault ≢ TextFault.OutOfMemory) }
 {
     let cycle = match Cycle::new(points) {
@@ -44,7 +46,8 @@ fn contour_through(
 
 /// The weight of a contour or a cull, which is 1 where the line gives none. Refused with `BadWeight`.
 fn lawful_weight(weight: Option<Int>) -> Result<Weight, TextFault>
-    ensures given { IfOk result (λ found. (found ≡ weight_value weight) × IsContourWeight (weight_value weight)) }
+    ensures given { IfOk result (λ found.
+        (found ≡ weight_value weight) × IsContourWeight (weight_value weight)) }
     ensures refused { IfErr result (IsUnlawful (AWeight (weight_value weight))) }
 {
     let weight = match weight {

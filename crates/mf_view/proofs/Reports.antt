@@ -3,7 +3,7 @@ use Rattle.std.proofs.Common.{◌≡◌, ◌⊎◌, ◌∙◌, ℕ, inl, inr, Li
 use Rattle.clap.specs.Words.{Text}
 use Rattle.mf_base.specs.Messages.{GetsFront}
 use Rattle.mf_desk.specs.Streams.{Streams, streams}
-use Rattle.mf_session.specs.States.{limits_of, most_bytes, most_operations}
+use Rattle.mf_desk_session.specs.States.{limits_of, most_bytes, most_operations}
 use Rattle.mf_view.specs.Endings.{EndsShow, ReportsFault, transcript_in}
 use Rattle.mf_view.specs.Messages.{message_of, status_of}
 use Rattle.mf_view.specs.declared.fault.ProgramFault.{ProgramFault}

@@ -21,11 +21,11 @@ use Rattle.mf_desk.specs.declared.performer.Performer.{Performer}
 use Rattle.mf_desk.specs.declared.settings.Settings.{Settings}
 use Rattle.mf_gf.specs.Keeping.{Keeps, max_bytes_of}
 use Rattle.mf_live.specs.Writers.{ended_published_list}
-use Rattle.mf_session.proofs.OneTranscript.{performs_once}
-use Rattle.mf_session.specs.Endings.{complete_list}
-use Rattle.mf_session.specs.Sessions.{limits}
-use Rattle.mf_session.specs.States.{Answer, Limits, start}
-use Rattle.mf_session.specs.Transcript.{IsTextOf}
+use Rattle.mf_desk_session.proofs.OneTranscript.{performs_once}
+use Rattle.mf_desk_session.specs.Endings.{complete_list}
+use Rattle.mf_desk_session.specs.Sessions.{limits}
+use Rattle.mf_desk_session.specs.States.{Answer, Limits, start}
+use Rattle.mf_desk_session.specs.Transcript.{IsTextOf}
 use Rattle.mf_view.specs.Drawings.{DrawsMore, HasDrawn, ShowsLast}
 use Rattle.mf_view.specs.Easels.{Manner}
 use Rattle.mf_view.specs.Endings.{WithTranscript}

@@ -1,11 +1,11 @@
 -- What easels look at, and how they draw it.
 use Rattle.std.specs.Prelude.{◌≡◌, ℕ, List, [], ◌++◌, None, Option, Some, codes, decimal}
 use Rattle.logbook.specs.Pages.{Book}
-use Rattle.mf_frame.specs.Canvases.{Size, frame_lines}
-use Rattle.mf_frame.specs.Frames.{frame_text}
-use Rattle.mf_frame.specs.Tiles.{escape}
-use Rattle.mf_frame.specs.declared.tile.Style.{Style}
-use Rattle.mf_frame.specs.declared.tile.Style.TheVariants.{Colored, Plain}
+use Rattle.mf_view_frame.specs.Canvases.{Size, frame_lines}
+use Rattle.mf_view_frame.specs.Frames.{frame_text}
+use Rattle.mf_view_frame.specs.Tiles.{escape}
+use Rattle.mf_view_frame.specs.declared.tile.Style.{Style}
+use Rattle.mf_view_frame.specs.declared.tile.Style.TheVariants.{Colored, Plain}
 use Rattle.mf_live.specs.Entries.{Entry, picture_at, revision_at}
 use Rattle.mf_live.specs.Viewers as viewers
 use Rattle.mf_view.specs.declared.easel.Easel.{Easel}

@@ -6,10 +6,10 @@ use Rattle.mf_base.specs.Messages.{GetsFront, Receipt}
 use Rattle.mf_desk.specs.Streams.{Passes, Streams, streams}
 use Rattle.mf_desk.specs.declared.outcome.Outcome.{Outcome}
 use Rattle.mf_desk.specs.declared.settings.Settings.{Settings}
-use Rattle.mf_frame.specs.Canvases.{size_in}
-use Rattle.mf_frame.specs.declared.tile.Style.{Style}
-use Rattle.mf_frame.specs.declared.tile.Style.TheVariants.{Colored, Plain}
-use Rattle.mf_session.specs.States.{limits_of, most_bytes, most_operations}
+use Rattle.mf_view_frame.specs.Canvases.{size_in}
+use Rattle.mf_view_frame.specs.declared.tile.Style.{Style}
+use Rattle.mf_view_frame.specs.declared.tile.Style.TheVariants.{Colored, Plain}
+use Rattle.mf_desk_session.specs.States.{limits_of, most_bytes, most_operations}
 use Rattle.mf_view.specs.Easels.{manner}
 use Rattle.mf_view.specs.Fonts.{font_words}
 use Rattle.mf_view.specs.Messages.{message_of, status_of}

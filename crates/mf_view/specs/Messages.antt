@@ -1,7 +1,7 @@
 -- The messages and the exit statuses of the program.
 use Rattle.std.specs.Prelude.{if◌then◌else◌, ℕ, List, None, Some, codes}
 use Rattle.mf_desk.specs.Names.{is_of_stream, run_fault_text}
-use Rattle.mf_options.specs.Messages.{fault_message}
+use Rattle.mf_cli_options.specs.Messages.{fault_message}
 use Rattle.mf_view.specs.declared.fault.ProgramFault.{ProgramFault}
 use Rattle.mf_view.specs.declared.fault.ProgramFault.TheVariants.{Run, TooSmall, ImageTooLarge, PlateFault, NoCharacters}
 

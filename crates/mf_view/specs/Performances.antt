@@ -10,8 +10,8 @@ use Rattle.mf_desk.specs.declared.observer.Stopped.{Stopped}
 use Rattle.mf_desk.specs.declared.observer.Stopped.TheVariants as stopped
 use Rattle.mf_desk.specs.declared.outcome.Outcome.{Outcome}
 use Rattle.mf_desk.specs.declared.settings.Settings.{Settings}
-use Rattle.mf_session.specs.Endings.{complete_list}
-use Rattle.mf_session.specs.States.{Limits}
+use Rattle.mf_desk_session.specs.Endings.{complete_list}
+use Rattle.mf_desk_session.specs.States.{Limits}
 use Rattle.mf_view.specs.Drawings.{ShowsLast}
 use Rattle.mf_view.specs.Easels.{Manner}
 use Rattle.mf_view.specs.declared.fault.ProgramFault.{ProgramFault}

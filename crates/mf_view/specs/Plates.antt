@@ -1,7 +1,7 @@
 -- The image files of a picture.
 use Rattle.std.specs.Prelude.{◌≡◌, ◌-◌, ◌++◌, Bool, true, false, ℕ, List, Option, None, Some, codes, decimal, length, replicate, string_bytes}
-use Rattle.mf_image.specs.Pgm.{pgm_bytes}
-use Rattle.mf_image.specs.Svg.{svg_text}
+use Rattle.mf_view_image.specs.Pgm.{pgm_bytes}
+use Rattle.mf_view_image.specs.Svg.{svg_text}
 use Rattle.mf_live.specs.Entries.{Entry, picture_at, revision_at}
 use Rattle.mf_rows.specs.Dots.{Dot}
 use Rattle.mf_view.specs.declared.plate.Image.{Image}

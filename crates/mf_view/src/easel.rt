@@ -13,8 +13,8 @@ use crate::pace::Pace;
 use itoa::Buffer;
 use mf_base::{OutOfMemory, write_counted};
 use mf_desk::RunFault;
-use mf_frame::{Canvas, Style, draw};
 use mf_live::{Notice, Sheet, Viewer};
+use mf_view_frame::{Canvas, Style, draw};
 use std::alloc::Global;
 use std::io::Write;
 use std::sync::Wait;
@@ -58,14 +58,15 @@ impl Easel {
     ) -> Result<(), RunFault>
         ensures identity { identity self.new ≡ identity self.old }
         ensures manner { HasSameManner self.old self.new }
-        ensures drawn { OnOk result (DrawsMore self.old self.new (receipt_of W.contents screen.old screen.new)) }
+        ensures drawn { OnOk result
+            (DrawsMore self.old self.new (receipt_of W.contents screen.old screen.new)) }
     {
         for _ in rt.forever() {
             self.look(alloc, screen, pace)?;
             if ended.load(Ordering::SeqCst) {
                 return Ok(());
             }
-            pace.rest();
+            pace.wait_before_look();
         }
         unreachable!()
     }
@@ -81,7 +82,8 @@ impl Easel {
     ) -> Result<(), RunFault>
         ensures identity { identity self.new ≡ identity self.old }
         ensures manner { HasSameManner self.old self.new }
-        ensures drawn { OnOk result (DrawsMore self.old self.new (receipt_of W.contents screen.old screen.new)) }
+        ensures drawn { OnOk result
+            (DrawsMore self.old self.new (receipt_of W.contents screen.old screen.new)) }
     {
         let sheet = self.viewer.sheet(alloc)?;
         if let Some(revision) = self.show(alloc, screen, &sheet)? {
@@ -107,7 +109,7 @@ impl Easel {
         Ok(())
     }
 
-    /// Draws a sheet of the last look, unless its revision is the one drawn last. Answers the revision that was drawn.
+    /// Draws a sheet of the last look, unless its revision is the one drawn last. Returns the revision that was drawn.
     #[tactic(auto, using(crate::proofs::Drawn::HasDrawn_more))]
     fn show<W: Write>(
         &mut self,
@@ -118,8 +120,10 @@ impl Easel {
         requires { sheet_list sheet.now ≡ looked_at_list self.old }
         ensures viewer { self.new.viewer ≡ self.old.viewer }
         ensures manner { HasSameManner self.old self.new }
-        ensures last { OnOk result (revision_of self.new ≡ Some (revision_at (looked_at_list self.new))) }
-        ensures drawn { OnOk result (DrawsMore self.old self.new (receipt_of W.contents screen.old screen.new)) }
+        ensures last { OnOk result
+            (revision_of self.new ≡ Some (revision_at (looked_at_list self.new))) }
+        ensures drawn { OnOk result
+            (DrawsMore self.old self.new (receipt_of W.contents screen.old screen.new)) }
     {
         let revision = sheet.revision();
         if self.drawn == Some(revision) {
@@ -133,7 +137,9 @@ impl Easel {
 
     /// The text that draws a sheet: over the frame before, if there is one.
     fn next_text(&self, alloc: Global, sheet: &Sheet) -> Result<Vec<u8>, OutOfMemory>
-        ensures { IfOk result (λ text. text.items ≡ drawing (manner_of self.now) (revision_of self.now) (sheet_list sheet.now)) }
+        ensures { IfOk result (λ text.
+            text.items
+            ≡ drawing (manner_of self.now) (revision_of self.now) (sheet_list sheet.now)) }
     {
         let mut text = self.cursor_to_last_frame(alloc)?;
         let frame = draw(
@@ -149,7 +155,9 @@ impl Easel {
 
     /// What moves the cursor up to the first line of the frame before.
     fn cursor_to_last_frame(&self, alloc: Global) -> Result<Vec<u8>, OutOfMemory>
-        ensures { IfOk result (λ text. text.items ≡ cursor_to_last_frame self.now.style self.now.canvas (revision_of self.now)) }
+        ensures { IfOk result (λ text.
+            text.items
+            ≡ cursor_to_last_frame self.now.style self.now.canvas (revision_of self.now)) }
     {
         let mut text = Vec::new(alloc);
         if let (Style::Colored, Some(_)) = (self.style, self.drawn) {

@@ -4,7 +4,7 @@ ghost use Rattle.mf_desk.specs.declared.fault.RunFault.TheVariants.{OutOfMemory 
 ghost use Rattle.mf_view.specs.declared.fault.ProgramFault.TheVariants.{Run as RunEnded, TooSmall as NoRoom};
 
 use mf_desk::{RunFault, Stopped};
-use mf_frame::TooSmall;
+use mf_view_frame::TooSmall;
 use std::alloc::AllocError;
 
 /// Why the program ends with a fault, other than that its words are refused. What was written before it stays.

@@ -24,7 +24,7 @@ pub fn font_words(design_size: u32, resolution: u32) -> FontWords
     }
 }
 
-/// The pixels in a point at this resolution, in 1/65536, rounded to the nearest integer.
+/// The pixels per point at this resolution, in units of 1/65536 pixel, rounded to the nearest integer.
 fn pixels_per_point(resolution: u32) -> i32
     requires { resolution ≤ greatest_resolution }
     ensures { result ≡ pos (pixels_per_point resolution) }

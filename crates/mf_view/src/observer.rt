@@ -1,7 +1,7 @@
 //! The observer of a performance: the plates of what is published, and the pace.
 ghost use Rattle.std.specs.Prelude.{IfOk};
-ghost use Rattle.mf_session.specs.Sessions.{StandsFor};
-ghost use Rattle.mf_session.specs.States.{State};
+ghost use Rattle.mf_desk_session.specs.Sessions.{StandsFor};
+ghost use Rattle.mf_desk_session.specs.States.{State};
 ghost use Rattle.mf_view.specs.Plates.{IsPlateIfAsked};
 
 use crate::fault::ProgramFault;
@@ -59,7 +59,9 @@ fn plate(
     plates: &Option<Plates>,
     session: &Session,
 ) -> Result<Option<Plate>, ProgramFault>
-    ensures { IfOk result (λ made. (s : State) → StandsFor session.now s → IsPlateIfAsked plates.now s.pictures.accepted made) }
+    ensures { IfOk result (λ made.
+        (s : State) → StandsFor session.now s
+        → IsPlateIfAsked plates.now s.pictures.accepted made) }
 {
     let Some(plates) = plates else {
         return Ok(None);

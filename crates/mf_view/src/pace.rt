@@ -3,7 +3,7 @@ use std::thread::sleep;
 use std::time::{Clock, Duration};
 
 /// Milliseconds between two looks, so that there are some thirty looks a second.
-const REST: u64 = 33;
+const LOOK_INTERVAL: u64 = 33;
 
 /// Learns of the publishes and the frames of a performance, and waits.
 pub trait Pace {
@@ -15,7 +15,7 @@ pub trait Pace {
     fn note_frame(&self, revision: u32);
 
     /// Waits, on the viewer's side, before the next look.
-    fn rest(&self);
+    fn wait_before_look(&self);
 }
 
 /// The pace of the program, by the clock.
@@ -33,7 +33,7 @@ impl<C: Clock> Pace for Timed<'_, C> {
 
     fn note_frame(&self, _revision: u32) {}
 
-    fn rest(&self) {
-        sleep(self.clock, Duration::from_millis(REST));
+    fn wait_before_look(&self) {
+        sleep(self.clock, Duration::from_millis(LOOK_INTERVAL));
     }
 }

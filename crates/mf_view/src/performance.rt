@@ -7,10 +7,10 @@ ghost use Rattle.mf_desk.specs.EndedRuns.{EndsWith};
 ghost use Rattle.mf_desk.specs.Faults.{Stops};
 ghost use Rattle.mf_desk.specs.Performances.{run_limits};
 ghost use Rattle.mf_desk.specs.Progress.{HasReadNothing, ReadsThrough};
-ghost use Rattle.mf_desk.specs.Streams.{Passes, Streams, streams};
+ghost use Rattle.mf_desk.specs.Streams.{Passes, Streams, streams_of};
 ghost use Rattle.mf_live.specs.Writers.{ended_identity, ended_published_list};
-ghost use Rattle.mf_session.specs.Sessions as sessions;
-ghost use Rattle.mf_session.specs.States.{Limits};
+ghost use Rattle.mf_desk_session.specs.Sessions as sessions;
+ghost use Rattle.mf_desk_session.specs.States.{Limits};
 ghost use Rattle.mf_view.specs.Drawings.{DrawsMore, HasDrawn, ShowsLast};
 ghost use Rattle.mf_view.specs.Easels.{HasSameManner, identity, manner, manner_of};
 ghost use Rattle.mf_view.specs.Performances.{Shows, TellsOfShow};
@@ -21,7 +21,7 @@ use crate::observer::{PlateWriter, write_plate};
 use crate::pace::Pace;
 use crate::plate::Plates;
 use mf_desk::{EndedRun, Outcome, Progress, RunFault, Settings, Stopped};
-use mf_frame::{Canvas, Style};
+use mf_view_frame::{Canvas, Style};
 use std::alloc::Global;
 use std::io::{Read, Write};
 use std::rt::Files;
@@ -48,7 +48,7 @@ struct Sides {
 
 /// Performs the script that `reader` gives, line by line, while a viewer draws its picture on `screen` in a thread of its own.
 /// Writes the transcript to `transcript`, and the plates where `showing` asks for them. The blank picture is drawn before the
-/// script is read, and the last picture after it has ended, unless that is the one drawn last. Answers with the font file of the
+/// script is read, and the last picture after it has ended, unless that is the one drawn last. Returns the font file of the
 /// shipped characters. A fault of the screen ends the drawing, and not the script.
 ///
 /// Refused with the fault of the script or of its end, else of the drawing, else of the last look, else of the font file; with
@@ -72,10 +72,12 @@ pub fn perform<
     settings: &Settings,
 ) -> Result<Outcome, ProgramFault>
     ensures shown { IfOk result (λ outcome.
-        Shows settings.now (manner showing.style showing.canvas) (receipt_of W.contents screen.old screen.new) outcome
-        (streams (R.remaining reader.old) (R.remaining reader.new) (T.contents transcript.old) (T.contents transcript.new))) }
+        Shows settings.now (manner showing.style showing.canvas)
+        (receipt_of W.contents screen.old screen.new) outcome
+        (streams_of R.remaining reader.old reader.new T.contents transcript.old transcript.new)) }
     ensures fault { IfErr result (λ fault.
-        Passes (streams (R.remaining reader.old) (R.remaining reader.new) (T.contents transcript.old) (T.contents transcript.new))
+        Passes
+        (streams_of R.remaining reader.old reader.new T.contents transcript.old transcript.new)
         (TellsOfShow (run_limits settings.now) fault)) }
 {
     let (progress, mut desk) = Progress::new(rt, alloc, settings, 1)?;
@@ -118,9 +120,10 @@ fn show<S: Wait + Threads + Files + Sync, R: Read, W: Write + Send, T: Write, P:
     requires blank { (held : Option (List ℕ)) → HasDrawn easel (receipt held held) }
     ensures shown { IfOk result (λ outcome.
         Shows settings.now (manner_of easel) (receipt_of W.contents screen.old screen.new) outcome
-        (streams (R.remaining reader.old) (R.remaining reader.new) (T.contents transcript.old) (T.contents transcript.new))) }
+        (streams_of R.remaining reader.old reader.new T.contents transcript.old transcript.new)) }
     ensures fault { IfErr result (λ fault.
-        Passes (streams (R.remaining reader.old) (R.remaining reader.new) (T.contents transcript.old) (T.contents transcript.new))
+        Passes
+        (streams_of R.remaining reader.old reader.new T.contents transcript.old transcript.new)
         (TellsOfShow (run_limits settings.now) fault)) }
 {
     let mut progress = progress;
@@ -170,14 +173,21 @@ fn perform_beside<
     requires { HasReadNothing progress.old }
     ensures viewer { identity easel.new ≡ identity easel.old }
     ensures manner { HasSameManner easel.old easel.new }
-    ensures drawn { OnOk result.drawn (IsOk first × DrawsMore easel.old easel.new (receipt_of W.contents screen.old screen.new)) }
-    ensures identity { sessions.identity progress.new.performer.session ≡ sessions.identity progress.old.performer.session }
-    ensures limits { sessions.limits progress.new.performer.session ≡ sessions.limits progress.old.performer.session }
+    ensures drawn { OnOk result.drawn
+        (IsOk first × DrawsMore easel.old easel.new (receipt_of W.contents screen.old screen.new)) }
+    ensures identity { sessions.identity progress.new.performer.session
+        ≡ sessions.identity progress.old.performer.session }
+    ensures limits { sessions.limits progress.new.performer.session
+        ≡ sessions.limits progress.old.performer.session }
     ensures end { OnOk result.performed (IsAtEnd (R.remaining reader.new)) }
-    ensures through { OnOk result.performed (ReadsThrough (streams (R.remaining reader.old) (R.remaining reader.new)
-        (T.contents transcript.old) (T.contents transcript.new)) progress.new.performer) }
-    ensures stopped { IfErr result.performed (λ stop. Passes (streams (R.remaining reader.old) (R.remaining reader.new)
-        (T.contents transcript.old) (T.contents transcript.new)) (Stops (sessions.limits progress.old.performer.session) stop)) }
+    ensures through { OnOk result.performed
+        (ReadsThrough
+        (streams_of R.remaining reader.old reader.new T.contents transcript.old transcript.new)
+        progress.new.performer) }
+    ensures stopped { IfErr result.performed (λ stop.
+        Passes
+        (streams_of R.remaining reader.old reader.new T.contents transcript.old transcript.new)
+        (Stops (sessions.limits progress.old.performer.session) stop)) }
 {
     let mut observer = PlateWriter {
         rt,
@@ -192,21 +202,30 @@ fn perform_beside<
             requires { IsSync S.row × IsSync P.row × IsSend W.row }
             ensures viewer { identity easel.exit.now ≡ identity easel.entry.now }
             ensures manner { HasSameManner easel.entry.now easel.exit.now }
-            ensures drawn { OnOk result (IsOk first
-                × DrawsMore easel.entry.now easel.exit.now (receipt_of W.contents screen.entry.now screen.exit.now)) }
+            ensures drawn { OnOk result
+                (IsOk first
+                × DrawsMore easel.entry.now easel.exit.now
+                (receipt_of W.contents screen.entry.now screen.exit.now)) }
         {
             first?;
             easel.draw_on(rt, alloc, screen, pace, &ended)
         },
         &mut || -> Result<(), Stopped<ProgramFault>>
             requires { HasReadNothing progress.now }
-            ensures identity { sessions.identity progress.exit.now.performer.session ≡ sessions.identity progress.entry.now.performer.session }
-            ensures limits { sessions.limits progress.exit.now.performer.session ≡ sessions.limits progress.entry.now.performer.session }
+            ensures identity { sessions.identity progress.exit.now.performer.session
+                ≡ sessions.identity progress.entry.now.performer.session }
+            ensures limits { sessions.limits progress.exit.now.performer.session
+                ≡ sessions.limits progress.entry.now.performer.session }
             ensures end { OnOk result (IsAtEnd (R.remaining reader.exit.now)) }
-            ensures through { OnOk result (ReadsThrough (streams (R.remaining reader.entry.now) (R.remaining reader.exit.now)
-                (T.contents transcript.entry.now) (T.contents transcript.exit.now)) progress.exit.now.performer) }
-            ensures stopped { IfErr result (λ stop. Passes (streams (R.remaining reader.entry.now) (R.remaining reader.exit.now)
-                (T.contents transcript.entry.now) (T.contents transcript.exit.now)) (Stops (sessions.limits progress.entry.now.performer.session) stop)) }
+            ensures through { OnOk result
+                (ReadsThrough
+                (streams_of R.remaining reader.entry.now reader.exit.now T.contents
+                transcript.entry.now transcript.exit.now) progress.exit.now.performer) }
+            ensures stopped { IfErr result (λ stop.
+                Passes
+                (streams_of R.remaining reader.entry.now reader.exit.now T.contents
+                transcript.entry.now transcript.exit.now)
+                (Stops (sessions.limits progress.entry.now.performer.session) stop)) }
         {
             let performed = progress.read_all(rt, alloc, reader, transcript, &mut observer);
             ended.store(true, Ordering::SeqCst);
@@ -231,10 +250,12 @@ fn end<S: Wait + Files, W: Write>(
     requires identity { identity easel ≡ sessions.identity progress.performer.session }
     requires limits { sessions.limits progress.performer.session ≡ run_limits settings.now }
     requires through { (s : Streams) × ReadsThrough s progress.performer }
-    ensures shown { IfOk result (λ outcome. (first : Option (List ℕ)) (s : Streams) → IsAtEnd s.left → ReadsThrough s progress.performer
+    ensures shown { IfOk result (λ outcome.
+        (first : Option (List ℕ)) (s : Streams) → IsAtEnd s.left → ReadsThrough s progress.performer
         → OnOk drawn (HasDrawn easel (receipt first (W.contents screen.old)))
         → Shows settings.now (manner_of easel) (receipt first (W.contents screen.new)) outcome s) }
-    ensures fault { IfErr result (λ fault. (s : Streams) → IsAtEnd s.left → ReadsThrough s progress.performer
+    ensures fault { IfErr result (λ fault.
+        (s : Streams) → IsAtEnd s.left → ReadsThrough s progress.performer
         → Passes s (TellsOfShow (run_limits settings.now) fault)) }
 {
     if let Err(fault) = write_plate(rt, alloc, plates, progress.session()) {
@@ -260,9 +281,13 @@ fn show_last<W: Write>(
     drawn: Result<(), RunFault>,
 ) -> Result<(), RunFault>
     requires identity { identity easel ≡ ended_identity run.old.ended }
-    ensures over { (limits : Limits) (s : Streams) → EndsWith limits 0 s run.old → EndsWith limits 0 s run.new }
-    ensures shown { OnOk result ((first : Option (List ℕ)) → OnOk drawn (HasDrawn easel (receipt first (W.contents screen.old)))
-        → ShowsLast (manner_of easel) (ended_published_list run.new.ended) (receipt first (W.contents screen.new))) }
+    ensures over { (limits : Limits) (s : Streams) → EndsWith limits 0 s run.old
+        → EndsWith limits 0 s run.new }
+    ensures shown { OnOk result
+        ((first : Option (List ℕ))
+        → OnOk drawn (HasDrawn easel (receipt first (W.contents screen.old)))
+        → ShowsLast (manner_of easel) (ended_published_list run.new.ended)
+        (receipt first (W.contents screen.new))) }
 {
     drawn?;
     let mut easel = easel;

@@ -1,14 +1,14 @@
 //! Plates: the image files of a picture.
 ghost use Rattle.std.specs.Io.KnownBytes.{Appends};
 ghost use Rattle.std.specs.Prelude.{◌≡◌, ℕ, Err, IfOk, IsOkAnd, OnOk, codes, string_bytes};
-ghost use Rattle.mf_image.specs.Boxes.{IsTooLargeForImage};
-ghost use Rattle.mf_image.specs.Pgm.{pgm_bytes};
+ghost use Rattle.mf_view_image.specs.Boxes.{IsTooLargeForImage};
+ghost use Rattle.mf_view_image.specs.Pgm.{pgm_bytes};
 ghost use Rattle.mf_view.specs.Plates.{IsIfAsked, IsImage, IsPlate, path_of, seven_digits};
 
 use crate::fault::ProgramFault;
 use mf_desk::RunFault;
-use mf_image::{ImageFault, pgm, svg};
 use mf_rows::Picture;
+use mf_view_image::{ImageFault, pgm, svg};
 use std::alloc::{AllocError, Global};
 use std::fs;
 use std::io::{self, Write};
@@ -65,7 +65,9 @@ impl Plates {
         revision: u32,
         picture: &Picture,
     ) -> Result<Option<Image>, ProgramFault>
-        ensures made { IfOk result (IsIfAsked self.now.pgm (IsImage self.now revision (codes "pgm") (pgm_bytes picture.now))) }
+        ensures made { IfOk result
+            (IsIfAsked self.now.pgm
+            (IsImage self.now revision (codes "pgm") (pgm_bytes picture.now))) }
         ensures too_large { (number : ℕ) → result ≡ Err (ProgramFault.ImageTooLarge number)
             → (number ≡ revision) × IsTooLargeForImage picture.now }
     {
@@ -84,7 +86,8 @@ impl Plates {
         extension: &str,
         made: Result<Vec<u8>, ImageFault>,
     ) -> Result<Image, ProgramFault>
-        ensures made { IfOk result (λ image. IsOkAnd made (λ bytes. IsImage self.now revision extension.now bytes.items image)) }
+        ensures made { IfOk result (λ image.
+            IsOkAnd made (λ bytes. IsImage self.now revision extension.now bytes.items image)) }
         ensures too_large { (number : ℕ) → result ≡ Err (ProgramFault.ImageTooLarge number)
             → (number ≡ revision) × (made ≡ Err ImageFault.ImageTooLarge) }
     {
@@ -101,7 +104,8 @@ impl Plates {
     /// The path of an image file of a revision: the folder, the revision in seven digits, zeros in front, and this extension.
     #[tactic(auto, using(crate::proofs::Images::parts_of_path))]
     fn path(&self, alloc: Global, revision: u32, extension: &str) -> Result<String, AllocError>
-        ensures { IfOk result (λ path. string_bytes path ≡ path_of (string_bytes self.now.folder) revision extension.now) }
+        ensures { IfOk result (λ path.
+            string_bytes path ≡ path_of (string_bytes self.now.folder) revision extension.now) }
     {
         let folder = self.folder.as_str();
         let revision = seven_digits(alloc, revision)?;
@@ -138,7 +142,8 @@ impl Image {
 
     /// Writes the bytes of the image.
     fn write_to<W: Write>(&self, out: &mut W) -> io::Result<()>
-        ensures { OnOk result (Appends (W.contents out.old) (W.contents out.new) self.now.bytes.items) }
+        ensures { OnOk result
+            (Appends (W.contents out.old) (W.contents out.new) self.now.bytes.items) }
     {
         out.write_all(self.bytes.as_slice())?;
         out.flush()

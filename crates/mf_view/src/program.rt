@@ -3,8 +3,8 @@ ghost use Rattle.std.specs.Io.KnownBytes.{Appends};
 ghost use Rattle.std.specs.Prelude.{◌≡◌, ◌⊎◌, IfErr, IfOk, OnOk, option_map, string_bytes};
 ghost use Rattle.mf_base.specs.Messages.{GetsFront, receipt_of};
 ghost use Rattle.mf_desk.specs.Performances.{run_limits};
-ghost use Rattle.mf_desk.specs.Streams.{Passes, streams};
-ghost use Rattle.mf_options.specs.Values.{texts_of};
+ghost use Rattle.mf_desk.specs.Streams.{Passes, streams_of};
+ghost use Rattle.mf_cli_options.specs.Values.{texts_of};
 ghost use Rattle.mf_view.specs.Easels.{manner};
 ghost use Rattle.mf_view.specs.Endings.{EndsShow, Fulfils, IsWatched, ReportsFault, WithTranscript, style_in, transcript_in};
 ghost use Rattle.mf_view.specs.Messages.{message_of, status_of, usage};
@@ -18,10 +18,12 @@ use crate::font::font_words;
 use crate::pace::{Pace, Timed};
 use crate::performance::{Showing, perform};
 use crate::plate::Plates;
+use mf_cli_options::{
+    BAD_WORDS, DONE, RESOURCE_FAULT, STREAM_FAULT, WordsFault, refuse_words, report_fault,
+};
 use mf_desk::{Outcome, RunFault, Settings, write_font};
-use mf_frame::{Canvas, Style};
-use mf_options::{BAD_WORDS, DONE, STREAM_FAULT, WANTING, WordsFault, refuse_words, report_fault};
-use mf_session::{MAX_BYTES, MAX_OPS};
+use mf_desk_session::{MAX_BYTES, MAX_OPS};
+use mf_view_frame::{Canvas, Style};
 use mf_view_words::{HELP, Request, USAGE, VERSION, Words, read_words};
 use std::alloc::Global;
 use std::fs;
@@ -36,7 +38,7 @@ pub const TOO_SMALL: u8 = 5;
 
 /// Performs the script that `reader` gives as the words ask for it, and draws its picture on `screen`. The transcript goes to
 /// `errors`, unless the words name a file for it. Then it writes the font file where the words ask for one. Where something went
-/// wrong, a message goes to `errors` last. Answers with the exit status. `words` are those of the command line, and the first is
+/// wrong, a message goes to `errors` last. Returns the exit status. `words` are those of the command line, and the first is
 /// the program's name. A fault of `errors` while a message is written changes no status.
 #[tactic(auto, using(crate::proofs::Reports::text_reports_its_fault))]
 pub fn program<S: Wait + Threads + Files + Clock + Sync, R: Read, W: Write + Send, E: Write>(
@@ -47,15 +49,20 @@ pub fn program<S: Wait + Threads + Files + Clock + Sync, R: Read, W: Write + Sen
     screen: &mut W,
     errors: &mut E,
 ) -> u8
-    ensures statuses { (result ≡ DONE) ⊎ (result ≡ BAD_WORDS) ⊎ (result ≡ STREAM_FAULT) ⊎ (result ≡ WANTING) ⊎ (result ≡ TOO_SMALL) }
+    ensures statuses { (result ≡ DONE) ⊎ (result ≡ BAD_WORDS) ⊎ (result ≡ STREAM_FAULT)
+        ⊎ (result ≡ RESOURCE_FAULT) ⊎ (result ≡ TOO_SMALL) }
     ensures bad_words { result ≡ BAD_WORDS → IsCommandLine (texts_of words) → ⊥ }
     ensures refused { (IsCommandLine (texts_of words) → ⊥)
-        → ((result ≡ BAD_WORDS) ⊎ (result ≡ WANTING)) × (reader.new ≡ reader.old) × (screen.new ≡ screen.old) }
-    ensures usage { result ≡ BAD_WORDS → GetsFront (E.contents errors.old) (E.contents errors.new) usage }
-    ensures done { result ≡ DONE → Fulfils (texts_of words) (receipt_of W.contents screen.old screen.new)
-        (streams (R.remaining reader.old) (R.remaining reader.new) (E.contents errors.old) (E.contents errors.new)) }
-    ensures fault { (result ≡ STREAM_FAULT) ⊎ (result ≡ WANTING) ⊎ (result ≡ TOO_SMALL) → ReportsFault (texts_of words) result
-        (streams (R.remaining reader.old) (R.remaining reader.new) (E.contents errors.old) (E.contents errors.new)) }
+        → ((result ≡ BAD_WORDS) ⊎ (result ≡ RESOURCE_FAULT)) × (reader.new ≡ reader.old)
+        × (screen.new ≡ screen.old) }
+    ensures usage { result ≡ BAD_WORDS
+        → GetsFront (E.contents errors.old) (E.contents errors.new) usage }
+    ensures done { result ≡ DONE
+        → Fulfils (texts_of words) (receipt_of W.contents screen.old screen.new)
+        (streams_of R.remaining reader.old reader.new E.contents errors.old errors.new) }
+    ensures fault { (result ≡ STREAM_FAULT) ⊎ (result ≡ RESOURCE_FAULT) ⊎ (result ≡ TOO_SMALL)
+        → ReportsFault (texts_of words) result
+        (streams_of R.remaining reader.old reader.new E.contents errors.old errors.new) }
 {
     let request = match read_words(alloc, words) {
         Ok(request) => request,
@@ -67,8 +74,8 @@ pub fn program<S: Wait + Threads + Files + Clock + Sync, R: Read, W: Write + Sen
             Ok(()) => DONE,
             Err(fault) => report(errors, fault),
         },
-        Request::Help => answer(screen, errors, HELP),
-        Request::Version => answer(screen, errors, VERSION),
+        Request::Help => print_text(screen, errors, HELP),
+        Request::Version => print_text(screen, errors, VERSION),
     }
 }
 
@@ -83,9 +90,9 @@ fn watch<S: Wait + Threads + Files + Clock + Sync, R: Read, W: Write + Send, E: 
 ) -> Result<(), ProgramFault>
     requires { IsWordsInRange words }
     ensures done { OnOk result (IsWatched words (receipt_of W.contents screen.old screen.new)
-        (streams (R.remaining reader.old) (R.remaining reader.new) (E.contents errors.old) (E.contents errors.new))) }
+        (streams_of R.remaining reader.old reader.new E.contents errors.old errors.new)) }
     ensures fault { IfErr result (λ fault. EndsShow (transcript_in words) fault
-        (streams (R.remaining reader.old) (R.remaining reader.new) (E.contents errors.old) (E.contents errors.new))) }
+        (streams_of R.remaining reader.old reader.new E.contents errors.old errors.new)) }
 {
     let Words {
         columns,
@@ -110,7 +117,7 @@ fn watch<S: Wait + Threads + Files + Clock + Sync, R: Read, W: Write + Send, E: 
         font: font_words(design_size, resolution),
     };
     let pace = Timed { clock: rt, pause };
-    let Outcome { gf: made, .. } = perform_into(
+    let Outcome { gf: made, .. } = perform_with_transcript(
         rt, alloc, reader, screen, errors, &pace, showing, &settings, transcript,
     )?;
     let Some(path) = gf else {
@@ -130,7 +137,7 @@ fn style(frames: bool) -> Style
 }
 
 /// Performs and draws the script, with the transcript in a file where a path is given, and else in the stream of messages.
-fn perform_into<
+fn perform_with_transcript<
     S: Wait + Threads + Files + Sync,
     R: Read,
     W: Write + Send,
@@ -147,11 +154,12 @@ fn perform_into<
     settings: &Settings,
     transcript: Option<String>,
 ) -> Result<Outcome, ProgramFault>
-    ensures done { IfOk result (λ outcome. WithTranscript (option_map string_bytes transcript)
-        (streams (R.remaining reader.old) (R.remaining reader.new) (E.contents errors.old) (E.contents errors.new))
+    ensures done { IfOk result (λ outcome.
+        WithTranscript (option_map string_bytes transcript)
+        (streams_of R.remaining reader.old reader.new E.contents errors.old errors.new)
         (Shows settings.now (manner showing.style showing.canvas) (receipt_of W.contents screen.old screen.new) outcome)) }
     ensures fault { IfErr result (λ fault. WithTranscript (option_map string_bytes transcript)
-        (streams (R.remaining reader.old) (R.remaining reader.new) (E.contents errors.old) (E.contents errors.new))
+        (streams_of R.remaining reader.old reader.new E.contents errors.old errors.new)
         (λ s. Passes s (TellsOfShow (run_limits settings.now) fault))) }
 {
     let Some(path) = transcript else {
@@ -165,9 +173,11 @@ fn perform_into<
     )
 }
 
-/// Writes a text that was asked for to the screen.
-fn answer<W: Write, E: Write>(screen: &mut W, errors: &mut E, text: &str) -> u8
-    ensures done { result ≡ DONE → (errors.new ≡ errors.old) × Appends (W.contents screen.old) (W.contents screen.new) text.now }
+/// Writes the help or the version to the screen, or reports why it cannot. Returns the exit status.
+fn print_text<W: Write, E: Write>(screen: &mut W, errors: &mut E, text: &str) -> u8
+    ensures done { result ≡ DONE
+        → (errors.new ≡ errors.old)
+        × Appends (W.contents screen.old) (W.contents screen.new) text.now }
     ensures fault { (result ≡ DONE)
         ⊎ ((fault : ProgramFault) × (result ≡ status_of fault) × GetsFront (E.contents errors.old) (E.contents errors.new) (message_of fault)) }
 {
@@ -177,7 +187,7 @@ fn answer<W: Write, E: Write>(screen: &mut W, errors: &mut E, text: &str) -> u8
     }
 }
 
-/// Reports a fault by its name, and its revision if it has one, or a front of that where `errors` fails, and answers with the status.
+/// Reports a fault by its name, and its revision if it has one, or a prefix of that where `errors` fails, and returns the status.
 pub fn report<E: Write>(errors: &mut E, fault: ProgramFault) -> u8
     ensures status { result ≡ status_of fault }
     ensures message { GetsFront (E.contents errors.old) (E.contents errors.new) (message_of fault) }
@@ -187,7 +197,7 @@ pub fn report<E: Write>(errors: &mut E, fault: ProgramFault) -> u8
         ProgramFault::Run(cause) => if cause.is_of_stream() {
             STREAM_FAULT
         } else {
-            WANTING
+            RESOURCE_FAULT
         },
         ProgramFault::TooSmall => TOO_SMALL,
         ProgramFault::ImageTooLarge(_) | ProgramFault::PlateFault(_) => STREAM_FAULT,
@@ -195,7 +205,7 @@ pub fn report<E: Write>(errors: &mut E, fault: ProgramFault) -> u8
     }
 }
 
-/// Writes the message of a fault, or a front of it where `errors` fails.
+/// Writes the message of a fault, or a prefix of it where `errors` fails.
 fn write_message<E: Write>(errors: &mut E, fault: ProgramFault)
     ensures { GetsFront (E.contents errors.old) (E.contents errors.new) (message_of fault) }
 {

@@ -1,9 +1,9 @@
 -- The command line has plain options only, and the words give numbers and flags to them.
 use Rattle.std.proofs.Common.{◌≡◌, ◌<◌, ◌^◌, ℕ, IfSome, List, refl, subst, true}
 use Rattle.clap.specs.Words.{App, Row, Text, is_simple_and_free, one_of}
-use Rattle.mf_options.proofs.ValuesTyped.{is_number}
-use Rattle.mf_options.specs.Options.{number_parser}
-use Rattle.mf_options.specs.Values.{AreValuesOf, IsNumber, is_option}
+use Rattle.mf_cli_options.proofs.ValuesTyped.{is_number}
+use Rattle.mf_cli_options.specs.Options.{number_parser}
+use Rattle.mf_cli_options.specs.Values.{AreValuesOf, IsNumber, is_option}
 use Rattle.mf_view_words.specs.CommandLine.{mfview, rules}
 
 pub mfview_is_plain : is_simple_and_free mfview ≡ true

@@ -1,7 +1,7 @@
 -- The command line of the program, as clap reads it.
 use Rattle.std.specs.Prelude.{ℕ, List, [], ◌∷◌, codes, fold}
 use Rattle.clap.specs.Words.{App, Rule, new_app, with_rule}
-use Rattle.mf_options.specs.Options.{file_rule, flag_rule, number_rule, without_flags}
+use Rattle.mf_cli_options.specs.Options.{file_rule, flag_rule, number_rule, without_flags}
 
 -- the greatest design size in points, and resolution in dots per inch (here as well as in the code, so that a wrong number there is not
 -- proved)

@@ -1,13 +1,13 @@
 -- Which words are a command line, and what they ask for.
 use Rattle.std.specs.Prelude.{◌≡◌, ◌≤◌, ◌&&◌, Bool, List, [], codes, false, is_some, not, option_map, string_bytes, true}
 use Rattle.clap.specs.Words.{Row, Text, fault_of, matches_of}
-use Rattle.mf_options.specs.Values.{file_in, has_flag, number_in}
+use Rattle.mf_cli_options.specs.Values.{file_in, has_flag, number_in}
 use Rattle.mf_view_words.specs.CommandLine.{greatest_design_size, greatest_resolution, mfview}
 use Rattle.mf_view_words.specs.declared.words.Request.{Request}
 use Rattle.mf_view_words.specs.declared.words.Request.TheVariants.{Help, Show, Version}
 use Rattle.mf_view_words.specs.declared.words.Words.{Words}
 
--- the words ask for PGM images and name no folder for them
+-- whether the words ask for PGM images and name no folder for them
 abbrev pub lacks_plates : List Row → Bool
 lacks_plates found = has_flag found (codes "pgm") && not (is_some (file_in found (codes "plates")))
 

@@ -4,7 +4,7 @@ ghost use Rattle.clap.specs.Words.{app_of};
 ghost use Rattle.mf_view_words.specs.CommandLine.{mfview};
 
 use clap::Command;
-use mf_options::{new_command, with_file, with_flag, with_number};
+use mf_cli_options::{new_command, with_file, with_flag, with_number};
 use std::alloc::{AllocError, Global};
 
 /// The command line of the program. Its flags for help and the version are plain flags, since the help is a text of this crate.

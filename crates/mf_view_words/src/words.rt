@@ -1,13 +1,13 @@
 //! The words of the command line, and what they ask for.
 ghost use Rattle.std.specs.Prelude.{IfOk, IsErrOf, OnOk};
 ghost use Rattle.clap.specs.Words.{found_of, rows_of};
-ghost use Rattle.mf_options.specs.Values.{AreValuesOf, texts_of};
+ghost use Rattle.mf_cli_options.specs.Values.{AreValuesOf, texts_of};
 ghost use Rattle.mf_view_words.specs.CommandLine.{rules};
 ghost use Rattle.mf_view_words.specs.Requests.{AreWords, IsCommandLine, IsRequestInRange, IsRequest, IsRequestIn, IsWordsInRange};
 
 use crate::options::command;
 use clap::ArgMatches;
-use mf_options::{WordsFault, file, find_matches, flag, number};
+use mf_cli_options::{WordsFault, file, find_matches, flag, number};
 use std::alloc::{AllocError, Global};
 
 /// How the words ask for a script to be performed and drawn.

@@ -2,8 +2,8 @@
 #![tactic(auto)]
 
 use mf_cli::{ProgramFault, USAGE, program, report};
+use mf_cli_options::{refuse_words, words_of};
 use mf_desk::RunFault;
-use mf_options::{refuse_words, words_of};
 use std::io::{self, BufWriter, ErrorKind};
 use std::process::ExitCode;
 use std::rt::Stdout;

@@ -1,8 +1,8 @@
 //! The program `mfview`: performs a script of picture commands, and draws the picture while the script changes it.
 #![tactic(auto)]
 
+use mf_cli_options::{refuse_words, words_of};
 use mf_desk::RunFault;
-use mf_options::{refuse_words, words_of};
 use mf_view::program::{program, report};
 use mf_view_words::USAGE;
 use std::io::ErrorKind;

@@ -40,10 +40,13 @@ impl GfFile {
     pub fn new(alloc: Global, comment: &[u8], max_bytes: u32) -> Result<GfFile, GfFault>
         ensures kept { IfOk result (λ file. Keeps file comment.now []) }
         ensures max_bytes { IfOk result (λ file. max_bytes_of file ≡ min max_bytes greatest_word) }
-        ensures too_long { (min max_bytes greatest_word < length (preamble comment.now)) ↔ (result ≡ Err GfFault.FileTooLong) }
-        ensures comment_too_long { length (preamble comment.now) ≤ min max_bytes greatest_word → (greatest_byte < length comment.now)
-            ↔ (result ≡ Err GfFault.CommentTooLong) }
-        ensures fault { IfErr result (λ fault. (fault ≡ GfFault.FileTooLong) ⊎ (fault ≡ GfFault.CommentTooLong) ⊎ (fault ≡ GfFault.OutOfMemory)) }
+        ensures too_long { (min max_bytes greatest_word < length (preamble comment.now))
+            ↔ (result ≡ Err GfFault.FileTooLong) }
+        ensures comment_too_long { length (preamble comment.now) ≤ min max_bytes greatest_word
+            → (greatest_byte < length comment.now) ↔ (result ≡ Err GfFault.CommentTooLong) }
+        ensures fault { IfErr result (λ fault.
+            (fault ≡ GfFault.FileTooLong) ⊎ (fault ≡ GfFault.CommentTooLong)
+            ⊎ (fault ≡ GfFault.OutOfMemory)) }
     {
         let max_bytes = max_bytes.min(GREATEST_WORD);
         if comment.len().saturating_add(PREAMBLE) > max_bytes as usize {
@@ -64,7 +67,8 @@ impl GfFile {
 
     /// The number of characters that were shipped. A code that was shipped again counts again.
     pub fn count(&self) -> u32
-        ensures { (comment : List ℕ) (characters : List Character) → Keeps self.now comment characters → result ≡ length characters }
+        ensures { (comment : List ℕ) (characters : List Character)
+            → Keeps self.now comment characters → result ≡ length characters }
     {
         self.count
     }
@@ -80,14 +84,19 @@ impl GfFile {
     /// with `OutOfMemory` where an allocation fails. A refusal leaves the file as it was.
     #[tactic(auto, using(crate::proofs::Shipped::spell_some))]
     pub fn ship(&mut self, code: u8, dx: i32, width: i32, picture: &Picture) -> Result<(), GfFault>
-        ensures shipped { OnOk result ((comment : List ℕ) (characters : List Character)
-            → Keeps self.old comment characters → Keeps self.new comment (characters ++ character code dx width picture.now ∷ [])) }
+        ensures shipped { OnOk result
+            ((comment : List ℕ) (characters : List Character)
+            → Keeps self.old comment characters
+            → Keeps self.new comment (characters ++ character code dx width picture.now ∷ [])) }
         ensures unchanged { OnErr result (IsSameFile self.old self.new) }
         ensures max_bytes { max_bytes_of self.new ≡ max_bytes_of self.old }
-        ensures too_long { (comment : List ℕ) (characters : List Character) → Keeps self.old comment characters
-            → (max_bytes_of self.old < length (bytes_so_far comment (characters ++ character code dx width picture.now ∷ [])))
+        ensures too_long { (comment : List ℕ) (characters : List Character)
+            → Keeps self.old comment characters
+            → (max_bytes_of self.old < length
+            (bytes_so_far comment (characters ++ character code dx width picture.now ∷ [])))
             ↔ (result ≡ Err GfFault.FileTooLong) }
-        ensures fault { IfErr result (λ fault. (fault ≡ GfFault.FileTooLong) ⊎ (fault ≡ GfFault.OutOfMemory)) }
+        ensures fault { IfErr result (λ fault.
+            (fault ≡ GfFault.FileTooLong) ⊎ (fault ≡ GfFault.OutOfMemory)) }
     {
         let earlier = self.locators.last_place(code);
         let bounds = CharacterBox::of_black(picture);
@@ -113,10 +122,13 @@ impl GfFile {
     ) -> Result<Vec<u8>, GfFault>
         requires bounds { bounds.now ≡ box_of_pixels (black picture.now) }
         requires lawful { IsPicture picture.now }
-        ensures bytes { IfOk result (λ bytes. bytes.items ≡ spelling.spell code (pointer earlier) (black picture.now)) }
-        ensures too_long { (self.now.max_bytes < length (self.now.bytes.items ++ spelling.spell code (pointer earlier) (black picture.now)))
+        ensures bytes { IfOk result (λ bytes.
+            bytes.items ≡ spelling.spell code (pointer earlier) (black picture.now)) }
+        ensures too_long { (self.now.max_bytes < length
+            (self.now.bytes.items ++ spelling.spell code (pointer earlier) (black picture.now)))
             ↔ (result ≡ Err GfFault.FileTooLong) }
-        ensures fault { IfErr result (λ fault. (fault ≡ GfFault.FileTooLong) ⊎ (fault ≡ GfFault.OutOfMemory)) }
+        ensures fault { IfErr result (λ fault.
+            (fault ≡ GfFault.FileTooLong) ⊎ (fault ≡ GfFault.OutOfMemory)) }
     {
         let room = self.max_bytes as usize - self.bytes.len();
         let mut out = Spelling::new(self.alloc, room);

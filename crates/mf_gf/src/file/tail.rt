@@ -32,11 +32,16 @@ impl GfFile {
         ensures finished { IfOk result (λ bytes. (comment : List ℕ) (characters : List Character)
             → Keeps self comment characters → bytes ≡ file_of words comment characters) }
         ensures handed_back { IfErr result (λ refused. IsSameFile self refused.0) }
-        ensures none { (comment : List ℕ) (characters : List Character) → Keeps self comment characters
+        ensures none { (comment : List ℕ) (characters : List Character)
+            → Keeps self comment characters
             → (characters ≡ []) ↔ IsRefusedAs GfFault.NoCharacters result }
-        ensures too_long { (comment : List ℕ) (characters : List Character) → Keeps self comment characters
-            → (characters ≡ [] → ⊥) → (max_bytes_of self < length (file_of words comment characters)) ↔ IsRefusedAs GfFault.FileTooLong result }
-        ensures fault { IfErr result (λ refused. (refused.1 ≡ GfFault.NoCharacters) ⊎ (refused.1 ≡ GfFault.FileTooLong) ⊎ (refused.1 ≡ GfFault.OutOfMemory)) }
+        ensures too_long { (comment : List ℕ) (characters : List Character)
+            → Keeps self comment characters → (characters ≡ [] → ⊥)
+            → (max_bytes_of self < length (file_of words comment characters))
+            ↔ IsRefusedAs GfFault.FileTooLong result }
+        ensures fault { IfErr result (λ refused.
+            (refused.1 ≡ GfFault.NoCharacters) ⊎ (refused.1 ≡ GfFault.FileTooLong)
+            ⊎ (refused.1 ≡ GfFault.OutOfMemory)) }
     {
         let Some(bounds) = self.bounds else {
             return Err((self, GfFault::NoCharacters));
@@ -53,11 +58,14 @@ impl GfFile {
     pub fn finish_if_any(self, words: FontWords) -> Result<Option<GfBytes>, GfFault>
         ensures value { IfOk result (λ bytes. (comment : List ℕ) (characters : List Character)
             → Keeps self comment characters → bytes ≡ file_if_any words comment characters) }
-        ensures none { (comment : List ℕ) (characters : List Character) → Keeps self comment characters
-            → (characters ≡ []) ↔ (result ≡ Ok None) }
-        ensures too_long { (comment : List ℕ) (characters : List Character) → Keeps self comment characters
-            → IsLongFile (max_bytes_of self) words comment characters ↔ (result ≡ Err GfFault.FileTooLong) }
-        ensures fault { IfErr result (λ fault. (fault ≡ GfFault.FileTooLong) ⊎ (fault ≡ GfFault.OutOfMemory)) }
+        ensures none { (comment : List ℕ) (characters : List Character)
+            → Keeps self comment characters → (characters ≡ []) ↔ (result ≡ Ok None) }
+        ensures too_long { (comment : List ℕ) (characters : List Character)
+            → Keeps self comment characters
+            → IsLongFile (max_bytes_of self) words comment characters
+            ↔ (result ≡ Err GfFault.FileTooLong) }
+        ensures fault { IfErr result (λ fault.
+            (fault ≡ GfFault.FileTooLong) ⊎ (fault ≡ GfFault.OutOfMemory)) }
     {
         match self.finish(words) {
             Ok(bytes) => Ok(Some(bytes)),
@@ -68,10 +76,14 @@ impl GfFile {
 
     /// The bytes that come after the characters.
     fn tail(&self, words: &FontWords, bounds: &CharacterBox) -> Result<Vec<u8>, GfFault>
-        ensures bytes { IfOk result (λ tail. tail.items ≡ tail_of words.now bounds.now self.now.bytes.items (table_text self.now.locators)) }
+        ensures bytes { IfOk result (λ tail.
+            tail.items
+            ≡ tail_of words.now bounds.now self.now.bytes.items (table_text self.now.locators)) }
         ensures too_long { (self.now.max_bytes < length
-            (self.now.bytes.items ++ tail_of words.now bounds.now self.now.bytes.items (table_text self.now.locators))) ↔ (result ≡ Err GfFault.FileTooLong) }
-        ensures fault { IfErr result (λ fault. (fault ≡ GfFault.FileTooLong) ⊎ (fault ≡ GfFault.OutOfMemory)) }
+            (self.now.bytes.items ++ tail_of words.now bounds.now self.now.bytes.items (table_text self.now.locators)))
+            ↔ (result ≡ Err GfFault.FileTooLong) }
+        ensures fault { IfErr result (λ fault.
+            (fault ≡ GfFault.FileTooLong) ⊎ (fault ≡ GfFault.OutOfMemory)) }
     {
         let place = self.bytes.len() as u32;
         let mut out = Spelling::new(self.alloc, (self.max_bytes - place) as usize);
@@ -85,7 +97,8 @@ impl GfFile {
     fn with_tail(mut self, tail: &[u8]) -> Result<GfBytes, (GfFile, GfFault)>
         requires within { length (self.bytes.items ++ tail.now) ≤ self.max_bytes }
         ensures finished { IfOk result (λ bytes. bytes ≡ self.bytes.items ++ tail.now) }
-        ensures handed_back { IfErr result (λ refused. IsSameFile self refused.0 × (refused.1 ≡ GfFault.OutOfMemory)) }
+        ensures handed_back { IfErr result (λ refused.
+            IsSameFile self refused.0 × (refused.1 ≡ GfFault.OutOfMemory)) }
     {
         match self.bytes.extend_from_slice(tail) {
             Ok(()) => Ok(GfBytes::new(self.bytes)),
@@ -96,7 +109,8 @@ impl GfFile {
 
 /// Appends post and its numbers. `place` is its place in the file.
 fn put_post(out: &mut Spelling, words: &FontWords, bounds: &CharacterBox, place: u32)
-    ensures held { (text : List ℕ) → Holds out.old text → Holds out.new (text ++ post_text words.now bounds.now place) }
+    ensures held { (text : List ℕ) → Holds out.old text
+        → Holds out.new (text ++ post_text words.now bounds.now place) }
     ensures room { out.new.room ≡ out.old.room }
 {
     out.put_byte(POST);
@@ -114,7 +128,8 @@ fn put_post(out: &mut Spelling, words: &FontWords, bounds: &CharacterBox, place:
 impl Spelling {
     /// Appends the ending of a file. `place` is the place of post, and the spelling so far has the bytes from there on.
     fn put_end(&mut self, place: u32)
-        ensures held { (text : List ℕ) → Holds self.old text → Holds self.new (text ++ ending place (place + length text)) }
+        ensures held { (text : List ℕ) → Holds self.old text
+            → Holds self.new (text ++ ending place (place + length text)) }
         ensures room { self.new.room ≡ self.old.room }
     {
         let before = place as usize + self.length() + ENDING;

@@ -29,7 +29,8 @@ impl Locators {
 
     /// The place of the last character with a code, if there is one.
     pub(crate) fn last_place(&self, code: u8) -> Option<u32>
-        ensures { (shipped : List Shipment) → HasLastLocators self.now shipped → result ≡ last_place code shipped }
+        ensures { (shipped : List Shipment) → HasLastLocators self.now shipped
+            → result ≡ last_place code shipped }
     {
         self.last(code).map(|locator| locator.place)
     }
@@ -37,8 +38,8 @@ impl Locators {
     /// Makes this the locator of its code.
     #[tactic(auto, unfolding(crate::specs::Files::last_shipment))]
     pub(crate) fn set(&mut self, locator: Locator)
-        ensures { (s : Shipment) (shipped : List Shipment) → locator_of s ≡ locator → HasLastLocators self.old shipped
-            → HasLastLocators self.new (s ∷ shipped) }
+        ensures { (s : Shipment) (shipped : List Shipment) → locator_of s ≡ locator
+            → HasLastLocators self.old shipped → HasLastLocators self.new (s ∷ shipped) }
     {
         self.by_code[usize::from(locator.code)] = Some(locator);
     }
@@ -46,7 +47,8 @@ impl Locators {
     /// Spells all locators, codes rising.
     #[tactic(auto, using(crate::proofs::LocatorTexts::holds_next_code, crate::proofs::LocatorTexts::holds_no_code))]
     pub(crate) fn spell(&self, out: &mut Spelling)
-        ensures held { (text : List ℕ) → Holds out.old text → Holds out.new (text ++ table_text self.now) }
+        ensures held { (text : List ℕ) → Holds out.old text
+            → Holds out.new (text ++ table_text self.now) }
         ensures room { out.new.room ≡ out.old.room }
     {
         for last in &self.by_code {
@@ -57,7 +59,8 @@ impl Locators {
 
 /// Spells a locator, if there is one.
 fn spell_if(out: &mut Spelling, locator: Option<Locator>)
-    ensures held { (text : List ℕ) → Holds out.old text → Holds out.new (text ++ locator_if locator) }
+    ensures held { (text : List ℕ) → Holds out.old text
+        → Holds out.new (text ++ locator_if locator) }
     ensures room { out.new.room ≡ out.old.room }
 {
     if let Some(locator) = locator {

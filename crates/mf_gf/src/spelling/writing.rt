@@ -11,7 +11,7 @@ use mf_base::OutOfMemory;
 use std::alloc::Global;
 
 impl Spelling {
-    /// A spelling without bytes, with room for `room` of them.
+    /// An empty spelling, which keeps at most `room` bytes. Allocates nothing.
     pub(crate) fn new(alloc: Global, room: usize) -> Spelling
         requires { room ≤ 2 ^ 31 }
         ensures empty { Holds result [] }
@@ -36,12 +36,14 @@ impl Spelling {
     #[inline(always)]
     fn count(&mut self, more: usize) -> bool
         requires { more ≤ 2 ^ 31 }
-        ensures counted { self.old.length + more ≤ self.old.room → self.new.length ≡ self.old.length + more }
+        ensures counted { self.old.length + more ≤ self.old.room
+            → self.new.length ≡ self.old.length + more }
         ensures beyond { self.old.room < self.old.length + more → self.new.room < self.new.length }
         ensures kept { self.new.bytes ≡ self.old.bytes }
         ensures room { self.new.room ≡ self.old.room }
         ensures memory { self.new.is_out_of_memory ≡ self.old.is_out_of_memory }
-        ensures answer { IsTrue result ↔ ((self.new.length ≤ self.new.room) × (self.new.is_out_of_memory ≡ false)) }
+        ensures answer { IsTrue result
+            ↔ ((self.new.length ≤ self.new.room) × (self.new.is_out_of_memory ≡ false)) }
     {
         let length = self.length + more;
         if length > self.room {
@@ -77,7 +79,8 @@ impl Spelling {
     /// Appends two bytes.
     #[inline(always)]
     pub(crate) fn put_pair(&mut self, first: u8, second: u8)
-        ensures held { (text : List ℕ) → Holds self.old text → Holds self.new (text ++ first ∷ second ∷ []) }
+        ensures held { (text : List ℕ) → Holds self.old text
+            → Holds self.new (text ++ first ∷ second ∷ []) }
         ensures room { self.new.room ≡ self.old.room }
     {
         if self.count(2) && self.bytes.extend_from_slice(&[first, second]).is_err() {
@@ -102,7 +105,8 @@ impl Spelling {
 
     /// Appends a number of two bytes, the higher byte first.
     pub(crate) fn put_halfword(&mut self, number: u16)
-        ensures held { (text : List ℕ) → Holds self.old text → Holds self.new (text ++ big_bytes 2 number) }
+        ensures held { (text : List ℕ) → Holds self.old text
+            → Holds self.new (text ++ big_bytes 2 number) }
         ensures room { self.new.room ≡ self.old.room }
     {
         let mut field = [0u8; 2];
@@ -112,7 +116,8 @@ impl Spelling {
 
     /// Appends a signed number of four bytes in two's complement, the highest byte first.
     pub(crate) fn put_word(&mut self, number: i32)
-        ensures held { (text : List ℕ) → Holds self.old text → Holds self.new (text ++ word number) }
+        ensures held { (text : List ℕ) → Holds self.old text
+            → Holds self.new (text ++ word number) }
         ensures room { self.new.room ≡ self.old.room }
     {
         let mut field = [0u8; 4];
@@ -122,7 +127,8 @@ impl Spelling {
 
     /// Appends an unsigned number of four bytes, the highest byte first.
     pub(crate) fn put_unsigned(&mut self, number: u32)
-        ensures held { (text : List ℕ) → Holds self.old text → Holds self.new (text ++ word (pos number)) }
+        ensures held { (text : List ℕ) → Holds self.old text
+            → Holds self.new (text ++ word (pos number)) }
         ensures room { self.new.room ≡ self.old.room }
     {
         let mut field = [0u8; 4];
@@ -133,9 +139,12 @@ impl Spelling {
     /// Returns all the bytes. Refused with `FileTooLong` exactly where there are more than the room allows, and with
     /// `OutOfMemory` where an allocation failed.
     pub(crate) fn finish(self) -> Result<Vec<u8>, GfFault>
-        ensures bytes { IfOk result (λ bytes. (text : List ℕ) → Holds self text → bytes.items ≡ text) }
-        ensures too_long { (text : List ℕ) → Holds self text → (self.room < length text) ↔ (result ≡ Err GfFault.FileTooLong) }
-        ensures fault { IfErr result (λ fault. (fault ≡ GfFault.FileTooLong) ⊎ (fault ≡ GfFault.OutOfMemory)) }
+        ensures bytes { IfOk result (λ bytes.
+            (text : List ℕ) → Holds self text → bytes.items ≡ text) }
+        ensures too_long { (text : List ℕ) → Holds self text
+            → (self.room < length text) ↔ (result ≡ Err GfFault.FileTooLong) }
+        ensures fault { IfErr result (λ fault.
+            (fault ≡ GfFault.FileTooLong) ⊎ (fault ≡ GfFault.OutOfMemory)) }
     {
         if self.length > self.room {
             return Err(GfFault::FileTooLong);
@@ -152,7 +161,8 @@ fn append_copy(bytes: &mut Vec<u8>, start: usize, end: usize) -> Result<(), OutO
     requires order { start ≤ end }
     requires within { end ≤ length bytes.old.items }
     requires few { length bytes.old.items ≤ 2 ^ 33 }
-    ensures { OnOk result (bytes.new.items ≡ bytes.old.items ++ take (end - start) (drop start bytes.old.items)) }
+    ensures { OnOk result
+        (bytes.new.items ≡ bytes.old.items ++ take (end - start) (drop start bytes.old.items)) }
 {
     let length = bytes.len();
     bytes.resize(length + (end - start), 0)?;

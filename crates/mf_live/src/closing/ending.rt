@@ -40,11 +40,14 @@ impl Closing {
     /// Publishes the end mark and what was accepted before it. It may wait for looks that are held. Where an allocation fails,
     /// the picture comes back as it was, and the call can be made again.
     pub fn publish<R: Wait>(self, rt: &R) -> Result<Ended, Closing>
-        ensures identity { MatchResult result (λ ended. ended_identity ended ≡ closing_identity self)
+        ensures identity { MatchResult result
+            (λ ended. ended_identity ended ≡ closing_identity self)
             (λ closing. closing_identity closing ≡ closing_identity self) }
-        ensures published { MatchResult result (λ ended. ended_published_list ended ≡ closing_accepted_list self)
+        ensures published { MatchResult result
+            (λ ended. ended_published_list ended ≡ closing_accepted_list self)
             (λ closing. closing_published_list closing ≡ closing_published_list self) }
-        ensures accepted { IfErr result (λ closing. closing_accepted_list closing ≡ closing_accepted_list self) }
+        ensures accepted { IfErr result (λ closing.
+            closing_accepted_list closing ≡ closing_accepted_list self) }
     {
         let Closing { mut holder } = self;
         match holder.publish(rt) {
@@ -64,7 +67,8 @@ impl Closing {
 impl Ended {
     /// A notice of the complete list, with the end mark: a look of a viewer that has learnt it shows the last picture.
     pub fn notice(&mut self) -> Notice
-        ensures same { (ended_identity self.new ≡ ended_identity self.old) × (ended_published_list self.new ≡ ended_published_list self.old) }
+        ensures same { (ended_identity self.new ≡ ended_identity self.old)
+            × (ended_published_list self.new ≡ ended_published_list self.old) }
         ensures identity { notice_identity result ≡ ended_identity self.old }
         ensures told { told_list result ≡ ended_published_list self.old }
         ensures closed { is_closed (told_list result) ≡ true }
@@ -72,7 +76,7 @@ impl Ended {
         self.holder.swap.published().notice.copy()
     }
 
-    /// Ends the picture. It may wait for looks that are held, and looks may be refused from then on. Nothing is left that a clause
+    /// Frees the picture. It may wait for looks that are held, and looks may be refused from then on. Nothing is left that a clause
     /// could be about.
     pub fn discard<R: Wait>(self, rt: &R) {
         let Ended { holder } = self;

@@ -7,14 +7,16 @@ use super::{Desk, NoPlace};
 use crate::viewer::Viewer;
 
 impl Desk {
-    /// A viewer that has seen nothing. Refused with `NoPlace` where none is left: each place is given once, and that of a dropped
-    /// viewer is not given again.
+    /// Hands out a viewer, which has seen nothing. Refused with `NoPlace` where all have been handed out: a dropped viewer does not come
+    /// back.
     pub fn viewer(&mut self) -> Result<Viewer, NoPlace>
         ensures identity { desk_identity self.new ≡ desk_identity self.old }
-        ensures remaining { MatchResult result (λ _. remaining_viewers self.new + 1 ≡ remaining_viewers self.old) (λ _. (remaining_viewers self.old ≡ 0)
-            × (remaining_viewers self.new ≡ 0)) }
+        ensures remaining { MatchResult result
+            (λ _. remaining_viewers self.new + 1 ≡ remaining_viewers self.old)
+            (λ _. (remaining_viewers self.old ≡ 0) × (remaining_viewers self.new ≡ 0)) }
         ensures viewer_identity { IfOk result (λ viewer. identity viewer ≡ desk_identity self.old) }
-        ensures newcomer { IfOk result (λ viewer. (looked_at_list viewer ≡ []) × (learnt_list viewer ≡ [])) }
+        ensures newcomer { IfOk result (λ viewer.
+            (looked_at_list viewer ≡ []) × (learnt_list viewer ≡ [])) }
     {
         match self.viewers.pop() {
             Some(viewer) => Ok(viewer),

@@ -43,7 +43,8 @@ pub fn open_picture<R: Wait>(
 
 /// Makes viewers of a picture in which nothing has happened: up to `places` of them, as far as they can be had.
 fn seat_all(holder: &mut Holder, viewers: &mut Vec<Viewer>, places: u32)
-    requires identified { view holder.old.swap.desk.place ≡ view_knowing (holders.knowledge holder.old) }
+    requires identified { view holder.old.swap.desk.place
+        ≡ view_knowing (holders.knowledge holder.old) }
     requires empty { (holders.knowledge holder.old).seen.log ≡ [] }
     requires none { viewers.old.items ≡ [] }
     ensures known { holders.knowledge holder.new ≡ holders.knowledge holder.old }
@@ -64,9 +65,11 @@ fn seat_all(holder: &mut Holder, viewers: &mut Vec<Viewer>, places: u32)
 
 /// A viewer of a picture in which nothing has happened, if there can be one.
 fn seat_one(holder: &mut Holder) -> Option<Viewer>
-    requires identified { view holder.old.swap.desk.place ≡ view_knowing (holders.knowledge holder.old) }
+    requires identified { view holder.old.swap.desk.place
+        ≡ view_knowing (holders.knowledge holder.old) }
     requires empty { (holders.knowledge holder.old).seen.log ≡ [] }
-    ensures identified { view holder.new.swap.desk.place ≡ view_knowing (holders.knowledge holder.old) }
+    ensures identified { view holder.new.swap.desk.place
+        ≡ view_knowing (holders.knowledge holder.old) }
     ensures known { holders.knowledge holder.new ≡ holders.knowledge holder.old }
     ensures accepted { holders.accepted_list holder.new ≡ holders.accepted_list holder.old }
     ensures published { holders.published_list holder.new ≡ holders.published_list holder.old }

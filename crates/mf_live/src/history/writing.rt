@@ -48,9 +48,12 @@ fn add_line<N: Writing>(
     requires line { N.line ≡ record { event = writer_event _act; next = _next.now.nib.key } }
     requires word { word.now ≡ word_of known.old.seen.book }
     requires pen { IsPenOf known.old.seen.book known.old.seen.log pen.old.book pen.old.nib }
-    requires may { May greatest_limit (world_after new_world (events_of known.old.seen.log)) (event_of (writer_event _act)) }
+    requires may { May greatest_limit (world_after new_world (events_of known.old.seen.log))
+        (event_of (writer_event _act)) }
     ensures book { known.new.seen.book ≡ known.old.seen.book }
-    ensures log { known.new.seen.log ≡ known.old.seen.log ++ record { event = writer_event _act.entry; next = _next.now.nib.key } ∷ [] }
+    ensures log { known.new.seen.log
+        ≡ known.old.seen.log
+        ++ record { event = writer_event _act.entry; next = _next.now.nib.key } ∷ [] }
 {
     let mut offer = known.seen.plain::<Nothing, (), Asks>(&());
     word.compare_exchange::<Add<N>, Nothing>(0, 1, &mut known.seen, &mut offer, pen);
@@ -74,9 +77,11 @@ impl History {
 
     /// Writes what the writer does, after all that it has done.
     pub(crate) fn write(&mut self, act: Act<'_>)
-        requires { May greatest_limit (world_after new_world (events_of self.old.known.seen.log)) (event_of (writer_event act)) }
+        requires { May greatest_limit (world_after new_world (events_of self.old.known.seen.log))
+            (event_of (writer_event act)) }
         ensures book { self.new.known.seen.book ≡ self.old.known.seen.book }
-        ensures events { events_of self.new.known.seen.log ≡ events_of self.old.known.seen.log ++ event_of (writer_event act.entry) ∷ [] }
+        ensures events { events_of self.new.known.seen.log
+            ≡ events_of self.old.known.seen.log ++ event_of (writer_event act.entry) ∷ [] }
         ensures prefix { IsPrefix self.old.known.seen.log self.new.known.seen.log }
     {
         let (_, next) = make_pen(&self.word, &self.known);

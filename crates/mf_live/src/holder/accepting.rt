@@ -24,7 +24,7 @@ use std::sync::Wait;
 
 /// The blank version of a history in which nothing has happened.
 #[tactic(auto, using(crate::proofs::Blank::blank_picture, crate::proofs::Blank::blank_revision))]
-fn blank(alloc: Global, knowledge: &Knowledge) -> Version
+fn blank_version(alloc: Global, knowledge: &Knowledge) -> Version
     requires { knowledge.now.seen.log ≡ [] }
     ensures { knowledge_of result ≡ knowledge.now }
 {
@@ -47,16 +47,20 @@ impl Holder {
     ) -> Result<Holder, OutOfMemory>
         requires { (0 < readers) × (readers < 2 ^ 32) }
         ensures start { IfOk result (λ h. (accepted_list h ≡ []) × (published_list h ≡ [])) }
-        ensures identified { IfOk result (λ h. view h.swap.desk.place ≡ view_knowing (knowledge h)) }
+        ensures identified { IfOk result (λ h.
+            view h.swap.desk.place ≡ view_knowing (knowledge h)) }
         ensures empty { IfOk result (λ h. (knowledge h).seen.log ≡ []) }
     {
         let Some(history) = History::open() else {
             return Err(OutOfMemory);
         };
-        let (first, second) = (blank(alloc, &history.known), blank(alloc, &history.known));
+        let (first, second) = (
+            blank_version(alloc, &history.known),
+            blank_version(alloc, &history.known),
+        );
         let mut swap = Swap::new(alloc, first, second, readers)?;
         // Only a publish can put into the writer's view which picture this is, so the blank picture is shown once more.
-        show(rt, &mut swap, blank(alloc, &history.known));
+        show(rt, &mut swap, blank_version(alloc, &history.known));
         Ok(Holder {
             alloc,
             swap,
@@ -73,14 +77,20 @@ impl Holder {
         requires few { revision_at (accepted_list self.old) < greatest_limit }
         ensures identity { identity self.new ≡ identity self.old }
         ensures accepted { MatchResult result
-            (λ _. accepted_list self.new ≡ accepted_list_with (accepted_list self.old) (published_list self.old) (Operation op.now))
+            (λ _.
+            accepted_list self.new
+            ≡ accepted_list_with (accepted_list self.old) (published_list self.old)
+            (Operation op.now))
             (λ _. accepted_list self.new ≡ accepted_list self.old) }
         ensures published { published_list self.new ≡ published_list self.old }
-        ensures allowed { OnOk result (op_fault (picture_at (accepted_list self.old)) op.now ≡ None) }
+        ensures allowed { OnOk result
+            (op_fault (picture_at (accepted_list self.old)) op.now ≡ None) }
         ensures refused { IfErr result (IsRefusal (picture_at (accepted_list self.old)) op.now) }
-        ensures turning { (fault : CycleFault) → op_fault (picture_at (accepted_list self.old)) op.now ≡ Some (OpFault.Cycle fault)
+        ensures turning { (fault : CycleFault)
+            → op_fault (picture_at (accepted_list self.old)) op.now ≡ Some (OpFault.Cycle fault)
             → result ≡ Err (OpFault.Cycle fault) }
-        ensures out_of_field { op_fault (picture_at (accepted_list self.old)) op.now ≡ Some OpFault.OutOfField → result ≡ Err OpFault.OutOfField }
+        ensures out_of_field { op_fault (picture_at (accepted_list self.old)) op.now ≡ Some OpFault.OutOfField
+            → result ≡ Err OpFault.OutOfField }
         ensures clears { op.now ≡ Clear → IsOk result }
     {
         apply(alloc, &mut self.working, op)?;
@@ -94,7 +104,8 @@ impl Holder {
     pub(crate) fn end(&mut self)
         requires open { is_closed (accepted_list self.old) ≡ false }
         ensures identity { identity self.new ≡ identity self.old }
-        ensures accepted { accepted_list self.new ≡ accepted_list_with (accepted_list self.old) (published_list self.old) End }
+        ensures accepted { accepted_list self.new
+            ≡ accepted_list_with (accepted_list self.old) (published_list self.old) End }
         ensures published { published_list self.new ≡ published_list self.old }
         ensures working { self.new.working ≡ self.old.working }
     {

@@ -28,7 +28,8 @@ pub(crate) fn show<R: Wait>(rt: &R, swap: &mut Swap, version: Version)
         &mut swap.desk,
         (rt, version),
         |desk, (rt, version)|
-            requires { TurnsAt EachSeatKnows desk.place.id (view desk.place) desk.shown.value version IsShow }
+            requires { TurnsAt EachSeatKnows desk.place.id (view desk.place) desk.shown.value version
+                IsShow }
             ensures shown { result.0.shown.value ≡ version }
             ensures view { view result.0.place ≡ view_knowing (knowledge_of version) }
         {
@@ -45,7 +46,8 @@ impl Holder {
     pub(crate) fn publish<R: Wait>(&mut self, rt: &R) -> Result<(), OutOfMemory>
         ensures identity { identity self.new ≡ identity self.old }
         ensures accepted { accepted_list self.new ≡ accepted_list self.old }
-        ensures published { MatchResult result (λ _. published_list self.new ≡ accepted_list self.old)
+        ensures published { MatchResult result
+            (λ _. published_list self.new ≡ accepted_list self.old)
             (λ _. published_list self.new ≡ published_list self.old) }
         ensures nothing { published_list self.old ≡ accepted_list self.old → IsOk result }
     {

@@ -28,8 +28,10 @@ impl Notice {
     /// Of two notices of one picture, the list of the one with fewer entries is a whole prefix of the other's.
     pub(crate) fn meets(&self, other: &Notice)
         requires { notice_identity other.now ≡ notice_identity self.now }
-        ensures this { self.now.entries ≤ other.now.entries → IsWholePrefix (told_list self.now) (told_list other.now) }
-        ensures that { other.now.entries ≤ self.now.entries → IsWholePrefix (told_list other.now) (told_list self.now) }
+        ensures this { self.now.entries ≤ other.now.entries
+            → IsWholePrefix (told_list self.now) (told_list other.now) }
+        ensures that { other.now.entries ≤ self.now.entries
+            → IsWholePrefix (told_list other.now) (told_list self.now) }
     {
         let mut both = self.knowledge.copy();
         both.seen.learn(&other.knowledge.seen);

@@ -35,10 +35,12 @@ impl Sheet {
     }
 }
 
-/// Looks, and takes a sheet.
+/// Looks, and copies what the look shows into a sheet. The look has ended when this returns.
 fn take_sheet(viewer: Viewer, alloc: Global) -> (Viewer, Result<Sheet, SheetFault>)
     ensures identity { identity result.0 ≡ identity viewer }
-    ensures taken { MatchResult result.1 (λ sheet. IsTaken viewer result.0 sheet) (λ fault. IsNotTaken viewer result.0 fault) }
+    ensures taken { MatchResult result.1
+        (λ sheet. IsTaken viewer result.0 sheet)
+        (λ fault. IsNotTaken viewer result.0 fault) }
 {
     let look = match viewer.look() {
         Ok(look) => look,
@@ -58,7 +60,9 @@ impl Viewer {
     /// what it had seen before. Refused with `OutOfMemory` where an allocation fails: the viewer has looked all the same.
     pub fn sheet(&mut self, alloc: Global) -> Result<Sheet, SheetFault>
         ensures identity { identity self.new ≡ identity self.old }
-        ensures taken { MatchResult result (λ sheet. IsTaken self.old self.new sheet) (λ fault. IsNotTaken self.old self.new fault) }
+        ensures taken { MatchResult result
+            (λ sheet. IsTaken self.old self.new sheet)
+            (λ fault. IsNotTaken self.old self.new fault) }
     {
         replace_with(self, alloc, |viewer, alloc| take_sheet(viewer, alloc))
     }
@@ -70,7 +74,8 @@ impl Viewer {
         requires identity { notice_identity notice ≡ identity self.old }
         requires closed { is_closed (told_list notice) ≡ true }
         ensures identity { identity self.new ≡ identity self.old }
-        ensures sheet { IfOk result (λ sheet. (sheet_identity sheet ≡ identity self.old) × (sheet_list sheet ≡ told_list notice)) }
+        ensures sheet { IfOk result (λ sheet.
+            (sheet_identity sheet ≡ identity self.old) × (sheet_list sheet ≡ told_list notice)) }
         ensures extends { OnOk result (Extends self.old (told_list notice)) }
         ensures looked { OnOk result (HasLookedAt (told_list notice) self.new) }
         ensures not_taken { IfErr result (IsLastNotTaken self.old (told_list notice) self.new) }

@@ -7,8 +7,8 @@ use std::alloc::{AllocError, Global};
 use std::process::Abort;
 use std::sync::Wait;
 
-/// An allocation of this many bytes says that allocations are refused from here on, and one byte more that memory is ample again.
-/// `mf_testing` has the same signs, but it is not a library of this crate.
+/// An allocation of this many bytes tells the library of `tests/refused_allocations.py` that allocations are refused from here on, and one
+/// of a byte more, that memory is ample again. `mf_testing` has the same signals, but it is not a library of this crate.
 const REFUSED_FROM_HERE: usize = 33_554_467;
 
 /// Asks for this many bytes, and gives them back.

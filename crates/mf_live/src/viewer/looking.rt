@@ -16,12 +16,19 @@ impl Viewer {
     /// events that it knows of its picture. Everything that the viewer had looked at or learnt of is a whole prefix of it. Where the
     /// viewer has seen the end mark, it is exactly what the viewer has seen.
     pub fn look(self) -> Result<Look, (Viewer, NoLook)>
-        ensures identity { MatchResult result (λ look. look_identity look ≡ identity self) (λ refused. identity refused.0 ≡ identity self) }
-        ensures seat { MatchResult result (λ look. look_seat look ≡ seat self) (λ refused. seat refused.0 ≡ seat self) }
-        ensures extends { MatchResult result (λ look. Extends self (shown_list look)) (λ refused. SeesTheSame self refused.0) }
+        ensures identity { MatchResult result
+            (λ look. look_identity look ≡ identity self)
+            (λ refused. identity refused.0 ≡ identity self) }
+        ensures seat { MatchResult result
+            (λ look. look_seat look ≡ seat self)
+            (λ refused. seat refused.0 ≡ seat self) }
+        ensures extends { MatchResult result
+            (λ look. Extends self (shown_list look))
+            (λ refused. SeesTheSame self refused.0) }
         ensures learnt { IfOk result (λ look. look_learnt_list look ≡ learnt_list self) }
         ensures published { IfOk result (λ look. IsPublished (look_events look) (shown_list look)) }
-        ensures last { is_closed (seen_list self) ≡ true → IfOk result (λ look. shown_list look ≡ seen_list self) }
+        ensures last { is_closed (seen_list self) ≡ true
+            → IfOk result (λ look. shown_list look ≡ seen_list self) }
     {
         let Viewer {
             reader,
@@ -59,7 +66,8 @@ impl Viewer {
         ensures seat { seat self.new ≡ seat self.old }
         ensures looked { looked_at_list self.new ≡ looked_at_list self.old }
         ensures learnt { learnt_list self.new ≡ longer (learnt_list self.old) (told_list notice) }
-        ensures keeps { (L : List Entry) → Extends self.new L → Extends self.old L × IsWholePrefix (told_list notice) L }
+        ensures keeps { (L : List Entry) → Extends self.new L
+            → Extends self.old L × IsWholePrefix (told_list notice) L }
     {
         self.known.meets(&notice);
         if self.known.entries < notice.entries {

@@ -27,17 +27,26 @@ impl Writer {
         ensures published { published_list self.new ≡ published_list self.old }
         ensures max_ops { max_ops self.new ≡ max_ops self.old }
         ensures accepted { MatchResult result
-            (λ _. accepted_list self.new ≡ accepted_list_with (accepted_list self.old) (published_list self.old) (Operation op))
+            (λ _.
+            accepted_list self.new
+            ≡ accepted_list_with (accepted_list self.old) (published_list self.old)
+            (Operation op))
             (λ _. accepted_list self.new ≡ accepted_list self.old) }
-        ensures allowed { OnOk result (IsBelowLimit self.old × (op_fault (working_picture self.old) op ≡ None)) }
+        ensures allowed { OnOk result
+            (IsBelowLimit self.old × (op_fault (working_picture self.old) op ≡ None)) }
         ensures handed_back { IfErr result (λ refused. refused.0 ≡ op) }
-        ensures too_many { (revision_at (accepted_list self.old) ≡ max_ops self.old) ↔ (result ≡ Err (op, Fault.TooManyOperations)) }
+        ensures too_many { (revision_at (accepted_list self.old) ≡ max_ops self.old)
+            ↔ (result ≡ Err (op, Fault.TooManyOperations)) }
         ensures clears { op ≡ Clear → IsBelowLimit self.old → IsOk result }
-        ensures turning { (fault : CycleFault) → IsBelowLimit self.old → op_fault (working_picture self.old) op ≡ Some (OpFault.Cycle fault)
+        ensures turning { (fault : CycleFault) → IsBelowLimit self.old
+            → op_fault (working_picture self.old) op ≡ Some (OpFault.Cycle fault)
             → result ≡ Err (op, Fault.Refused (OpFault.Cycle fault)) }
-        ensures out_of_field { IsBelowLimit self.old → op_fault (working_picture self.old) op ≡ Some OpFault.OutOfField
+        ensures out_of_field { IsBelowLimit self.old
+            → op_fault (working_picture self.old) op ≡ Some OpFault.OutOfField
             → result ≡ Err (op, Fault.Refused OpFault.OutOfField) }
-        ensures refused { IfErr result (λ refused. (fault : OpFault) → refused.1 ≡ Fault.Refused fault → IsRefusal (working_picture self.old) op fault) }
+        ensures refused { IfErr result (λ refused.
+            (fault : OpFault) → refused.1 ≡ Fault.Refused fault
+            → IsRefusal (working_picture self.old) op fault) }
     {
         if self.holder.revision == self.max_ops {
             return Err((op, Fault::TooManyOperations));
@@ -71,7 +80,8 @@ impl Writer {
 
     /// How many accepted operations are not published yet.
     pub fn pending(&self) -> u32
-        ensures { result ≡ revision_at (accepted_list self.now) - revision_at (published_list self.now) }
+        ensures { result
+            ≡ revision_at (accepted_list self.now) - revision_at (published_list self.now) }
     {
         self.holder.revision - self.holder.swap.published().notice.revision
     }
@@ -82,7 +92,8 @@ impl Writer {
     pub fn publish<R: Wait>(&mut self, rt: &R) -> Result<(), OutOfMemory>
         ensures identity { identity self.new ≡ identity self.old }
         ensures accepted { accepted_list self.new ≡ accepted_list self.old }
-        ensures published { MatchResult result (λ _. published_list self.new ≡ accepted_list self.old)
+        ensures published { MatchResult result
+            (λ _. published_list self.new ≡ accepted_list self.old)
             (λ _. published_list self.new ≡ published_list self.old) }
         ensures nothing { published_list self.old ≡ accepted_list self.old → IsOk result }
         ensures max_ops { max_ops self.new ≡ max_ops self.old }

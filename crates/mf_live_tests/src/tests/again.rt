@@ -1,4 +1,4 @@
-//! Calls that are made again after an allocation failed. A test that runs by itself has ample memory; `tests/wanting_memory.py`
+//! Calls that are made again after an allocation failed. A test that runs by itself has ample memory; `tests/refused_allocations.py`
 //! refuses each allocation of this one in turn.
 
 use super::{
@@ -63,8 +63,8 @@ fn apply_in_tries(
         match writer.apply(alloc, op) {
             Ok(()) => return,
             Err((back, fault)) => {
-                let wanting = Fault::Refused(OpFault::OutOfMemory);
-                assert_same(rt, fault, wanting, "the operation");
+                let refusal = Fault::Refused(OpFault::OutOfMemory);
+                assert_same(rt, fault, refusal, "the operation");
                 op = back;
             }
         }

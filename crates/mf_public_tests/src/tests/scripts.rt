@@ -2,7 +2,7 @@
 ghost use Rattle.std.specs.Io.KnownBytes.{IsAtEnd};
 ghost use Rattle.std.specs.Prelude.{ℕ, IfOk, OnOk};
 ghost use Rattle.mf_desk.specs.Performances.{Performs, task};
-ghost use Rattle.mf_desk.specs.Streams.{streams};
+ghost use Rattle.mf_desk.specs.Streams.{streams_of};
 
 use super::fonts::NO_WORDS;
 use crate::tests::assertions::assert_same;
@@ -49,7 +49,7 @@ fn run_script<S: Wait, R: Read, W: Write>(
 ) -> Result<Outcome, RunFault>
     ensures transcript { IfOk result (λ outcome. (looks : ℕ)
         → Performs (task SETTINGS 0 looks)
-        (streams (R.remaining reader.old) (R.remaining reader.new) (W.contents writer.old) (W.contents writer.new)) outcome) }
+        (streams_of R.remaining reader.old reader.new W.contents writer.old writer.new) outcome) }
     ensures end { OnOk result (IsAtEnd (R.remaining reader.new)) }
 {
     let settings: &Settings = &SETTINGS;

@@ -36,7 +36,8 @@ fn perform<R: Wait>(
 ) -> Result<Vec<u8>, OutOfMemory>
     ensures answer { IfOk result (λ text. (s : State) → StandsFor session.old s
         → HasAnswered session.new text.items (Answers (limits session.old) s line.now)) }
-    ensures unchanged { OnErr result ((s : State) → StandsFor session.old s → StandsFor session.new s) }
+    ensures unchanged { OnErr result
+        ((s : State) → StandsFor session.old s → StandsFor session.new s) }
 {
     let line: &[u8] = line.as_bytes();
     let printed: Result<Vec<u8>, OutOfMemory> = session.command(rt, alloc, line);

@@ -1,16 +1,16 @@
 //! What moves a picture: reflections, stretches and turns.
 ghost use Rattle.std.specs.Prelude.{IfOk};
-ghost use Rattle.mf_edges.specs.Axes.{IsStretch, opposite, source_of};
+ghost use Rattle.mf_rows_edges.specs.Axes.{IsStretch, opposite, source_of};
 ghost use Rattle.mf_rows.specs.Dots.{IsPicture, weight_at};
-ghost use Rattle.mf_strips.specs.Moves.{moved_columns, moved_rows};
-ghost use Rattle.mf_strips.specs.Turns.{quarter_turn};
+ghost use Rattle.mf_rows_strips.specs.Moves.{moved_columns, moved_rows};
+ghost use Rattle.mf_rows_strips.specs.Turns.{quarter_turn};
 ghost use Rattle.mf_rows.specs.Moves.{PixelsStayInside};
 ghost use Rattle.mf_rows.specs.Sums.{HasWeights};
 
 use super::Picture;
 use mf_base::OutOfMemory;
-use mf_edges::Stretch;
-use mf_strips::{mirrored_columns, mirrored_rows, stretched, turned};
+use mf_rows_edges::Stretch;
+use mf_rows_strips::{mirrored_columns, mirrored_rows, stretched, turned};
 use std::alloc::Global;
 
 #[tactic(auto, using(crate::proofs::PicturePiles::of_piles, crate::proofs::PicturePiles::strips_inside))]
@@ -47,7 +47,9 @@ impl Picture {
         requires columns { IsStretch columns.now }
         requires rows { IsStretch rows.now }
         requires inside { PixelsStayInside columns.now rows.now self.now }
-        ensures weights { IfOk result (HasWeights (moved_rows (source_of rows.now) (moved_columns (source_of columns.now) (weight_at self.now)))) }
+        ensures weights { IfOk result
+            (HasWeights
+            (moved_rows (source_of rows.now) (moved_columns (source_of columns.now) (weight_at self.now)))) }
         ensures lawful { IfOk result IsPicture }
     {
         let part = self.joined(alloc)?;

@@ -4,8 +4,8 @@ use super::rectangle_sums::slow_form_of;
 use super::rectangles::{Rectangle, make_rectangle};
 use super::slow::SlowPicture;
 use mf_base::OutOfMemory;
-use mf_edges::WeightMap;
 use mf_rows::{Picture, Run};
+use mf_rows_edges::WeightMap;
 use std::alloc::Global;
 
 /// What is made from a picture.
@@ -86,7 +86,7 @@ impl Derived {
 }
 
 /// The picture in which weights 1 and 2 become 3, and all others 0.
-#[tactic(auto, unfolding(mf_edges::specs::WeightMaps::mapped_weight))]
+#[tactic(auto, unfolding(mf_rows_edges::specs::WeightMaps::mapped_weight))]
 fn choose(alloc: Global, picture: &Picture) -> Result<Picture, OutOfMemory> {
     let map = WeightMap {
         low: 1,
@@ -98,7 +98,7 @@ fn choose(alloc: Global, picture: &Picture) -> Result<Picture, OutOfMemory> {
 }
 
 /// The picture in which all weights but 0 become -7.
-#[tactic(auto, unfolding(mf_edges::specs::WeightMaps::mapped_weight))]
+#[tactic(auto, unfolding(mf_rows_edges::specs::WeightMaps::mapped_weight))]
 fn level(alloc: Global, picture: &Picture) -> Result<Picture, OutOfMemory> {
     let map = WeightMap {
         low: 0,

@@ -6,8 +6,8 @@ use super::slow::{SlowPicture, both_forms};
 use super::{assert_runs, assert_weights, copy_of, expect_picture, make_run};
 use crate::tests::assertions::assert_holds;
 use mf_base::OutOfMemory;
-use mf_edges::FIELD_START;
 use mf_rows::{Picture, RowBuilder, Run};
+use mf_rows_edges::FIELD_START;
 use std::alloc::Global;
 use std::process::Abort;
 

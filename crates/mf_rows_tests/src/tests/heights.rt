@@ -7,8 +7,8 @@ use super::{
     assert_all_runs, assert_bounds, assert_weights, expect_picture, make_run, negative_of, sum_of,
 };
 use mf_base::OutOfMemory;
-use mf_edges::{FIELD_END, FIELD_START, Stretch};
 use mf_rows::{Box4, Picture, Run};
+use mf_rows_edges::{FIELD_END, FIELD_START, Stretch};
 use std::alloc::Global;
 use std::process::Abort;
 

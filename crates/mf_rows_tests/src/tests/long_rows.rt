@@ -1,6 +1,6 @@
 //! Rows with as many edges as a row can have.
 
-ghost use Rattle.mf_edges.specs.WeightMaps.{IsWeightMap};
+ghost use Rattle.mf_rows_edges.specs.WeightMaps.{IsWeightMap};
 
 use super::field::push_pixel_run;
 use super::moves::{mirror_columns, mirror_rows, turn};
@@ -11,8 +11,8 @@ use super::{
 };
 use crate::tests::assertions::assert_same;
 use mf_base::OutOfMemory;
-use mf_edges::{FIELD_END, FIELD_START, WeightMap};
 use mf_rows::{Picture, Run};
+use mf_rows_edges::{FIELD_END, FIELD_START, WeightMap};
 use std::alloc::Global;
 use std::process::Abort;
 
@@ -138,7 +138,7 @@ fn assert_stripes_mapped<R: Abort + AllocGlobal>(rt: &R, map: WeightMap, stripes
 }
 
 #[test]
-#[tactic(auto, unfolding(mf_edges::specs::WeightMaps::mapped_weight))]
+#[tactic(auto, unfolding(mf_rows_edges::specs::WeightMaps::mapped_weight))]
 fn rows_of_all_edges_are_culled(rt: HostRuntime) {
     assert_stripes_mapped(&rt, weight_map(2, 2, 5, 0), (0, 5));
     assert_stripes_mapped(&rt, weight_map(1, 2, 3, 0), (3, 3));

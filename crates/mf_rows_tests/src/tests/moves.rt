@@ -1,6 +1,6 @@
 //! Reflected, turned and stretched pictures, compared pixel by pixel.
 ghost use Rattle.std.specs.Prelude.{pos, negsuc, ◌≤ℤ◌};
-ghost use Rattle.mf_edges.specs.Axes.{IsStretch};
+ghost use Rattle.mf_rows_edges.specs.Axes.{IsStretch};
 ghost use Rattle.mf_rows.specs.Moves.{PixelsStayInside};
 
 use super::chance::Chance;
@@ -10,8 +10,8 @@ use super::{
     assert_equality, assert_total, assert_weights, copy_of, expect_picture, make_run, picture_of,
 };
 use mf_base::OutOfMemory;
-use mf_edges::Stretch;
 use mf_rows::{Picture, Run};
+use mf_rows_edges::Stretch;
 use std::alloc::Global;
 use std::process::Abort;
 

@@ -4,8 +4,8 @@ use super::slow::{SlowPicture, both_forms};
 use super::{assert_runs_in, copy_of, expect_picture, make_run, picture_of, sum_of};
 use crate::tests::assertions::assert_same;
 use mf_base::OutOfMemory;
-use mf_edges::WeightMap;
 use mf_rows::{AddFault, Picture, Run};
+use mf_rows_edges::WeightMap;
 use std::alloc::Global;
 use std::process::Abort;
 
@@ -99,7 +99,7 @@ fn assert_sum_of_runs<R: Abort + AllocGlobal>(
 }
 
 /// Asserts the sum of the pictures with these weights at these places, and what is left of it when it is culled.
-#[tactic(auto, unfolding(mf_edges::specs::WeightMaps::mapped_weight))]
+#[tactic(auto, unfolding(mf_rows_edges::specs::WeightMaps::mapped_weight))]
 fn assert_sum_at<R: Abort + AllocGlobal>(
     rt: &R,
     places: &[(i32, i32); 3],

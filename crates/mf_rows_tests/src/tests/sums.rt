@@ -1,15 +1,15 @@
 //! Sums of pictures, and pictures whose weights are mapped, compared pixel by pixel.
 
 ghost use Rattle.std.specs.Prelude.{◌≡◌};
-ghost use Rattle.mf_edges.specs.WeightMaps.{IsWeightMap};
+ghost use Rattle.mf_rows_edges.specs.WeightMaps.{IsWeightMap};
 
 use super::generated::{ROWS, SMALL_WEIGHTS, STARTS, WEIGHTS, forms_of_weights, random_forms};
 use super::slow::SlowPicture;
 use super::{assert_equality, assert_total, expect_picture, negative_of, sum_of};
 use crate::tests::assertions::{assert_holds, assert_same};
 use mf_base::OutOfMemory;
-use mf_edges::WeightMap;
 use mf_rows::{AddFault, Picture};
+use mf_rows_edges::WeightMap;
 use std::alloc::Global;
 use std::process::Abort;
 
@@ -173,7 +173,7 @@ pub(super) fn weight_map(low: i32, high: i32, inside: i32, outside: i32) -> Weig
 }
 
 #[test]
-#[tactic(auto, unfolding(mf_edges::specs::WeightMaps::mapped_weight))]
+#[tactic(auto, unfolding(mf_rows_edges::specs::WeightMaps::mapped_weight))]
 fn weights_are_chosen_pixel_by_pixel(rt: HostRuntime) {
     assert_mapped(&rt, weight_map(1, 2, 3, 0));
     assert_mapped(&rt, weight_map(-1, 1, 0, -7));

@@ -1,4 +1,4 @@
-//! What is at the front of bytes: blanks, or a given token, letter or number. These functions take no `Tokens`: they do not reckon
+//! What is at the front of bytes: blanks, or a given token, letter or number. These functions take no `Tokens`: they do not count
 //! columns.
 ghost use Rattle.std.specs.Prelude.{ℕ, ◌≡◌, ◌+◌, ◌≤◌, IsTrue, drop, length, nat_eq, nat_lt, Some, None, if◌then◌else◌};
 ghost use Rattle.std.specs.Char.{is_ascii_alphabetic};
@@ -17,7 +17,8 @@ const MAX_DIGITS: usize = 9;
 #[tactic(auto, using(std::proofs::lemmas::List::drop_more, crate::proofs::LineTokens::tokens_of_blank))]
 pub(super) fn blanks_at(text: &[u8]) -> usize
     ensures within { result ≤ length text.now }
-    ensures same { (column : ℕ) → tokens_from (column + result) (drop result text.now) ≡ tokens_from column text.now }
+    ensures same { (column : ℕ)
+        → tokens_from (column + result) (drop result text.now) ≡ tokens_from column text.now }
     ensures clear { IsClear (drop result text.now) }
 {
     for (place, byte) in text.iter().enumerate() {

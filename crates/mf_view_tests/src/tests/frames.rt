@@ -1,8 +1,8 @@
 //! The frames of a script whose publishes are held until they are drawn: each published revision, rising, and the last one.
 use super::assertions::assert_same;
 use super::paces::{Held, SETTINGS};
-use mf_frame::{Canvas, Style};
 use mf_view::{Showing, perform};
+use mf_view_frame::{Canvas, Style};
 use std::alloc::Global;
 use std::process::Abort;
 use std::rt::Files;

@@ -2,9 +2,9 @@
 use super::assertions::assert_same;
 use super::paces::SETTINGS;
 use mf_desk::RunFault;
-use mf_frame::{Canvas, Style};
 use mf_testing::{Pieces, Sink, grow_again, refuse_growths};
 use mf_view::{Pace, Plates, ProgramFault, Showing, perform};
+use mf_view_frame::{Canvas, Style};
 use std::alloc::Global;
 use std::process::Abort;
 use std::rt::Files;
@@ -36,7 +36,7 @@ impl Pace for Hasty {
 
     fn note_frame(&self, _revision: u32) {}
 
-    fn rest(&self) {}
+    fn wait_before_look(&self) {}
 }
 
 /// Performs the script while allocations are refused, with plates for a folder that is not there where one is asked for.
@@ -70,8 +70,8 @@ fn assert_whole<S: Abort + Wait + Threads + Files + Sync>(
     if found == fault {
         assert_same(rt, told, TOLD.as_bytes(), "all is told");
     } else {
-        let wanting = ProgramFault::Run(RunFault::OutOfMemory);
-        assert_same(rt, found, Some(wanting), "the refusal");
+        let refusal = ProgramFault::Run(RunFault::OutOfMemory);
+        assert_same(rt, found, Some(refusal), "the refusal");
     }
     assert_same(
         rt,

@@ -1,7 +1,7 @@
 //! Messages: the text and the status of each fault, which of two faults is told, and a stream of messages that fails.
 use super::assertions::assert_same;
+use mf_cli_options::{BAD_WORDS, DONE, RESOURCE_FAULT, STREAM_FAULT, refuse_words};
 use mf_desk::RunFault;
-use mf_options::{BAD_WORDS, DONE, STREAM_FAULT, WANTING, refuse_words};
 use mf_testing::{FailsOnce, Pieces, Remembers, Sink, words_of};
 use mf_view::ProgramFault;
 use mf_view::program::{TOO_SMALL, program, report};
@@ -17,9 +17,13 @@ const USAGE: &[u8] = b"usage: mfview [OPTION..] < SCRIPT (mfview --help lists th
 
 /// Each fault of a run, and with it its message and its status.
 const RUN_FAULTS: [(RunFault, &str, u8); 6] = [
-    (RunFault::OutOfMemory, "mfview: OutOfMemory\n", WANTING),
-    (RunFault::NoPlace, "mfview: NoPlace\n", WANTING),
-    (RunFault::NoLook, "mfview: NoLook\n", WANTING),
+    (
+        RunFault::OutOfMemory,
+        "mfview: OutOfMemory\n",
+        RESOURCE_FAULT,
+    ),
+    (RunFault::NoPlace, "mfview: NoPlace\n", RESOURCE_FAULT),
+    (RunFault::NoLook, "mfview: NoLook\n", RESOURCE_FAULT),
     (RunFault::FileTooLong, "mfview: FileTooLong\n", STREAM_FAULT),
     (RunFault::ReadFault, "mfview: ReadFault\n", STREAM_FAULT),
     (

@@ -2,9 +2,9 @@
 //! told of publishes and frames.
 use super::assertions::assert_same;
 use mf_desk::Settings;
-use mf_frame::{Canvas, Style};
 use mf_gf::FontWords;
 use mf_view::{Pace, Plates, ProgramFault, Showing, perform};
+use mf_view_frame::{Canvas, Style};
 use std::alloc::Global;
 use std::process::Abort;
 use std::rt::Files;
@@ -70,7 +70,7 @@ impl Pace for Held {
         self.drawn.store(u64::from(revision), Ordering::SeqCst);
     }
 
-    fn rest(&self) {}
+    fn wait_before_look(&self) {}
 }
 
 /// Revision 1 is published twice, revision 2 once, and revision 3 not before the end.

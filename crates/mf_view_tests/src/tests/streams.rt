@@ -2,9 +2,9 @@
 use super::assertions::assert_same;
 use super::paces::{Held, SETTINGS};
 use mf_desk::RunFault;
-use mf_frame::{Canvas, Style};
 use mf_testing::{FailsOnce, Failure, FlushFails, Pieces, Sink};
 use mf_view::{ProgramFault, Showing, perform};
+use mf_view_frame::{Canvas, Style};
 use std::alloc::Global;
 use std::io::{ErrorKind, Read, Write};
 use std::process::Abort;

@@ -2,7 +2,7 @@
 
 use crate::tests::assertions::assert_same;
 use crate::tests::words::{ALL, ALL_WORDS, Asked, assert_asks, assert_refused, assert_shows};
-use mf_options::WordsFault;
+use mf_cli_options::WordsFault;
 use mf_testing::{command_line, grow_again, refuse_growths};
 use mf_view_words::{Request, read_words};
 use std::process::Abort;

@@ -1,7 +1,7 @@
 //! Tests of command lines: each option, its bounds, and what is refused.
 
 use crate::tests::assertions::{assert_holds, assert_same};
-use mf_options::WordsFault;
+use mf_cli_options::WordsFault;
 use mf_testing::command_line;
 use mf_view_words::{HELP, Request, Words, read_words};
 use std::alloc::Global;

@@ -1,7 +1,7 @@
 use Rattle.std.proofs.Common.{◌∙◌, ap, codes}
 use Rattle.std.proofs.lemmas.Result.{IfOk-weaker}
 use Rattle.clap.specs.Words.{with_rule}
-use Rattle.mf_options.specs.Options.{file_rule, number_rule}
+use Rattle.mf_cli_options.specs.Options.{file_rule, number_rule}
 use Rattle.mf_cli.specs.CommandLine.{greatest_viewers, mfpic}
 use Rattle.mf_cli.proofs.words.command.Goals as goal
 

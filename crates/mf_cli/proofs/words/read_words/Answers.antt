@@ -1,9 +1,9 @@
 use Rattle.std.proofs.Common.{◌≡◌, ◌∙◌, Err, ap, arith, codes, map, string_bytes, sym}
 use Rattle.std.proofs.lemmas.Result.{err_from_is_err_and}
 use Rattle.clap.specs.Words.{app_of, fault_of, found_of, matches_of, one_of, rows_of}
-use Rattle.mf_options.proofs.ValuesTyped.{in_bounds, is_number}
-use Rattle.mf_options.specs.declared.fault.WordsFault.TheVariants.{BadWords}
-use Rattle.mf_options.specs.Values.{file_in, number_in, texts_of}
+use Rattle.mf_cli_options.proofs.ValuesTyped.{in_bounds, is_number}
+use Rattle.mf_cli_options.specs.declared.fault.WordsFault.TheVariants.{BadWords}
+use Rattle.mf_cli_options.specs.Values.{file_in, number_in, texts_of}
 use Rattle.mf_cli.specs.CommandLine.{greatest_viewers, mfpic}
 use Rattle.mf_cli.proofs.CommandLines.{viewers_given}
 use Rattle.mf_cli.proofs.words.read_words.Goals.{In_ok-matches}

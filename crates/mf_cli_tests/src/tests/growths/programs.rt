@@ -2,7 +2,7 @@
 
 use crate::tests::assertions::{assert_holds, assert_same};
 use crate::tests::font_files::{KEPT, assert_file, path_of, put, remove};
-use crate::tests::{BAD_WORDS, DONE, End, USAGE, WANTING, assert_ends};
+use crate::tests::{BAD_WORDS, DONE, End, RESOURCE_FAULT, USAGE, assert_ends};
 use mf_cli::program;
 use mf_testing::{
     Pieces, RECT_FILE, Remembers, Sink, count_of_texts, grow_again, refuse_growths, words_of,
@@ -83,14 +83,14 @@ fn run_while_refused<R: Abort + Wait + Threads + Files + AllocGlobal>(
 /// Asserts that the run ended with `OutOfMemory`, and that it wrote the complete texts of the first lines.
 fn assert_out_of_memory(rt: &impl Abort, left: &Left) {
     let written = left.writer.bytes();
-    let end: End<'_> = (WANTING, written, b"mfpic: OutOfMemory\n");
-    assert_same(rt, left.end(), end, "memory was wanting");
+    let end: End<'_> = (RESOURCE_FAULT, written, b"mfpic: OutOfMemory\n");
+    assert_same(rt, left.end(), end, "an allocation failed");
     assert_holds(rt, count_of_texts(TEXTS, written).is_some(), "whole texts");
 }
 
 /// Asserts that a viewer had no place or no thread, and that nothing was read or written.
 fn assert_has_no_place(rt: &impl Abort, left: &Left) {
-    let end: End<'_> = (WANTING, b"", b"mfpic: NoPlace\n");
+    let end: End<'_> = (RESOURCE_FAULT, b"", b"mfpic: NoPlace\n");
     assert_same(rt, left.end(), end, "a viewer had no place");
     assert_same(rt, left.reads, 0, "reads");
 }
@@ -129,7 +129,7 @@ fn a_script_is_performed_beside_viewers(rt: HostRuntime) {
 /// A font file is replaced if the run is done, and stays as it was if the run ends with `OutOfMemory`.
 #[test]
 fn a_font_file_is_written(rt: HostRuntime) -> Result<(), Fail> {
-    let path = path_of(&rt, "wanting")?;
+    let path = path_of(&rt, "failed")?;
     let words = ["mfpic", "--gf", path.as_str()];
     put(&rt, path.as_str(), KEPT);
     let left = run_while_refused(&rt, &words);
@@ -156,8 +156,8 @@ fn words_are_refused(rt: HostRuntime) {
     if left.status == BAD_WORDS {
         assert_same(&rt, left.end(), end, "the words are refused");
     } else {
-        let wanting: End<'_> = (WANTING, b"", b"mfpic: OutOfMemory\n");
-        assert_same(&rt, left.end(), wanting, "memory was wanting");
+        let failed: End<'_> = (RESOURCE_FAULT, b"", b"mfpic: OutOfMemory\n");
+        assert_same(&rt, left.end(), failed, "an allocation failed");
     }
     assert_same(&rt, left.reads, 0, "reads");
     assert_ends(&rt, &words, Pieces::whole(SCRIPT), end);

@@ -35,8 +35,8 @@ fn assert_reads_while_refused<R: Abort + AllocGlobal>(
 fn assert_words_refused<R: Abort + AllocGlobal>(rt: &R, texts: &[&str]) {
     let fault = read_while_refused(rt, texts).err();
     let bad = fault == Some(WordsFault::BadWords);
-    let wanting = fault == Some(WordsFault::OutOfMemory);
-    assert_holds(rt, bad || wanting, texts);
+    let out_of_memory = fault == Some(WordsFault::OutOfMemory);
+    assert_holds(rt, bad || out_of_memory, texts);
     assert_refused(rt, texts);
 }
 

@@ -4,10 +4,10 @@ use Rattle.std.proofs.lemmas.Result.{IfErr-weaker, IfOk-weaker}
 use Rattle.mf_desk.specs.declared.fault.RunFault.TheVariants as faults
 use Rattle.mf_desk.specs.Performances.{Performs, TellsOfRun, task}
 use Rattle.mf_desk.specs.Streams.{Passes, streams}
-use Rattle.mf_session.specs.Sessions.{identity}
-use Rattle.mf_watch.specs.declared.watcher.Watcher.{Watcher}
-use Rattle.mf_watch.specs.Watchers.{HasSeen, IsRecord, IsWatcher}
-use Rattle.mf_watch.specs.Watching.{AreStarted}
+use Rattle.mf_desk_session.specs.Sessions.{identity}
+use Rattle.mf_desk_watch.specs.declared.watcher.Watcher.{Watcher}
+use Rattle.mf_desk_watch.specs.Watchers.{HasSeen, IsRecord, IsWatcher}
+use Rattle.mf_desk_watch.specs.Watching.{AreStarted}
 use Rattle.mf_base.proofs.Faults.{IfErr-raised}
 use Rattle.mf_desk.proofs.Performances.{TellsOfRun-nothing, TellsOfRun-script, TellsOfRun-unstarted, TellsOfRun-unwatched}
 use Rattle.mf_desk.proofs.performance.perform.Goals.{After-join-joined}

@@ -14,5 +14,5 @@ returns-then-is_short_side c =
     let max_n : to_z w32 (of_z w32 b.max_n) ≡ b.max_n = omega (arith, ints) in
     let columns = rw (max_m, min_m) at c.is_short_side.ensures in
     let rows = rw (max_n, min_n) at c.is_short_side-then-is_short_side.ensures in
-    and_then _ _ _ _ c.if-is_short_side.true columns rows
+    and_then c.if-is_short_side.true columns rows
     ∙ and_assoc (is_byte (b.max_m -ℤ b.min_m)) (is_byte b.max_m) (is_byte (b.max_n -ℤ b.min_n) && is_byte b.max_n)

@@ -45,7 +45,7 @@ repeat_row-requires-clause-part c =
       _,
       _,
       _,
-      just_written _ _ _ _ (c.start_row.ensures.held _ c.requires.spelling.1) (write_both _ _ _ _ _ c.paint.ensures.held c.put_runs.ensures.held)
+      just_written _ _ _ _ (c.start_row.ensures.held _ c.requires.spelling.1) (write_both c.paint.ensures.held c.put_runs.ensures.held)
           (c.put_runs.ensures.room ∙ c.paint.ensures.room),
     )
 
@@ -76,7 +76,7 @@ returns-clause-held c =
     let first = c.in-Some.first in
     let end : to_z w32 (of_z w32 (to_z w32 (of_z w32 first.x) +ℤ to_z w32 first.len)) ≡ first.x +ℤ pos first.len =
     omega (arith, ints, c.in-Some.ensures.run.left, c.in-Some.ensures.run.right, c.in-Some.ensures.run.some) in
-    let goes_on = write_both _ _ _ _ _ c.paint.ensures.held (rw end at c.put_runs.ensures.held) in
+    let goes_on = write_both c.paint.ensures.held (rw end at c.put_runs.ensures.held) in
     rw (passed_rows c.args.left _ _ _ (alike after) _ _ (is after) c.args.blank, count)
     (λ text holds.
     let part = just_written _ _ _ others (begins text holds) goes_on (c.put_runs.ensures.room ∙ c.paint.ensures.room) in

@@ -6,7 +6,7 @@ use Rattle.mf_gf.proofs.rows.spell_rows.Goals as goal
 pub loop-rows-init : goal.loop-rows-init
 loop-rows-init c =
     let rows = c.black_rows-rows.ensures in
-    none_spelled _ _ _ _ rows.black rows.row (rw rows.black at rows.runs)
+    none_spelled rows.black rows.row (rw rows.black at rows.runs)
 
 pub spell_equal_rows-blank-requires-clause-spelling : goal.spell_equal_rows-blank-requires-clause-spelling
 spell_equal_rows-blank-requires-clause-spelling c = (_, c.loop-rows.invariant.writes _ c.requires.spelling.1)

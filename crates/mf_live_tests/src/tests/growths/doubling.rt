@@ -32,8 +32,8 @@ fn apply_in_want(
     (pending, total): (u32, i64),
 ) {
     if let Err((back, fault)) = apply_while_refused(alloc, writer, op) {
-        let wanting = Fault::Refused(OpFault::OutOfMemory);
-        assert_same(rt, fault, wanting, "the operation");
+        let refusal = Fault::Refused(OpFault::OutOfMemory);
+        assert_same(rt, fault, refusal, "the operation");
         assert_holds(rt, is_same(&back, same), "the operation comes back");
         assert_working(rt, writer, pending, total);
         apply(rt, alloc, writer, back);

@@ -43,8 +43,8 @@ pub(super) fn is_same(one: &Op, other: &Op) -> bool {
 
 /// Asserts that this operation was handed back because an allocation failed, and that the moved rectangle is as it was.
 fn assert_handed_back(rt: &impl Abort, writer: &Writer, back: &Op, same: &Op, fault: Fault) {
-    let wanting = Fault::Refused(OpFault::OutOfMemory);
-    assert_same(rt, fault, wanting, "the operation");
+    let refusal = Fault::Refused(OpFault::OutOfMemory);
+    assert_same(rt, fault, refusal, "the operation");
     assert_holds(rt, is_same(back, same), "the operation comes back");
     assert_waiting(rt, writer, (1, 2), MOVED);
 }

@@ -1,4 +1,4 @@
-use Rattle.std.proofs.Common.{◌≡◌, ◌<◌, ◌++◌, reverse, length, ap, arith, to_z, of_z, to_z-of_z, w32, sym}
+use Rattle.std.proofs.Common.{◌≡◌, ◌<◌, ◌*ℤ◌, ◌++◌, ◌∙◌, reverse, length, ap, arith, to_z, of_z, to_z-of_z, w32, sym}
 use Rattle.std.proofs.lemmas.Int.{ints}
 use Rattle.mf_geom.specs.Path.{segment_at}
 use Rattle.mf_ops.specs.Sides.{HasSide}
@@ -63,5 +63,5 @@ returns c =
     let sides = AreSides-joined ps w (length ps) rising falling apart in
     rw (c.in_ok-extend_from_slice.ensures.items, c.reverse.ensures.items, c.deref.ensures.value) record {
       lawful = AreCorners-sides ps w (reverse rising ++ falling) rectilinear sides;
-      added = grind (arith, ints, sym, winding-crossings);
+      added = λ x y. sides.added x y ∙ ap (λ n. w *ℤ n) (sym (winding-crossings ps x y rectilinear));
     }

@@ -1,7 +1,7 @@
 use Rattle.std.proofs.Common.{◌≡◌, pos, neg_ℤ, ◌-ℤ◌, ◌∷◌, [], ◌++◌, ◌∙◌, sym, ap, append_assoc, arith, to_z, of_z, to_z-of_z, w32}
 use Rattle.std.proofs.lemmas.Int.{ints}
 use Rattle.mf_geom.specs.Path.{Segment}
-use Rattle.mf_strips.specs.declared.corner.Corner.{Corner}
+use Rattle.mf_rows_strips.specs.declared.corner.Corner.{Corner}
 use Rattle.mf_ops.proofs.Sides.{HasSide-vertical, HasSide-horizontal}
 use Rattle.mf_ops.proofs.fill.push_side.Goals as goal
 

@@ -1,11 +1,11 @@
 use Rattle.std.proofs.Common.{ℤ, pos, List, refl}
 use Rattle.std.proofs.lemmas.Bool.{cond_both}
-use Rattle.mf_edges.specs.LawfulWeights.{IsLawfulWeight}
-use Rattle.mf_edges.proofs.EdgeSums.{zero_lawful}
+use Rattle.mf_rows_edges.specs.LawfulWeights.{IsLawfulWeight}
+use Rattle.mf_rows_edges.proofs.EdgeSums.{zero_lawful}
 use Rattle.mf_rows.specs.Dots.{Dot, IsPicture, start_of_field, weight_at}
 use Rattle.mf_rows.proofs.DotsLemmas.{dots_from-lawful}
 use Rattle.mf_rows.proofs.WeightsLemmas.{lawful_weight_at}
-use Rattle.mf_edges.specs.WeightMaps.{is_within}
+use Rattle.mf_rows_edges.specs.WeightMaps.{is_within}
 use Rattle.mf_ops.specs.Moves.{scale_source, turn_by}
 use Rattle.mf_ops.specs.declared.cull.CullRule.TheVariants.{Keeping, Dropping}
 use Rattle.mf_ops.specs.declared.op.Op.TheVariants as ops

@@ -1,6 +1,6 @@
 use Rattle.std.proofs.Common.{◌≡◌, List, refl, subst, sym, ap, ◌∙◌}
 use Rattle.mf_geom.specs.declared.point.Point.{Point}
-use Rattle.mf_edges.specs.Axes.{opposite}
+use Rattle.mf_rows_edges.specs.Axes.{opposite}
 use Rattle.mf_rows.specs.Dots.{Dot, weight_at}
 use Rattle.mf_ops.specs.Squares.{MovesPixels}
 use Rattle.mf_ops.specs.Step.{step_at}

@@ -20,12 +20,12 @@ returns-then-not-pixels_stay_inside-clause-refused c other =
 
 pub stretch-requires-5 : goal.stretch-requires-5
 stretch-requires-5 c =
-    let x = stretches_made _ _ _ _ _ c.x-x.ensures.factor c.x-x.ensures.value c.stretch.ensures c.abs.ensures.value c.stretch-3.ensures in
-    let y = stretches_made _ _ _ _ _ c.y-y.ensures.factor c.y-y.ensures.value c.stretch-2.ensures c.abs-2.ensures.value c.stretch-4.ensures in
+    let x = stretches_made c.x-x.ensures.factor c.x-x.ensures.value c.stretch.ensures c.abs.ensures.value c.stretch-3.ensures in
+    let y = stretches_made c.y-y.ensures.factor c.y-y.ensures.value c.stretch-2.ensures c.abs-2.ensures.value c.stretch-4.ensures in
     let reflected = c.in_ok-reflected.ensures in
     record {
-      columns = IsStretch-made _ _ _ _ x;
-      rows = IsStretch-made _ _ _ _ y;
+      columns = IsStretch-made x;
+      rows = IsStretch-made y;
       inside = grind (arith, ints, PixelsStayInside-reflected, reflected, c.pixels_stay_inside.ensures.0 c.if-not-pixels_stay_inside.false);
     }
 
@@ -33,8 +33,8 @@ pub returns : goal.returns
 returns c =
     let ds = c.args.picture.now in
     let s = c.args.scale in
-    let x = stretches_made _ _ _ _ _ c.x-x.ensures.factor c.x-x.ensures.value c.stretch.ensures c.abs.ensures.value c.stretch-3.ensures in
-    let y = stretches_made _ _ _ _ _ c.y-y.ensures.factor c.y-y.ensures.value c.stretch-2.ensures c.abs-2.ensures.value c.stretch-4.ensures in
+    let x = stretches_made c.x-x.ensures.factor c.x-x.ensures.value c.stretch.ensures c.abs.ensures.value c.stretch-3.ensures in
+    let y = stretches_made c.y-y.ensures.factor c.y-y.ensures.value c.stretch-2.ensures c.abs-2.ensures.value c.stretch-4.ensures in
     let has = HasWeights-scale ds _ _ s _ _ _ _ _ _ x y c.in_ok-reflected.ensures.weights c.in_ok-stretch.ensures.weights in
     let stays = stays_in_field-scale ds s (rw (x.signed_is, y.signed_is) at (c.pixels_stay_inside.ensures.0 c.if-not-pixels_stay_inside.false)) in
     let picture = c.in_ok-stretch.ensures.lawful in

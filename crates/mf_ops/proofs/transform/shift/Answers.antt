@@ -1,10 +1,10 @@
 use Rattle.std.proofs.Common.{◌≡◌, true, refl, ap, ℤ, ◌-ℤ◌, FitsSigned, w32, to_z, of_z, ◌∙◌, arith}
 use Rattle.std.proofs.lemmas.Bool.{both_ways}
 use Rattle.std.proofs.lemmas.Int.{ints, to_z-of_z}
-use Rattle.mf_edges.specs.declared.stretch.Stretch.{Stretch}
+use Rattle.mf_rows_edges.specs.declared.stretch.Stretch.{Stretch}
 use Rattle.mf_rows.specs.Dots.{weight_at}
-use Rattle.mf_edges.specs.Axes.{source_of}
-use Rattle.mf_edges.proofs.Sources.{source_of-is}
+use Rattle.mf_rows_edges.specs.Axes.{source_of}
+use Rattle.mf_rows_edges.proofs.Sources.{source_of-is}
 use Rattle.mf_ops.specs.Moves.{shift_by}
 use Rattle.mf_ops.specs.declared.op.Op.TheVariants.{Shift}
 use Rattle.mf_ops.proofs.Faults.{HasWeights-same, IsForWeights, made-from_weights, op_fault-leaves, not_out}

@@ -4,8 +4,8 @@ use Rattle.std.proofs.lemmas.Bool.{both_ways}
 use Rattle.std.proofs.lemmas.Int.{ints, to_z-of_z, unsigned_abs-mul, fits_signed_from_abs}
 use Rattle.std.specs.Int.RustNames.{unsigned_abs}
 use Rattle.mf_geom.specs.Coordinates.{least_coordinate, greatest_coordinate, IsCoordinate}
-use Rattle.mf_edges.specs.Axes.{target_of}
-use Rattle.mf_edges.proofs.EdgeChanges.{size-at_most}
+use Rattle.mf_rows_edges.specs.Axes.{target_of}
+use Rattle.mf_rows_edges.proofs.EdgeChanges.{size-at_most}
 use Rattle.mf_ops.proofs.transform.stays_in_range.Goals.{After-from-3}
 use Rattle.mf_ops.proofs.transform.stays_in_range.Goals as goal
 

@@ -6,8 +6,8 @@ use crate::tests::derived::Derived;
 use crate::tests::moves::assert_stays_inside;
 use crate::tests::{assert_runs, expect_picture, picture_of};
 use mf_base::OutOfMemory;
-use mf_edges::Stretch;
 use mf_rows::Run;
+use mf_rows_edges::Stretch;
 use mf_testing::{grow_again, refuse_growths};
 use std::process::Abort;
 

@@ -61,7 +61,7 @@ fn copy_of_many<R: Abort + AllocGlobal>(rt: &R) -> Drawing {
     drawing
 }
 
-/// Where memory is wanting, no parts are joined to make room for it.
+/// Where an allocation fails, no parts are joined to make room for it.
 #[test]
 fn a_part_is_added_to_32(rt: HostRuntime) {
     assert_contour_added(&rt, many(&rt), &LAST);

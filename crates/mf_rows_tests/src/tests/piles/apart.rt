@@ -7,8 +7,8 @@ use crate::tests::derived::Derived;
 use crate::tests::moves::{assert_stays_inside, stretch};
 use crate::tests::rectangles::make_rectangle;
 use crate::tests::{assert_equality, expect_picture, make_run, picture_of};
-use mf_edges::Stretch;
 use mf_rows::{AddFault, Picture};
+use mf_rows_edges::Stretch;
 use std::process::Abort;
 
 /// A contour that cancels all but thirty teeth of the large part.

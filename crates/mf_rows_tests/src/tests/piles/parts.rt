@@ -7,7 +7,7 @@ use crate::tests::derived::Derived;
 use crate::tests::moves::{assert_stays_inside, stretch};
 use crate::tests::rectangles::{Rectangle, make_rectangle, negate};
 use crate::tests::{assert_equality, copy_of, expect_picture, picture_of};
-use mf_edges::Stretch;
+use mf_rows_edges::Stretch;
 use std::process::Abort;
 
 /// How many of the parts pictures have.

@@ -1,7 +1,7 @@
 use Rattle.std.proofs.Common.{◌∙◌, ap, codes}
 use Rattle.std.proofs.lemmas.Result.{IfOk-weaker}
 use Rattle.clap.specs.Words.{with_rule}
-use Rattle.mf_options.specs.Options.{file_rule, flag_rule, number_rule}
+use Rattle.mf_cli_options.specs.Options.{file_rule, flag_rule, number_rule}
 use Rattle.mf_view_words.specs.CommandLine.{greatest_design_size, greatest_resolution, mfview}
 use Rattle.mf_view_words.proofs.options.command.Goals as goal
 

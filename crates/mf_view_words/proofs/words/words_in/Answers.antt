@@ -1,8 +1,8 @@
 use Rattle.std.proofs.Common.{arith, codes, refl}
 use Rattle.clap.specs.Words.{found_of, rows_of}
 use Rattle.clap.specs.declared.builder.value_parser.ValueParser.TheVariants.{Bool as flag}
-use Rattle.mf_options.proofs.ValuesTyped.{in_bounds}
-use Rattle.mf_options.specs.Options.{number_parser}
+use Rattle.mf_cli_options.proofs.ValuesTyped.{in_bounds}
+use Rattle.mf_cli_options.specs.Options.{number_parser}
 use Rattle.mf_view_words.specs.CommandLine.{greatest_design_size, greatest_resolution}
 use Rattle.mf_view_words.proofs.CommandLines.{number_given}
 use Rattle.mf_view_words.proofs.words.words_in.Goals as goal

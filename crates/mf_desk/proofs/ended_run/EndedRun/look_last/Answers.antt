@@ -3,7 +3,7 @@ use Rattle.std.specs.Vec.Iter.{into_iter_items}
 use Rattle.std.proofs.lemmas.List.{map-append}
 use Rattle.std.proofs.lemmas.List.Elements.{All-nil, All-head, All-push, All-rest}
 use Rattle.mf_live.specs.Writers.{ended_identity}
-use Rattle.mf_watch.specs.Watchers.{HasRoomFor, HasSeen, IsRecord, glance_at, identity, record_of}
+use Rattle.mf_desk_watch.specs.Watchers.{HasRoomFor, HasSeen, IsRecord, glance_at, identity, record_of}
 use Rattle.mf_desk.specs.EndedRuns.{HasSeenLast, glance, glances_of, whole_record}
 use Rattle.mf_desk.proofs.Showing.{IsSameEnd-trans}
 use Rattle.mf_desk.proofs.ViewerLines.{lines-more, lines-nobody}

@@ -1,7 +1,7 @@
 use Rattle.std.proofs.Common.{◌≡◌, ◌+◌, ◌++◌, ℕ, All, length, map}
 use Rattle.std.specs.Vec.Iter.{into_iter_items}
 use Rattle.mf_live.specs.Writers.{ended_identity}
-use Rattle.mf_watch.specs.Watchers.{HasRoomFor, IsRecord, identity}
+use Rattle.mf_desk_watch.specs.Watchers.{HasRoomFor, IsRecord, identity}
 use Rattle.mf_desk.specs.EndedRuns.{HasSeenLast, IsSameEnd, glance, glances_of, whole_record}
 use Rattle.mf_desk.specs.Performances.{viewer_lines}
 use Rattle.mf_desk.proofs.ended_run.EndedRun.look_last.Given as goal

@@ -2,7 +2,7 @@ use Rattle.std.proofs.Common.{◌≡◌, ◌<◌, ◌∙◌, All, IfErr, IfOk, a
 use Rattle.mf_base.proofs.Faults.{IfErr-raised}
 use Rattle.mf_desk.specs.EndedRuns.{glance}
 use Rattle.mf_desk.specs.Performances.{viewer_lines}
-use Rattle.mf_watch.specs.Watchers.{IsRecord}
+use Rattle.mf_desk_watch.specs.Watchers.{IsRecord}
 use Rattle.mf_desk.proofs.Showing.{EndsWith-lines, IsSameEnd-trans, TellsOfRun-cut, TellsOfRun-unshown}
 use Rattle.mf_desk.proofs.ended_run.EndedRun.show.Goals as goal
 

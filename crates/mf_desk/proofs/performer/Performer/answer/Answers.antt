@@ -8,9 +8,9 @@ use Rattle.mf_text.proofs.Registers.{names_given}
 use Rattle.mf_text.specs.Grammar.{Nothing as NoForm}
 use Rattle.mf_text.specs.Tokens.{tokens_from, tokens_within}
 use Rattle.mf_text.specs.declared.command.Command.TheVariants.{Nothing}
-use Rattle.mf_session.specs.Answers.{Answers}
-use Rattle.mf_session.specs.Sessions.{limits}
-use Rattle.mf_session.specs.States.{Limits, State, answer_with}
+use Rattle.mf_desk_session.specs.Answers.{Answers}
+use Rattle.mf_desk_session.specs.Sessions.{limits}
+use Rattle.mf_desk_session.specs.States.{Limits, State, answer_with}
 use Rattle.mf_desk.specs.Performer.{IsLineText}
 use Rattle.mf_base.proofs.Faults.{IfErr-raised}
 use Rattle.mf_desk.proofs.performer.Performer.answer.Goals as goal

@@ -5,7 +5,7 @@ use Rattle.std.specs.Io.KnownBytes.{Consumes, IsAtEnd}
 use Rattle.mf_desk.specs.Ended.{ended_lines}
 use Rattle.mf_desk.specs.Faults.{Stops}
 use Rattle.mf_desk.specs.Streams.{Gets, MakesPassage}
-use Rattle.mf_session.specs.Sessions.{limits}
+use Rattle.mf_desk_session.specs.Sessions.{limits}
 use Rattle.mf_base.proofs.Faults.{IfErr-raised}
 use Rattle.mf_desk.proofs.Stages.{Breaks-flush, Breaks-nothing, IsAfter-flushed, nothing-written}
 use Rattle.mf_desk.proofs.progress.Progress.read_all.Goals as goal

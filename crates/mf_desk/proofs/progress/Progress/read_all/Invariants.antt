@@ -2,7 +2,7 @@ use Rattle.std.proofs.Common.{◌≡◌, ◌*◌, ◌≤◌, List, ℕ}
 use Rattle.std.specs.Io.KnownBytes.{Consumes}
 use Rattle.mf_desk.specs.Performer.{longest_read, longest_text}
 use Rattle.mf_desk.specs.Progress.{IsAfter}
-use Rattle.mf_session.specs.Sessions.{identity, limits}
+use Rattle.mf_desk_session.specs.Sessions.{identity, limits}
 use Rattle.mf_desk.proofs.progress.Progress.read_all.Given as goal
 
 abbrev pub invariant-reads : goal.invariant-reads

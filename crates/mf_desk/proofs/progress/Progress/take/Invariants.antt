@@ -1,7 +1,7 @@
 use Rattle.std.proofs.Common.{◌≡◌, ◌+◌, ◌*◌, ◌≤◌, ◌++◌, List, ℕ, length}
 use Rattle.mf_desk.specs.Performer.{longest_text}
 use Rattle.mf_desk.specs.Progress.{GoesOn}
-use Rattle.mf_session.specs.Sessions.{identity, limits}
+use Rattle.mf_desk_session.specs.Sessions.{identity, limits}
 use Rattle.mf_desk.proofs.progress.Progress.take.Given as goal
 
 abbrev pub invariant-lines : goal.invariant-lines

@@ -2,7 +2,7 @@ use Rattle.std.proofs.Common.{◌++◌, ◌∷◌, [], ap, refl, sym}
 use Rattle.std.proofs.lemmas.Bool.{eqb-true}
 use Rattle.std.proofs.lemmas.List.{nil_from_length}
 use Rattle.std.proofs.lemmas.Result.{err_from_is_err_and, on_ok_weaker, IfErr-weaker}
-use Rattle.mf_session.specs.Sessions.{limits}
+use Rattle.mf_desk_session.specs.Sessions.{limits}
 use Rattle.mf_desk.proofs.Intakes.{GoesOn-next, StopsDuring-first, StopsDuring-next, StopsDuring-wanting}
 use Rattle.mf_desk.proofs.Stages.{IsAfter-whole, Stops-whole}
 use Rattle.mf_desk.proofs.progress.Progress.take_line.Goals as goal

@@ -8,4 +8,4 @@ pub tell-note-requires : goal.tell-note-requires
 tell-note-requires c = forks _ _
 
 pub learn-requires-clause-rule : goal.learn-requires-clause-rule
-learn-requires-clause-rule c = merges _ _ _ _
+learn-requires-clause-rule c = merges

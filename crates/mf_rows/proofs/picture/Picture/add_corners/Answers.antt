@@ -1,6 +1,6 @@
 use Rattle.std.proofs.Common.{ap, sym}
 use Rattle.std.proofs.lemmas.Result.{on_ok_weaker, IfErr-weaker}
-use Rattle.mf_strips.proofs.CornersLemmas.{corners_are_swept}
+use Rattle.mf_rows_strips.proofs.CornersLemmas.{corners_are_swept}
 use Rattle.mf_rows.specs.Weights.{picture_of}
 use Rattle.mf_rows.proofs.PicturePiles.{corners_are, has_weights, unlawful_as}
 use Rattle.mf_rows.proofs.picture.Picture.add_corners.Goals as goal

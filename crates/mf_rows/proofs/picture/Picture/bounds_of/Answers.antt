@@ -1,5 +1,5 @@
 use Rattle.std.proofs.Common.{◌≡◌}
-use Rattle.mf_strips.specs.PileWeights.{weight_in_pile}
+use Rattle.mf_rows_strips.specs.PileWeights.{weight_in_pile}
 use Rattle.mf_rows.specs.Dots.{weight_at}
 use Rattle.mf_rows.specs.Weights.{picture_of}
 use Rattle.mf_rows.proofs.PicturePiles.{pile_weight}

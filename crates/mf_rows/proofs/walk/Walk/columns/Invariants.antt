@@ -1,7 +1,7 @@
 use Rattle.std.proofs.Common.{◌-ℤ◌}
 use Rattle.std.specs.Int.RustNames.{unsigned_abs}
 use Rattle.mf_geom.specs.Coordinates.{greatest_coordinate}
-use Rattle.mf_strips.specs.RowEdges.{weights_of}
+use Rattle.mf_rows_strips.specs.RowEdges.{weights_of}
 use Rattle.mf_rows.specs.Bounds.{AreColumns, among}
 use Rattle.mf_rows.specs.Remaining.{HasPassedRow}
 use Rattle.mf_rows.proofs.walk.Walk.columns.Given as goal

@@ -1,6 +1,6 @@
 use Rattle.std.proofs.Common.{◌≡◌, ap, ◌∙◌, arith}
 use Rattle.std.proofs.lemmas.Int.{ints}
-use Rattle.mf_strips.specs.RowEdges.{weights_of}
+use Rattle.mf_rows_strips.specs.RowEdges.{weights_of}
 use Rattle.mf_rows.proofs.BlackRuns.{same_black}
 use Rattle.mf_rows.proofs.PassedPixels.{bottom_fits}
 use Rattle.mf_rows.proofs.walk.Walk.pass_equal_rows.Goals as goal

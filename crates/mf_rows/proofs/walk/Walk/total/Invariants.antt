@@ -2,7 +2,7 @@ use Rattle.std.proofs.Common.{◌≡◌, pos, ◌+ℤ◌, ◌-ℤ◌, ◌<ℤ◌
 use Rattle.std.specs.Int.RustNames.{unsigned_abs}
 use Rattle.mf_geom.specs.Coordinates.{least_coordinate}
 use Rattle.mf_geom.specs.Field.{sum_over_field}
-use Rattle.mf_strips.specs.RowEdges.{weights_of}
+use Rattle.mf_rows_strips.specs.RowEdges.{weights_of}
 use Rattle.mf_rows.specs.Totals.{rows_total}
 use Rattle.mf_rows.proofs.walk.Walk.total.Given as goal
 

@@ -5,9 +5,9 @@ use Rattle.std.specs.Int.RustNames.{unsigned_abs}
 use Rattle.mf_geom.specs.Coordinates.{IsCoordinate}
 use Rattle.mf_rows.specs.Bounds.{IsLeastBox}
 use Rattle.mf_rows.specs.declared.bounds.Box4.{Box4}
-use Rattle.mf_edges.specs.declared.stretch.Stretch.{Stretch}
+use Rattle.mf_rows_edges.specs.declared.stretch.Stretch.{Stretch}
 use Rattle.mf_rows.specs.Dots.{Dot, IsPicture}
-use Rattle.mf_edges.specs.Axes.{PlaceStaysInside, target_of}
+use Rattle.mf_rows_edges.specs.Axes.{PlaceStaysInside, target_of}
 use Rattle.mf_rows.specs.Moves.{PixelsStayInside}
 use Rattle.mf_rows.proofs.BoundsInField.{bounds_in_field}
 use Rattle.mf_rows_tests.proofs.tests.moves.assert_stays_inside.Goals as goal

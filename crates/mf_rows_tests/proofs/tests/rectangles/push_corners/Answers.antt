@@ -3,7 +3,7 @@ use Rattle.std.proofs.lemmas.Int.{ints}
 use Rattle.std.proofs.lemmas.List.{length-append}
 use Rattle.std.proofs.lemmas.List.Elements.{All-append, All-from_recursion}
 use Rattle.mf_geom.specs.Coordinates.{greatest_coordinate, IsCoordinate}
-use Rattle.mf_strips.specs.declared.corner.Corner.{Corner}
+use Rattle.mf_rows_strips.specs.declared.corner.Corner.{Corner}
 use Rattle.mf_rows.specs.Corners.{AreCorners, IsCorner, added_by, added_by_all}
 use Rattle.mf_rows_tests.proofs.tests.rectangles.push_corners.Goals as goal
 

@@ -1,5 +1,0 @@
-use Rattle.mf_frame.proofs.Painting.{ArePaintedBefore}
-use Rattle.mf_frame.proofs.cells.cells_of.Given as goal
-
-abbrev pub invariant-loop-run : goal.invariant-loop-run
-invariant-loop-run l = ArePaintedBefore l.window l.picture l.run-iterator l.shades.items

@@ -1,5 +1,0 @@
-use Rattle.mf_frame.proofs.Windows.{IsScaleFrom}
-use Rattle.mf_frame.proofs.window.Window.fitting.Given as goal
-
-abbrev pub invariant-loop-scale : goal.invariant-loop-scale
-invariant-loop-scale l = IsScaleFrom l.fn.canvas l.bounds l.scale

@@ -1,9 +1,0 @@
-use Rattle.std.proofs.Common.{pos, ◌-ℤ◌, []}
-use Rattle.mf_show.specs.Grid.{shown_at}
-use Rattle.mf_image.specs.Pgm.{gray_value, pgm_head}
-use Rattle.mf_show.proofs.ShownRows.{IsBoxSoFar}
-use Rattle.mf_image.proofs.pgm_image.pgm_bytes.Given as goal
-
-abbrev pub invariant-loop-y : goal.invariant-loop-y
-invariant-loop-y l = IsBoxSoFar
-    (record { show = shown_at gray_value l.picture; end = []; bounds = l.bounds; head = pgm_head l.bounds }) (l.y -ℤ pos 1) l.bytes.items

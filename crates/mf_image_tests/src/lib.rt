@@ -1,5 +1,0 @@
-//! Tests of `mf_image`.
-#![tactic(auto)]
-
-#[cfg(test)]
-mod tests;

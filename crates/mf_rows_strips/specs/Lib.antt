@@ -1,0 +1,16 @@
+pub mod Corners
+pub mod Heads
+pub mod Names
+pub mod Strips
+pub mod Parts
+pub mod Piles
+pub mod PileWeights
+pub mod Rests
+pub mod RowEdges
+pub mod Sums
+pub mod Turns
+pub use Rattle.mf_geom.specs.Coordinates
+pub use Rattle.mf_geom.specs.Field
+pub use Rattle.mf_rows_edges.specs.LawfulWeights
+pub mod Changes
+pub mod Moves

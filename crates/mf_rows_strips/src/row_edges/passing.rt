@@ -1,0 +1,125 @@
+//! Entering rows, and passing their edges.
+ghost use Rattle.std.specs.Prelude.{◌≡◌, ℤ, pos, ◌≤ℤ◌, ◌<ℤ◌, IfSome, length};
+ghost use Rattle.mf_geom.specs.Coordinates.{greatest_coordinate};
+ghost use Rattle.mf_geom.specs.Field.{IsColumnOrRow};
+ghost use Rattle.mf_rows_edges.specs.Merging.{IsDifference};
+ghost use Rattle.mf_rows_strips.specs.PileWeights.{weight_in_pile};
+ghost use Rattle.mf_rows_strips.specs.Rests.{AreEnds, IsNextEdge, IsPassedTo, first_column_of, weight_in_all};
+ghost use Rattle.mf_rows_strips.specs.RowEdges.{AreSameRows, weight_left, weights_of};
+
+use super::RowEdges;
+use crate::pile::{MAX_PARTS, Pile};
+use crate::rest::Rest;
+use mf_rows_edges::{Edge, FIELD_END, FIELD_START};
+
+impl<'a> RowEdges<'a> {
+    /// No edges of a pile.
+    pub fn of(pile: &'a Pile) -> RowEdges<'a>
+        ensures { weights_of result ≡ weight_in_pile pile.now }
+    {
+        RowEdges {
+            pile,
+            rests: [Rest::of(&[]); MAX_PARTS],
+        }
+    }
+
+    /// Goes to the left end of row y. Returns the lowest one of the rows down from it that are known to be equal to it.
+    pub fn enter(&mut self, y: i32) -> i32
+        requires { IsColumnOrRow y }
+        ensures row { (x : ℤ) → weight_left self.new x ≡ weights_of self.old x y }
+        ensures rows { AreSameRows (weights_of self.old) result y }
+        ensures same { weights_of self.new ≡ weights_of self.old }
+    {
+        let mut bottom = FIELD_START;
+        let parts = &self.pile.parts[..];
+        let rests = &mut self.rests[..];
+        for i in 0..parts.len() {
+            let rows = parts[i].equal_rows(y);
+            rests[i] = Rest::of(rows.edges);
+            bottom = bottom.max(rows.bottom);
+        }
+        bottom
+    }
+
+    /// Passes the next edge. Returns one of weight 0 at the end of the field where there is none. Requires that the weights that are left
+    /// are differences of sums of lawful weights.
+    #[inline(always)]
+    pub fn pass(&mut self) -> Edge
+        requires { (x : ℤ) → IsDifference (weight_left self.old x) }
+        ensures passed { IsNextEdge (weight_left self.old) (weight_left self.new) result }
+        ensures same { weights_of self.new ≡ weights_of self.old }
+    {
+        pass_edge(&mut self.rests[..self.pile.parts.len()])
+    }
+
+    /// The first and the last edge that are left, where there is one part and edges are left; else `None`. Requires that they have a sum
+    /// of 0.
+    pub fn ends(&self) -> Option<(Edge, Edge)>
+        requires { weight_left self.now greatest_coordinate ≡ pos 0 }
+        ensures { IfSome result (λ ends. AreEnds (weight_left self.now) ends.0 ends.1) }
+    {
+        if self.pile.parts.len() != 1 {
+            return None;
+        }
+        let rests = &self.rests[..];
+        rests[0].ends()
+    }
+}
+
+/// Passes the next edge. Mostly there is one part, and it takes few steps.
+#[inline(always)]
+fn pass_edge(rests: &mut [Rest<'_>]) -> Edge
+    requires { (x : ℤ) → IsDifference (weight_in_all rests.old x) }
+    ensures passed { IsNextEdge (weight_in_all rests.old) (weight_in_all rests.new) result }
+    ensures each { length rests.new ≡ length rests.old }
+{
+    if rests.len() == 1 {
+        return rests[0].pass();
+    }
+    pass_together(rests)
+}
+
+/// Passes the first column in which the edges of all parts have a sum that is not 0. Kept apart, so that passing the edge of a single part
+/// stays short.
+#[inline(never)]
+fn pass_together(rests: &mut [Rest<'_>]) -> Edge
+    requires { (x : ℤ) → IsDifference (weight_in_all rests.old x) }
+    ensures passed { IsNextEdge (weight_in_all rests.old) (weight_in_all rests.new) result }
+    ensures each { length rests.new ≡ length rests.old }
+{
+    loop {
+        let x = first_column(rests);
+        let weight = pass_column(rests, x);
+        if weight != 0 || x == FIELD_END {
+            return Edge { x, weight };
+        }
+    }
+}
+
+/// The column of the first edge, the end of the field where there is none.
+fn first_column(rests: &[Rest<'_>]) -> i32
+    ensures { result ≡ first_column_of rests.now }
+{
+    let mut first = FIELD_END;
+    for rest in rests {
+        first = first.min(rest.column());
+    }
+    first
+}
+
+/// Passes the edges at column x, to the left of which there are none. Returns the sum of their weights. Sums of some of them may wrap,
+/// but that of all does not.
+fn pass_column(rests: &mut [Rest<'_>], x: i32) -> i32
+    requires first { x ≤ℤ first_column_of rests.old }
+    requires difference { IsDifference (weight_in_all rests.old x) }
+    ensures weight { result ≡ weight_in_all rests.old x }
+    ensures passed { IsPassedTo x (weight_in_all rests.old) (weight_in_all rests.new) }
+    ensures further { x <ℤ greatest_coordinate → x <ℤ first_column_of rests.new }
+    ensures each { length rests.new ≡ length rests.old }
+{
+    let mut weight = 0i32;
+    for i in 0..rests.len() {
+        weight = weight.wrapping_add(rests[i].pass_column(x));
+    }
+    weight
+}

@@ -1,5 +1,0 @@
-//! Tests of `mf_show`.
-#![tactic(auto)]
-
-#[cfg(test)]
-mod tests;

@@ -1,5 +1,0 @@
-use Rattle.mf_strips.proofs.RestsLemmas.{ends_of}
-use Rattle.mf_strips.proofs.rest.Rest.ends.Goals as goal
-
-pub returns : goal.returns
-returns c = ends_of c.args.self.now.edges.now _ _ c.args.self.now.sorted c.requires c.in_ok-first.ensures.value c.in_ok-last.ensures.value

@@ -1,0 +1,5 @@
+//! Tests of `mf_text_show`.
+#![tactic(auto)]
+
+#[cfg(test)]
+mod tests;

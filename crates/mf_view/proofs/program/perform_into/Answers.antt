@@ -1,5 +1,0 @@
-use Rattle.mf_view.proofs.Shown.{nothing_is_told_into}
-use Rattle.mf_view.proofs.program.perform_into.Goals as goal
-
-pub returns-in_default-create-clause-fault : goal.returns-in_default-create-clause-fault
-returns-in_default-create-clause-fault g c = nothing_is_told_into _ _ _ _ _
