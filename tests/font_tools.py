@@ -17,6 +17,7 @@ import shutil
 import struct
 import sys
 import tempfile
+import time
 import types
 from collections.abc import Callable, Iterator
 
@@ -345,6 +346,19 @@ BAD_LOGS = [
 ]
 
 
+def check_checkerboard(folder: pathlib.Path) -> None:
+    """Two megabytes of pixels that touch at corners alone have more contours than a script may have, which must not take minutes."""
+    columns, rows = 1400, 1500
+    painted = b"".join(bytes([74 + row % 2 if row else 0, *[1] * (columns - 1)]) for row in range(rows))
+    front = PREAMBLE + struct.pack(">B6i", 67, 65, -1, 0, columns + 1, 0, rows - 1) + painted + bytes([69])
+    file = folder / "board.gf"
+    file.write_bytes(file_of(front, SHORT))
+    begun = time.monotonic()
+    count = rows * columns // 2
+    fails(gf2mfp, [file], f"{file}: it takes at least {count + 1} operations, and currentpicture accepts 1000000")
+    expect(time.monotonic() - begun < MOST_SECONDS, "it takes too long")
+
+
 def check_logs(folder: pathlib.Path) -> None:
     """A tool must name the log, and its line. Of noise the message is not compared, since it has no lines."""
     font, log = folder / "fine.gf", folder / "font.log"
@@ -405,6 +419,7 @@ def checks(program: str) -> Iterator[tuple[str, Callable[[pathlib.Path], None]]]
             yield f"{tool.__name__}.py: outputs", lambda folder, tool=tool: check_output(tool, folder)
     yield "gfwords.py: a pipe", check_pipe
     yield "gf2mfp.py: commands that do nothing", check_nothing
+    yield "gf2mfp.py: a checkerboard", check_checkerboard
     yield "mf2mfp.py: logs", check_logs
     yield "changed files", check_changed
 

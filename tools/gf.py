@@ -3,8 +3,8 @@
     font = read_font(read_file(path))
     font = read_font(read_packed_or_not(path))
 
-The second also reads packed fonts (PK files), of which `pktogf` makes GF files, where it is installed. A place is a number of bytes from the beginning of the file. Special commands (xxx, yyy) and no_op are skipped. `NotGf` is raised
-for bytes that are not a GF file.
+The second also reads packed fonts (PK files), of which `pktogf` makes GF files, where it is installed. A place is a number of bytes
+from the beginning of the file. Special commands (xxx, yyy) and no_op are skipped. `NotGf` is raised for bytes that are not a GF file.
 """
 
 import dataclasses

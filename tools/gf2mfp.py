@@ -194,10 +194,37 @@ def lines_of(character: gf.Character, locator: gf.Locator) -> list[str]:
     ]
 
 
+def least_contours(runs: Iterable[gf.Run]) -> int:
+    """A number of contours that black pixels have at least. Each has a contour for each of its parts and for each hole, and the parts
+    less the holes are the runs less the pairs of runs that touch, one below the other."""
+    rows: dict[int, list[gf.Run]] = collections.defaultdict(list)
+    for run in runs:
+        rows[run.row].append(run)
+    count = 0
+    for row, above in rows.items():
+        below, place = rows.get(row - 1, []), 0
+        for run in above:
+            while place < len(below) and below[place].right <= run.left:
+                place += 1
+            end = place
+            while end < len(below) and below[end].left < run.right:
+                end += 1
+            count += 1 - (end - place)
+    return abs(count)
+
+
+def check_operations(count: int, how: str = "") -> None:
+    """Whether a script may have so many operations."""
+    if count > MAX_OPERATIONS:
+        raise Failure(f"it takes {how}{count} operations, and currentpicture accepts {MAX_OPERATIONS}")
+
+
 def script_of(font: gf.Font) -> list[str]:
     """The lines of the script of a font."""
     if faults := list(faults_of_font(font)):
         raise Failure("\n".join(faults))
+    # To find millions of contours would take minutes.
+    check_operations(sum(1 + least_contours(character.runs) for character in font.characters), "at least ")
     words = ", ".join(f"{name.replace('_', ' ')} {word}" for name, word in font.words._asdict().items())
     lines = [
         "% Each character is drawn by its outline: outer boundaries have weight 1, and holes -1.",
@@ -205,9 +232,7 @@ def script_of(font: gf.Font) -> list[str]:
     ]
     for character in font.characters:
         lines += lines_of(character, font.locator(character))
-    operations = sum(line.startswith(("addto", "currentpicture")) for line in lines)
-    if operations > MAX_OPERATIONS:
-        raise Failure(f"it takes {operations} operations, and currentpicture accepts {MAX_OPERATIONS}")
+    check_operations(sum(line.startswith(("addto", "currentpicture")) for line in lines))
     return lines
 
 
