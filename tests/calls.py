@@ -132,8 +132,12 @@ def main() -> int:
     old = PAGE.read_text(encoding="utf-8")
     for line in difflib.unified_diff(old.split("\n"), text.split("\n"), "docs/work/CALLS.md", "the sources", lineterm="", n=0):
         print(line)
-    print(f"{count} calls passed, 0 failed" if old == text else f"0 passed, {count} calls to be written anew: tests/calls.py --write")
-    return old != text
+    if old == text:
+        print(f"{count} passed, 0 failed")
+        return 0
+    print("docs/work/CALLS.md is to be written anew: tests/calls.py --write")
+    print("0 passed, 1 failed")
+    return 1
 
 
 if __name__ == "__main__":
