@@ -29,6 +29,10 @@ CASES: dict[str, tuple[bytes, str]] = {
         "<stdin>:3: refused NotRectilinear 0\n    addto a contour (0,0)--(1,1)--cycle\n",
     ),
     "a carriage return and a tab": (b"show a\r\n\tshow a b\r\n", "<stdin>:2: refused Syntax 9\n     show a b\n            ^\n"),
+    "carriage returns that are no end of a line": (
+        b"show a\r\r\nshow a\r",
+        "<stdin>:1: refused NotAscii\n    show a?\n<stdin>:2: refused NotAscii\n    show a?\n",
+    ),
     "a byte that is no text": (b"show \xe4\n", "<stdin>:1: refused NotAscii\n    show ?\n"),
     "lines that are refused as those of the tool are": (
         b" ?\n  ?\n ?\n",

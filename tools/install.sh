@@ -21,6 +21,8 @@ remove() {
     while read -r name; do
         rm -f -- "$name"
     done < "$made"
+    # Python writes what it has compiled beside the tools.
+    rm -rf -- lib/wonchhip/tools/__pycache__
     while read -r name; do
         rmdir --ignore-fail-on-non-empty -p -- "$(dirname "$name")" 2> /dev/null || true
     done < "$made"
@@ -42,9 +44,8 @@ if [ "${1-}" = --remove ]; then
     shift
     removes=1
 fi
-[ $# = 1 ] && [ -n "$1" ] || fail "usage: tools/install.sh [--remove] PREFIX" 2
-mkdir -p -- "$1"
-prefix=$(cd -- "$1" && pwd)
+[ $# = 1 ] && [ -n "$1" ] && [[ $1 != -* ]] || fail "usage: tools/install.sh [--remove] PREFIX" 2
+prefix=$(realpath -ms -- "$1")
 work=$(mktemp -d)
 trap 'rm -rf "$work"' EXIT
 made=$work/files
@@ -55,9 +56,10 @@ if [ -n "${removes-}" ]; then
 fi
 
 for name in mfpic mfview; do
-    program=$root/crates/$name/out/$name
-    is_current "$name" "$program" || fail "$name is not proved, or older than its sources: tools/build.py $name"
-    put 755 "$program" "lib/wonchhip/$name"
+    is_current "$name" "$root/crates/$name/out/$name" || fail "$name is not proved, or older than its sources: tools/build.py $name"
+done
+for name in mfpic mfview; do
+    put 755 "$root/crates/$name/out/$name" "lib/wonchhip/$name"
 done
 for name in gf.py printing.py gf2mfp.py gf2pl.py gfdiff.py gfwords.py mf2mfp.py mf2mfp.mf mfcheck.py mfpage.py mfpage.html mfview.sh; do
     put "$([ -x "$root/tools/$name" ] && echo 755 || echo 644)" "$root/tools/$name" "lib/wonchhip/tools/$name"
@@ -82,8 +84,8 @@ for name in mfpic mfview; do
     put 644 "$work/completions/$name" "share/bash-completion/completions/$name"
 done
 {
-    echo "commit $(git -C "$root" rev-parse HEAD 2> /dev/null || echo unknown)$(git -C "$root" diff --quiet HEAD 2> /dev/null || echo ", changed since")"
-    echo "toolchain $(rt version)"
+    echo "commit $(git -C "$root" describe --always --dirty=", changed since" --abbrev=40 2> /dev/null || echo unknown)"
+    echo "toolchain $(rt version 2> /dev/null || echo unknown)"
     echo "installed $(date +%F)"
 } > "$work/installed"
 put 644 "$work/installed" lib/wonchhip/installed

@@ -59,16 +59,20 @@ def program_page(name: str) -> str:
     """The page of a program."""
     document, what, synopsis = PROGRAMS[name]
     page = (ROOT / f"docs/user/{document}.md").read_text(encoding="utf-8")
+    page = page.replace("the script `./mfview`", "`mfview`").replace("`./mfview`", "`mfview`")
     options = [f".TP\n{plain(row[0])}\n{plain(row[1])}{f' (without it: {plain(row[2])})' if row[2:] and row[2] else ''}" for row in tables_of(page, "Options")]
     statuses = [f".TP\n{row[0]}\n{plain(row[1])}: {plain(row[2])}" for row in tables_of(page, "Statuses")]
-    about = [".PP\nThe language of scripts, what is drawn and what is written are described in the documents of Wonchhip, docs/user."]
+    if name == "mfview":
+        options += [".TP\n\\fB\\-\\-check\\fR\nas the first word: draws nothing, and says which lines of scripts are refused (mfcheck(1))"]
+    about = [".PP\nThe language of scripts, what is drawn and what is written are described in docs/user of the repository of Wonchhip."]
     return page_of(name, what, synopsis, {"OPTIONS": options, "EXIT STATUS AND MESSAGES": statuses, "MORE": about})
 
 
 def tool_page(name: str) -> str:
     """The page of a tool."""
     told = ast.get_docstring(ast.parse((ROOT / f"tools/{name}.py").read_text(encoding="utf-8")))
-    first, _, rest = told.replace("tools/", "").replace(".py", "").replace("./mfpic", "mfpic").partition("\n\n")
+    told = re.sub(r"tools/(\w+)\.py", r"\1", told).replace("input tools/", "input PREFIX/lib/wonchhip/tools/")
+    first, _, rest = told.replace("./mfpic", "mfpic").partition("\n\n")
     synopsis, _, description = rest.partition("\n\n")
     what = first[0].lower() + first[1:].rstrip(".").replace("\n", " ")
     return page_of(name, what, re.sub(r"(?m)^ +", "", synopsis), {"DESCRIPTION": list(lines_of(description))})
@@ -82,9 +86,9 @@ def completion_of(name: str) -> str:
     files = "|".join(option[0] for option in options if FILES.intersection(option[1:]))
     words = " ".join(option[0] for option in options)
     return (
-        f"_{name}() {{\n    local word=${{COMP_WORDS[COMP_CWORD]}} before=${{COMP_WORDS[COMP_CWORD-1]}}\n    case $before in\n"
-        f'        {files}) COMPREPLY=($(compgen -f -- "$word")) ;;\n        *) COMPREPLY=($(compgen -W "{words}" -- "$word")) ;;\n    esac\n}}\n'
-        f"complete -o filenames -F _{name} {name}\n"
+        f"_{name}() {{\n    local word=${{COMP_WORDS[COMP_CWORD]}} before=${{COMP_WORDS[COMP_CWORD-1]}}\n    COMPREPLY=()\n    case $before in\n"
+        f'        {files}) mapfile -t COMPREPLY < <(compgen -f -- "$word") ;;\n        *) [[ $word != -* ]] || COMPREPLY=($(compgen -W "{words}" -- "$word")) ;;\n    esac\n}}\n'
+        f"complete -o default -o filenames -F _{name} {name}\n"
     )
 
 

@@ -1,11 +1,11 @@
 #!/usr/bin/env python3
 """Makes a script for mfpic from METAFONT's log of a font, and from the GF file that METAFONT wrote.
 
+    tools/mf2mfp.py LOG FONT [--proof CODE]
+
     mf-nowin -jobname=logo10 -interaction=batchmode '\\mode=ljfour; mag=1; input tools/mf2mfp; input logo10'
     tools/mf2mfp.py logo10.log logo10.600gf > logo10.mfp
     ./mfpic --gf logo10.gf < logo10.mfp
-
-    tools/mf2mfp.py LOG FONT [--proof CODE]
 
 METAFONT must have read mf2mfp.mf before the font. The log has contours as METAFONT has digitized them, and between them marks for
 culls, sums, shifts, clears and shipouts of pictures. The escapement and the width of each character are those of the GF file.

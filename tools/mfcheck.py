@@ -8,8 +8,8 @@ For each line that is refused there is a line `NAME:LINE: refused ..`, as compil
 refusal has a column, a mark below it. NAME is the script as it was named, or `<stdin>`; LINE counts from 1. Nothing else that scripts
 print is shown, nothing is drawn and no font file is made. Each script is performed from the start.
 
-The program mfpic of the repository performs the scripts; it is built first where that is necessary. Between the lines of a script it
-gets two lines of its own that are always refused, so that it is known what each line has printed.
+The program mfpic performs the scripts. Between the lines of a script it gets two lines of its own that are always refused, so that it
+is known what each line has printed.
 
 The exit status is 0 if no line is refused, 1 if some line is, and 2 if a script cannot be read or performed to its end, or the output
 cannot be written.
@@ -38,10 +38,11 @@ class Failure(Exception):
 
 def texts_of(lines: list[bytes]) -> list[list[str]]:
     """What each line of a script prints."""
-    script = b"".join(line + b"\n" + MARKS for line in lines)
-    ran = subprocess.run([str(MFPIC)], input=script, capture_output=True, check=False)
+    # A carriage return before the line feed does not count, so one that ends a line stays its own.
+    script = b"".join(line + b"\r\n" + MARKS for line in lines)
+    ran = subprocess.run([str(MFPIC)], input=script, stdout=subprocess.PIPE, check=False)
     if ran.returncode != 0:
-        raise Failure(ran.stderr.decode("utf-8", "replace").strip() or f"mfpic ended with status {ran.returncode}")
+        raise Failure(f"mfpic ended with status {ran.returncode}")
     texts: list[list[str]] = [[]]
     for line in ran.stdout.decode("ascii").splitlines():
         texts[-1].append(line)
@@ -81,10 +82,13 @@ def main() -> int:
     parser = argparse.ArgumentParser(description=__doc__, formatter_class=argparse.RawDescriptionHelpFormatter)
     parser.add_argument("scripts", nargs="*", type=named_file, metavar="SCRIPT")
     status = 0
+    if sys.stdout:
+        # A name may have what standard output cannot encode.
+        sys.stdout.reconfigure(errors="backslashreplace")
     for path in parser.parse_args().scripts or [None]:
         name = str(path) if path else "<stdin>"
         try:
-            script = path.read_bytes() if path else sys.stdin.buffer.read()
+            script = path.read_bytes() if path else open(0, "rb", closefd=False).read()
             found = "".join(f"{line}\n" for line in refusals(name, lines_of(script)))
         except (OSError, MemoryError, Failure) as fault:
             tell_fault("mfcheck", name, fault)

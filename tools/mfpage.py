@@ -9,7 +9,7 @@ shows each character with its code, its dx, its width and its box, and a line of
 image in the folder, too: `character-65.svg`, or `character-65-2.svg` for the second one with a code. The page needs nothing but itself:
 it can be opened from the disk, and sent to others.
 
-An old page is replaced, and so are old images of characters. The exit status is 1 if an image or the font cannot be read, or the page
+An index.html that is there is replaced, and so are images of the same names. The exit status is 1 if an image or the font cannot be read, or the page
 cannot be written.
 """
 
@@ -113,7 +113,7 @@ def page_of(title: str, plates: list[dict[str, typing.Any]], characters: list[di
     """The page."""
     data = json.dumps({"plates": plates, "characters": characters}, separators=(",", ":"))
     page = TEMPLATE.read_text(encoding="utf-8")
-    return page.replace("@TITLE@", html.escape(title)).replace("@DATA@", data)
+    return page.replace("@DATA@", data).replace("@TITLE@", html.escape(title))
 
 
 def main(words: list[str] | None = None) -> int:
@@ -130,7 +130,7 @@ def main(words: list[str] | None = None) -> int:
         write_images(given.folder, characters)
         source = given.folder / "index.html"
         title = f"{given.folder.resolve().name}: {len(plates)} plates" + (f", {len(characters)} characters" if given.font else "")
-        source.write_text(page_of(title, plates, characters), encoding="utf-8")
+        source.write_bytes(page_of(title, plates, characters).encode("utf-8", "replace"))
     except BadImage as fault:
         print(f"mfpage.py: {fault}", file=sys.stderr)
         return 1

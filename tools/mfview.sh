@@ -53,6 +53,8 @@ make_page() {
                 [ "$1" = --gf ] && font=$2
                 shift
                 ;;
+            # These write a text, and do nothing else.
+            --help | --version) return ;;
             --plates=*) folder=${1#*=} ;;
             --gf=*) font=${1#*=} ;;
         esac
