@@ -14,10 +14,11 @@ import sys
 import tempfile
 
 HERE = pathlib.Path(__file__).resolve().parent
-sys.path.insert(0, str(HERE.parent / "tools"))
+sys.path[:0] = [str(HERE.parent / "tools"), str(HERE.parent / "results")]
 
 import build  # noqa: E402
 from build import Failure, Prover  # noqa: E402
+from record import Table  # noqa: E402
 
 NAME = "looks"
 SOURCES = sorted((HERE / NAME).glob("*.rattle"))
@@ -81,15 +82,14 @@ def rates(kind, threads):
     return max(1000 * run[0] / run[4] for run in runs), max(1000 * run[1] / run[4] for run in runs)
 
 
-def print_rates():
+def print_rates(is_recorded):
     """Looks in a second, at a picture and at a number that `left_right` keeps."""
-    print("| threads | looks, silent | looks | publishes | left_right, silent | left_right | its publishes |")
-    print("|---|---|---|---|---|---|---|")
+    columns = ["threads", "looks, silent", "looks", "publishes", "left_right, silent", "left_right", "its publishes"]
+    table = Table("looks", columns, is_recorded)
     for threads in THREADS:
         row = [rates("live-silent", threads)[0], *rates("live", threads)]
         row += [rates("library-silent", threads)[0], *rates("library", threads)]
-        shown = " | ".join(f"{number:.3f}" for number in row)
-        print(f"| {threads} | {shown} |", flush=True)
+        table.add(str(threads), *(f"{number:.3f}" for number in row))
 
 
 def microseconds(threads, height):
@@ -98,28 +98,25 @@ def microseconds(threads, height):
     return [min(run[at] / run[1] / 1000 for run in runs) for at in (2, 3)]
 
 
-def print_publishes():
+def print_publishes(is_recorded):
     """Microseconds of an operation and of a publish, by the height of the picture."""
-    print("| rows | an operation | a publish | an operation, one viewer | a publish, one viewer |")
-    print("|---|---|---|---|---|")
+    table = Table("publishes", ["rows", "an operation", "a publish", "an operation, one viewer", "a publish, one viewer"], is_recorded)
     for height in HEIGHTS:
-        shown = " | ".join(f"{number:.2f}" for threads in (0, 1) for number in microseconds(threads, height))
-        print(f"| {height:,} | {shown} |", flush=True)
+        table.add(f"{height:,}", *(f"{number:.2f}" for threads in (0, 1) for number in microseconds(threads, height)))
 
 
-def print_delays():
+def print_delays(is_recorded):
     """Microseconds from a publish to the first look that shows it."""
-    print("| threads | publishes | median | 99th percentile |")
-    print("|---|---|---|---|")
+    table = Table("delays", ["threads", "publishes", "median", "99th percentile"], is_recorded)
     for threads in THREADS:
         delays = [number / 1000 for number in numbers("delay", threads, HEIGHT, LONGER)]
         last = statistics.quantiles(delays, n=100, method="inclusive")[98]
-        print(f"| {threads} | {len(delays):,} | {statistics.median(delays):.1f} | {last:.1f} |", flush=True)
+        table.add(str(threads), f"{len(delays):,}", f"{statistics.median(delays):.1f}", f"{last:.1f}")
 
 
-def measure():
-    """Prints the three tables."""
+def measure(is_recorded):
+    """Prints the three tables, and records them if that is wanted."""
     ensure_program()
     for print_table in (print_rates, print_publishes, print_delays):
-        print_table()
+        print_table(is_recorded)
         print()

@@ -1,8 +1,8 @@
 #!/usr/bin/env python3
 """Measures the program on the workloads of workloads.py, and compares it with METAFONT and with a plain C++ program.
 
-    bench/run.py [--program PROGRAM] [--repeats N] [--seed S] [--only WORD] [--processor] [--growth]
-    bench/run.py --looks
+    bench/run.py [--program PROGRAM] [--repeats N] [--seed S] [--only WORD] [--processor] [--growth] [--record]
+    bench/run.py --looks [--record]
 
 PROGRAM is the built program, by default crates/mfpic/out/mfpic beside this folder. METAFONT (`mf-nowin`, Debian package
 texlive-binaries) takes part if it is installed, and plain.cpp if there is a compiler, which is `c++` or what CXX names. Each
@@ -15,7 +15,7 @@ exactly the lines that it should, or if METAFONT finds an error. One more run of
 Times are wall times, or, with --processor, processor times, which depend less on what else the machine does.
 
 With --growth only the program runs, on the sizes n, 2n and 4n. With --looks a program of its own runs, which measures looks at a
-live picture (looks.py).
+live picture (looks.py). With --record what is printed goes into the tables of results/, too.
 """
 
 import argparse
@@ -33,6 +33,8 @@ import looks
 import workloads
 
 ROOT = pathlib.Path(__file__).resolve().parent.parent
+sys.path.append(str(ROOT / "results"))
+from record import Table  # noqa: E402
 
 PLAIN = ROOT / "bench/plain.cpp"
 
@@ -209,7 +211,7 @@ def times_in_turn(repeats, name, lines, runners):
 
 
 def row(arguments, name, lines, folder, plain):
-    """The row of a workload."""
+    """The cells of a workload."""
     runners = [Program(arguments.program, lines, folder)]
     if shutil.which("mf-nowin"):
         runners.append(Metafont(lines, folder))
@@ -221,7 +223,7 @@ def row(arguments, name, lines, folder, plain):
     cells = [f"{least[it]:.3f}" if it in least else "-" for it in NAMES]
     cells += [f"{least[it] / least[Program.NAME]:.2f}" if it in least else "-" for it in NAMES[1:]]
     cells += [peaks.get(it, "-") for it in NAMES]
-    return f"| {name} | {' | '.join(cells)} |"
+    return name, *cells
 
 
 def compile_plain(folder):
@@ -237,16 +239,14 @@ def compile_plain(folder):
 def compare(arguments, folder):
     plain = compile_plain(folder)
     cells = [f"{name}, s" for name in NAMES] + [f"{name} / mfpic" for name in NAMES[1:]] + [f"{name}, MB" for name in NAMES]
-    print(f"| workload | {' | '.join(cells)} |")
-    print("|---" * (1 + len(cells)) + "|")
+    table = Table("speed", ["workload", *cells], arguments.record)
     for name, (make, size) in workloads.WORKLOADS.items():
         if arguments.only in name:
-            print(row(arguments, name, make(arguments.seed, size), folder, plain), flush=True)
+            table.add(*row(arguments, name, make(arguments.seed, size), folder, plain))
 
 
 def growth(arguments, folder):
-    print("| workload | n | n, s | 2n, s | 4n, s | 4n over n |")
-    print("|---|---|---|---|---|---|")
+    table = Table("growth", ["workload", "n", "n, s", "2n, s", "4n, s", "4n over n"], arguments.record)
     for name, (make, size) in workloads.GROWING.items():
         if arguments.only not in name:
             continue
@@ -254,8 +254,8 @@ def growth(arguments, folder):
         for factor in (1, 2, 4):
             own = Program(arguments.program, make(arguments.seed, size * factor), folder)
             times.append(min(times_of(arguments.repeats, own)))
-        shown = " | ".join(f"{seconds:.3f}" for seconds in times)
-        print(f"| {name} | {size:,} | {shown} | {times[2] / times[0]:.1f} |", flush=True)
+        shown = (f"{seconds:.3f}" for seconds in times)
+        table.add(name, f"{size:,}", *shown, f"{times[2] / times[0]:.1f}")
 
 
 def main():
@@ -267,13 +267,14 @@ def main():
     parser.add_argument("--processor", action="store_true")
     parser.add_argument("--growth", action="store_true")
     parser.add_argument("--looks", action="store_true")
+    parser.add_argument("--record", action="store_true")
     arguments = parser.parse_args()
     if not shutil.which(arguments.program):
         sys.exit(f"there is no program {arguments.program}: `./mfpic < /dev/null` builds it")
     if arguments.processor:
         Runner.clock = staticmethod(processor_seconds)
     if arguments.looks:
-        looks.measure()
+        looks.measure(arguments.record)
         return
     with tempfile.TemporaryDirectory() as folder:
         (growth if arguments.growth else compare)(arguments, pathlib.Path(folder))

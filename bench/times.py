@@ -1,5 +1,5 @@
 #!/usr/bin/env python3
-"""Takes the time of what a newcomer and the gate wait for, and writes it into bench/times.tsv.
+"""Takes the time of what a newcomer and the gate wait for, and writes it into results/times.tsv.
 
     bench/times.py answer|build|gate..
 
@@ -10,7 +10,6 @@ README.md and docs/work/CONTRIBUTING.md quote these minutes, and tests/documents
 """
 
 import argparse
-import datetime
 import os
 import pathlib
 import re
@@ -21,8 +20,9 @@ import time
 from collections.abc import Iterator
 
 ROOT = pathlib.Path(__file__).resolve().parent.parent
-FILE = ROOT / "bench/times.tsv"
-HEAD = "run\tpart\tminutes\tprocessors\ttoolchain\tcommit\tdate\n"
+sys.path.append(str(ROOT / "results"))
+from record import circumstances, write  # noqa: E402
+
 # What tools/build.py and `rt ci` say of a crate, and the gate of a part.
 PROVED = re.compile(r"\w+: (?!not )(\w+) (?:is )?proved\b")
 PASSED = re.compile(r"\d+ passed, \d+ failed")
@@ -31,11 +31,6 @@ COMMANDS = {
     "build": [["tools/build.py", "mfpic"], ["tools/build.py", "mfview"]],
     "gate": [[".ci/run"]],
 }
-
-
-def said(*command: str) -> str:
-    """The first word that a command prints."""
-    return subprocess.run(command, cwd=ROOT, check=True, stdout=subprocess.PIPE, encoding="utf-8").stdout.split()[0]
 
 
 def parts_of(command: list[str], clone: pathlib.Path) -> Iterator[tuple[str, float]]:
@@ -62,19 +57,15 @@ def main() -> None:
     parser = argparse.ArgumentParser(description=__doc__, formatter_class=argparse.RawDescriptionHelpFormatter)
     parser.add_argument("runs", nargs="+", choices=COMMANDS)
     given = parser.parse_args()
-    where = [str(len(os.sched_getaffinity(0))), said("rt", "version"), said("git", "rev-parse", "--short", "HEAD")]
-    where.append(datetime.datetime.now(datetime.timezone.utc).strftime("%Y-%m-%d"))
+    made_with = {"processors": len(os.sched_getaffinity(0)), **circumstances()}
     for run in given.runs:
         rows = []
         with tempfile.TemporaryDirectory(prefix="times-") as folder:
             clone = pathlib.Path(folder) / "clone"
             subprocess.run(["git", "clone", "--quiet", str(ROOT), str(clone)], check=True)
             for command in COMMANDS[run]:
-                name = " ".join(command)
-                rows += ["\t".join([name, part, f"{minutes:.1f}", *where]) + "\n" for part, minutes in parts_of(command, clone)]
-        names = {row.partition("\t")[0] for row in rows}
-        before = FILE.read_text(encoding="utf-8").splitlines(keepends=True)[1:] if FILE.is_file() else []
-        FILE.write_text(HEAD + "".join([*(row for row in before if row.partition("\t")[0] not in names), *rows]), encoding="utf-8")
+                rows += [{"run": " ".join(command), "part": part, "minutes": f"{minutes:.1f}"} for part, minutes in parts_of(command, clone)]
+        write("times", [row | made_with for row in rows])
 
 
 if __name__ == "__main__":

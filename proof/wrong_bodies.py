@@ -1,7 +1,7 @@
 #!/usr/bin/env python3
 """A tool of proof: tries the wrong bodies of crates, many in one check. The prover must refuse each of them.
 
-    proof/wrong_bodies.py [--jobs N] [CRATE..]
+    proof/wrong_bodies.py [--jobs N] [--record] [CRATE..]
 
 A wrong body is an edit, crates/NAME/must-fail/*.edit (which `rt ci` tries, too, one at a time) or crates/NAME/wrong/*.edit.
 The wrong bodies of these crates, or of all crates, are tried, N crates at a time. By default N is the number of processors, but
@@ -23,7 +23,7 @@ goal that only the wrong body leaves open, or for which the prover finds values 
 Every body that is proved, not judged, or refused by an answer alone is printed, with the line `why:` of its edit if it has one.
 In wrong/ that line says why the body is not refused, or cannot be judged; in must-fail/ it names the clause that is false for it.
 The last line counts all bodies. The exit status is 1 if a body of must-fail, or one of wrong without such a line, is proved or
-not judged.
+not judged. With --record the counts of each crate go into results/wrong_bodies.tsv.
 """
 
 import argparse
@@ -42,6 +42,9 @@ from pathlib import Path
 from edited_crate import NO_CONTROL, SAID, Room, newly_open, own_reasons, problem_of
 from edits import Edit, Function, UnfitEdit, changed_by, read_edit, texts_of
 from prover import ROOT, Failure, Prover, libraries_of_crates, prove_in_order
+
+sys.path.append(str(ROOT / "results"))
+from record import circumstances, write  # noqa: E402
 
 # The most memory that one check takes, in bytes.
 MEMORY = 4_000_000_000
@@ -209,6 +212,14 @@ class Trial:
         said += [f"{count[verdict]} {verdict} ({why[verdict]} with a reason)" for verdict in (PROVED, NOT_JUDGED)]
         return f"{len(self.bodies)} wrong bodies: {', '.join(said)}, {self.batches} batches, {self.seconds / 60:.1f} minutes"
 
+    def record(self, crate: str) -> None:
+        """Writes the counts into the table of results."""
+        count = collections.Counter(body.verdict for body in self.bodies)
+        misfits = [body for body in self.bodies if body.meets_answer()]
+        row = {"crate": crate, "bodies": len(self.bodies), "refused": count[REFUSED], "first by an answer": len(misfits)}
+        row |= {"by an answer alone": sum(not body.bare for body in misfits), "proved or not judged": count[PROVED] + count[NOT_JUDGED]}
+        write("wrong_bodies", [row | circumstances()])
+
     def lacks_reasons(self) -> bool:
         """Whether a body is proved or not judged without a reason."""
         return any(body.verdict != REFUSED and not body.edit.excuse for body in self.bodies)
@@ -288,6 +299,7 @@ def checks_at_once() -> int:
 def main() -> None:
     parser = argparse.ArgumentParser(description=__doc__, formatter_class=argparse.RawDescriptionHelpFormatter)
     parser.add_argument("--jobs", type=int, default=checks_at_once(), help="how many crates are tried at a time")
+    parser.add_argument("--record", action="store_true", help="write the counts into results/wrong_bodies.tsv")
     parser.add_argument("crates", nargs="*", metavar="CRATE")
     given = parser.parse_args()
     having = [name for name in libraries_of_crates() if any((ROOT / "crates" / name / it).is_dir() for it in ("must-fail", "wrong"))]
@@ -303,6 +315,8 @@ def main() -> None:
         trials = {pool.submit(trial_of, name): name for name in names}
         for done in concurrent.futures.as_completed(trials):
             print_trial(trials[done], done.result())
+            if given.record:
+                done.result().record(trials[done])
             whole.bodies += done.result().bodies
             whole.batches += done.result().batches
     whole.seconds = time.monotonic() - started

@@ -2,12 +2,14 @@
 """Checks the documents: their commands print what is shown, their quotations are exact, and their links lead somewhere.
 
     tests/documents.py [DOCUMENT..]
-    tests/documents.py --self-test
+    tests/documents.py --read | --write | --self-test
 
-The documents are README.md, bench/README.md and all of docs/. Where some are named, these alone are checked. The programs
-must have been built (`PROGRAMS`). The first word after the three backquotes of a fenced block says what is checked:
+The documents are README.md, bench/README.md and all of docs/. Where some are named, these alone are checked. The programs must have
+been built (`PROGRAMS`). With --read nothing is run, and no program is needed. With --write tables that quote results are written anew.
+The first word after the three backquotes of a fenced block says what is checked:
 
     console               lines that begin with `$ ` are commands of bash, and the lines below each are all that it prints
+    console status=N      likewise; the last command exits with status N, and every other command of a document with 0
     console needs=NAME    run only where the program NAME is on the path; a NAME with a dot is a file that kpsewhich finds
     console skip=REASON   not run, for a reason in words that are joined by hyphens
     mfp                   each line is a script, and is not refused
@@ -21,11 +23,16 @@ must have been built (`PROGRAMS`). The first word after the three backquotes of 
 In what a command prints, a line `..` means any number of lines, and two dots within a line mean any text. All commands of
 a document run in order in one copy of the repository, each in a shell of its own and for at most 60 seconds.
 
-A relative link must lead to a file of the repository, and to a heading of it where an anchor is named. A word in backquotes
-that has a slash and ends like a source, or in a slash, must be a file or folder. Every document must be linked from README.md
-or from one that is; README.md must be short; no file may name a path that documents had before; only docs/user/LANGUAGE.md has
-the numbers of refusals; only README.md and CONTRIBUTING.md have numbers of minutes, which are those of bench/times.tsv; and no
-placeholder may be left.
+A relative link must lead to a file of the repository, and to a heading of it where an anchor is named. Every document must be linked
+from README.md or from one that is. Some documents must be short (`MAX_LINES`), and so must the cells of tables (`MAX_CELL`). In words:
+
+- A word in backquotes that has a slash and ends like a source, or in a slash, must be a file or folder.
+- One with `_` or with a capital inside must stand in some source, and `Type::call` in a source that names the type.
+- "`a` and `b` of `call`" must be clauses of that call, if it is a function, and so must "(`a`, `b`)" in a paragraph that names calls.
+- Only docs/user/LANGUAGE.md has the numbers of refusals, and only README.md and CONTRIBUTING.md have numbers of minutes, which are
+  those of results/times.tsv. No placeholder may be left.
+- A table below a line `<!-- results/NAME.tsv -->` quotes that file: each of its rows must agree with one of the file in all columns that
+  both have.
 
 Each fault is a line `FILE:LINE: what is wrong`. The last line counts the commands, quotations and links that passed.
 With --self-test the checks are tried on small repositories with one fault each, which must be found.
@@ -35,6 +42,7 @@ import collections
 import contextlib
 import dataclasses
 import fnmatch
+import functools
 import io
 import os
 import pathlib
@@ -49,14 +57,19 @@ from collections.abc import Callable, Iterable, Iterator, Mapping
 ROOT = pathlib.Path(__file__).resolve().parent.parent
 PROGRAM = "crates/mfpic/out/mfpic"
 PROGRAMS = (PROGRAM, "crates/mfview/out/mfview")
-README, LANGUAGE, CONTRIBUTING, TIMES = "README.md", "docs/user/LANGUAGE.md", "docs/work/CONTRIBUTING.md", "bench/times.tsv"
-# Lines that README.md may have, and seconds that a command may take.
-MAX_LINES, LIMIT = 150, 60
+README, LANGUAGE, CONTRIBUTING, TIMES = "README.md", "docs/user/LANGUAGE.md", "docs/work/CONTRIBUTING.md", "results/times.tsv"
+# Made from the sources, and about names of the past: the names in these are not looked for.
+CALLS, CHANGELOG = "docs/work/CALLS.md", "docs/work/CHANGELOG.md"
+# Lines that documents may have, characters that a cell of a table may have, and seconds that a command may take.
+MAX_LINES = {README: 150, "docs/DECISIONS.md": 300, "docs/work/PROVED.md": 300, CHANGELOG: 150, CONTRIBUTING: 330}
+MAX_CELL, LIMIT = 150, 60
 # The attributes that a block of each kind may have, and those of which it needs one.
-ATTRIBUTES = {"console": {"needs", "skip"}, "mfp": {"file", "save"}, "rust": {"file"}, "contract": {"file"}, "text": {"save"}}
+ATTRIBUTES = {"console": {"needs", "skip", "status"}, "mfp": {"file", "save"}, "rust": {"file"}, "contract": {"file"}, "text": {"save"}}
 QUOTES = {"rust", "contract"}
 # Documents that were in docs/ itself before. One was in docs/work/.
 OLD = ("ASSURANCE", "FONTS", "GF", "LANGUAGE", "LIVE", "MAP", "PICTURES")
+# Names of the toolchain, and words for any name, which no source has.
+OUTSIDE = {"publish_as", "rattle_alloc", "rattle_dealloc", "start_io", "start_lib", "mf_NAME", "mf_NAME_tests"}
 
 FENCE = re.compile(r" *(`{3,})(.*)")
 HEADING = re.compile(r"(#{1,6}) +(.*?)[ #]*")
@@ -76,6 +89,21 @@ OLD_PATH = re.compile(rf"\bdocs/({'|'.join(OLD)}|work/DECISIONS)\.md")
 REFUSAL_NUMBER = re.compile(r"`[A-Z][A-Za-z]+( [a-z])?`\s+\(\d+\)|\b[Rr]efusals?\s+\d+")
 MINUTES = re.compile(r"(\d[\d.]*)\s+minutes?\b")
 PLACEHOLDER = re.compile(r"@[A-Z][A-Z0-9_]*@")
+RESULTS = re.compile(r"<!-- (results/\w+\.tsv) -->")
+# What sources declare, read line by line: a type and what belongs to it, a function, a clause, a fact that a type keeps.
+OWNER = re.compile(r"(?:pub(?:\(.*?\))? )?(?:impl(?:<.*?>)? (?:[\w:]+(?:<.*>)? for )?|trait |struct |enum )(\w+)")
+FUNCTION = re.compile(r"\s*(?:pub(?:\(.*?\))? )?(?:const )?fn (\w+)")
+CLAUSE = re.compile(r"\s*(?:requires|ensures) (\w+) \{")
+GHOST = re.compile(r"\s*(?:pub )?ghost (\w+)\b")
+HAS_WORDS = (".rt", ".antt", ".py", ".sh", ".mf", ".edit", ".right", ".cpp", ".rattle", ".html", ".txt")
+# Names of the sources in documents: with an underscore or a capital inside, or of a type.
+NAMED = re.compile(r"\w*[a-z0-9]_\w*|[A-Z]*[a-z]+[A-Z]\w*|[A-Z]\w*::\w+")
+WORDS = r"`\w+`(?:(?:,\s+and\s+|,\s+|\s+and\s+)`\w+`)*"
+TARGETS = r"`[\w:]+`(?:(?:,\s+and\s+|,\s+|\s+and\s+)(?:of\s+)?`[\w:]+`(?!\s+of\b))*"
+CITED_OF = re.compile(rf"({WORDS})\s+of\s+({TARGETS})")
+CITED = re.compile(rf"\(({WORDS})\)")
+# Between paragraphs and items of lists.
+APART = re.compile(r"\n\s*\n|\n(?=\s*(?:[-*]|\d+\.) )")
 
 # What a check yields: the line it is about, and what is wrong there, which is nothing where it passes.
 Finding = tuple[int, str]
@@ -121,13 +149,48 @@ class Document:
 
 
 @dataclasses.dataclass(frozen=True)
+class Sources:
+    """What the sources name: their words; the words of the files that declare each type; the clauses of each function, by its name, alone
+    and with that of its type; and the facts that types keep."""
+
+    words: set[str]
+    of_type: dict[str, set[str]]
+    clauses: dict[str, set[str]]
+    ghosts: set[str]
+
+    def take(self, text: str) -> None:
+        """Takes in a source in Rattle."""
+        owner = function = ""
+        owners = set()
+        for line in text.splitlines():
+            if found := OWNER.match(line):
+                owner = function = found[1]
+                owners.add(owner)
+            elif line == "}":
+                owner = function = ""
+            if found := FUNCTION.match(line):
+                function = found[1]
+                self.clauses[function] |= set()
+                self.clauses[f"{owner}::{function}"] |= set()
+            elif found := CLAUSE.match(line):
+                self.clauses[function].add(found[1])
+                self.clauses[f"{owner}::{function}"].add(found[1])
+            elif found := GHOST.match(line):
+                self.ghosts.add(found[1])
+        for name in owners:
+            self.of_type[name] |= set(re.findall(r"\w+", text))
+
+
+@dataclasses.dataclass(frozen=True)
 class Repository:
-    """A folder with the files of a repository, its program, and how many seconds a command may take."""
+    """A folder with the files of a repository, and how many seconds a command may take."""
 
     root: pathlib.Path
     files: set[str]
     folders: set[str]
     limit: int = LIMIT
+    # Whether the commands of the documents are run.
+    runs: bool = True
 
     def read(self, path: str) -> str:
         return (self.root / path).read_text(encoding="utf-8")
@@ -140,6 +203,18 @@ class Repository:
         pattern = re.compile("[^/]*".join(map(re.escape, wanted.split("*"))))
         return any(map(pattern.fullmatch, self.folders if path.endswith("/") else self.files | self.folders))
 
+    @functools.cached_property
+    def sources(self) -> Sources:
+        sources = Sources(set(OUTSIDE), collections.defaultdict(set), collections.defaultdict(set), set())
+        for path in sorted(self.files):
+            sources.words.update(re.split(r"[/.]", path))
+            if path.endswith(HAS_WORDS):
+                text = self.read(path)
+                sources.words.update(re.findall(r"\w+", text))
+                if path.endswith(".rt"):
+                    sources.take(text)
+        return sources
+
     def crates(self) -> list[str]:
         return sorted(folder.removeprefix("crates/") for folder in self.folders if re.fullmatch("crates/[^/]+", folder))
 
@@ -147,7 +222,7 @@ class Repository:
         return sorted(path for path in self.files if path in (README, "bench/README.md") or fnmatch.fnmatch(path, "docs/*.md"))
 
 
-def open_repository(root: pathlib.Path, limit: int = LIMIT) -> Repository:
+def open_repository(root: pathlib.Path, limit: int = LIMIT, runs: bool = True) -> Repository:
     """The files that git knows or would add. Without git they are all files but those that are made."""
     if (root / ".git").exists():
         words = ["git", "-C", str(root), "ls-files", "-coz", "--exclude-standard"]
@@ -157,7 +232,7 @@ def open_repository(root: pathlib.Path, limit: int = LIMIT) -> Repository:
         paths = (path.relative_to(root) for path in root.rglob("*") if path.is_file())
         files = {path.as_posix() for path in paths if not {"out", "__pycache__", ".git"} & set(path.parts)}
     folders = {parent.as_posix() for path in files for parent in pathlib.PurePosixPath(path).parents}
-    return Repository(root, files, folders, limit)
+    return Repository(root, files, folders, limit, runs)
 
 
 # Reading a document.
@@ -280,6 +355,47 @@ def check_names(repository: Repository, document: Document) -> Iterator[Finding]
                 yield line, f"{word} is no file or folder of the repository"
 
 
+def check_code(repository: Repository, document: Document) -> Iterator[Finding]:
+    """Words in backquotes that stand in no source. What else a span says, as the words of a command, is not looked at."""
+    sources = repository.sources
+    for line, span in code_spans(document):
+        word = span.removesuffix("()")
+        if not NAMED.fullmatch(word):
+            continue
+        owner, _, name = word.rpartition("::")
+        known = sources.of_type[owner] if owner in sources.of_type else sources.words
+        yield line, FINE if name in known else f"{word} is named in no source"
+
+
+def check_clauses(repository: Repository, document: Document) -> Iterator[Finding]:
+    """Clauses of functions that are named, and clauses in parentheses, of the functions that their paragraph names."""
+    clauses, ghosts = repository.sources.clauses, repository.sources.ghosts
+    known = set().union(*clauses.values())
+    text, begin = document.text(), 0
+    for paragraph in APART.split(text):
+        begin = text.index(paragraph, begin)
+        called = [name for name in re.findall(r"`([\w:]+)`", paragraph) if clauses.get(name)]
+        cited = [(found, [it for it in re.findall(r"[\w:]+", found[2]) if it in clauses]) for found in CITED_OF.finditer(paragraph)]
+        cited += [(found, called) for found in CITED.finditer(paragraph)]
+        for found, functions in cited:
+            names = re.findall(r"`(\w+)`", found[1])
+            if found.re is CITED:
+                names = [name for name in names if name in known and name not in clauses and name not in ghosts]
+            having = set().union(*(clauses[name] for name in functions))
+            for name in names if functions else ():
+                line = line_of(text, begin + found.start())
+                yield line, FINE if name in having else f"{name} is no clause of {', '.join(sorted(set(functions)))}"
+
+
+def check_cells(repository: Repository, document: Document) -> Iterator[Finding]:
+    """Cells of tables, without what their links lead to."""
+    for number, line in enumerate(document.prose, 1):
+        if line.startswith("|") and document.path != CALLS:
+            longest = max(map(len, cells_of(re.sub(r"\]\([^()]*\)", "]", line))))
+            if longest > MAX_CELL:
+                yield number, f"a cell has {longest} characters, and may have {MAX_CELL}"
+
+
 def check_words(repository: Repository, document: Document) -> Iterator[Finding]:
     """Numbers of refusals outside of their table, and placeholders."""
     text = document.text()
@@ -302,6 +418,62 @@ def check_minutes(repository: Repository, document: Document) -> Iterator[Findin
             yield line, f"only {README} and {CONTRIBUTING} have numbers of minutes"
         else:
             yield line, FINE if found[1] in measured else f"{TIMES} has no {found[1]} minutes"
+
+
+# Tables of results.
+
+
+def cells_of(line: str) -> list[str]:
+    return [cell.strip() for cell in line.strip().strip("|").split("|")]
+
+
+def value_of(cell: str) -> str:
+    """What a cell says, without backquotes, links and the commas in numbers."""
+    return re.sub(r"`|\[|\]\([^()]*\)|(?<=\d),(?=\d{3})", "", cell)
+
+
+def tables_of(document: Document) -> Iterator[tuple[str, int, list[str], list[list[str]]]]:
+    """The tables that quote results: the file, the line of the first row, the columns, and the cells of the rows."""
+    for number, line in enumerate(document.prose):
+        if marker := RESULTS.fullmatch(line):
+            end = number + 1
+            while end < len(document.prose) and document.prose[end].startswith("|"):
+                end += 1
+            head, _, *rows = [cells_of(row) for row in document.prose[number + 1 : end]] or [[], []]
+            yield marker[1], number + 4, head, rows
+
+
+def results_of(repository: Repository, path: str) -> list[dict[str, str]]:
+    """The rows of a file of results."""
+    head, *rows = repository.read(path).splitlines() if path in repository.files else [""]
+    return [dict(zip(head.split("\t"), row.split("\t"))) for row in rows]
+
+
+def check_tables(repository: Repository, document: Document) -> Iterator[Finding]:
+    for path, first, head, rows in tables_of(document):
+        results = results_of(repository, path)
+        if not results or not rows or head[0] not in results[0]:
+            yield first - 3, f"{path} has no such table"
+            continue
+        shared = [column for column in head if column in results[0]]
+        known = {tuple(value_of(result[column]) for column in shared) for result in results}
+        for number, row in enumerate(rows, first):
+            said = dict(zip(head, map(value_of, row)))
+            yield number, FINE if tuple(said.get(column) for column in shared) in known else f"{path} has no such row"
+
+
+def write_tables(repository: Repository, document: Document) -> None:
+    """Writes what has changed in the results into the tables that quote them, where one row of results has the first cell."""
+    lines = list(document.lines)
+    for path, first, head, rows in tables_of(document):
+        results = results_of(repository, path)
+        for number, row in enumerate(rows, first - 1):
+            fitting = [result for result in results if value_of(result.get(head[0], "")) == value_of(row[0])]
+            if len(fitting) == 1:
+                cells = [fitting[0].get(column, cell) for column, cell in zip(head, row)]
+                cells = [old if value_of(new) == value_of(old) else new for new, old in zip(cells, row)]
+                lines[number] = f"| {' | '.join(cells)} |"
+    (repository.root / document.path).write_text("\n".join(lines), encoding="utf-8")
 
 
 # Quotations.
@@ -400,8 +572,8 @@ class Sandbox:
     def save(self, name: str, lines: list[str]) -> None:
         (self.place() / name).write_text("".join(f"{line}\n" for line in lines), encoding="utf-8")
 
-    def run(self, command: str) -> list[str] | None:
-        """The lines that a command prints to both outputs, or none where it takes too long."""
+    def run(self, command: str) -> tuple[list[str], int] | None:
+        """The lines that a command prints to both outputs, and its exit status, or none where it takes too long."""
         started = subprocess.Popen(
             ["bash", "-c", command],
             cwd=self.place(),
@@ -418,7 +590,7 @@ class Sandbox:
             started.communicate()
             return None
         lines = printed.decode(errors="replace").split("\n")
-        return lines[:-1] if lines[-1] == "" else lines
+        return lines[:-1] if lines[-1] == "" else lines, started.returncode
 
 
 def commands_of(block: Block) -> Iterator[Command]:
@@ -481,12 +653,15 @@ def check_commands(sandbox: Sandbox, document: Document, block: Block) -> Iterat
     if not block.lines or not block.lines[0].startswith("$ "):
         yield block.line, "the block does not begin with a command"
         return
-    for command in commands_of(block):
-        printed = sandbox.run(command.text)
-        if printed is None:
+    commands = list(commands_of(block))
+    for command in commands:
+        ran, status = sandbox.run(command.text), int(block.value("status") or 0) if command is commands[-1] else 0
+        if ran is None:
             yield command.line, f"the command takes more than {sandbox.repository.limit} seconds"
+        elif ran[1] != status:
+            yield command.line, f"the command exits with status {ran[1]}, and not {status}; it prints {ran[0][-1:]}"
         else:
-            yield compare(command, printed)
+            yield compare(command, ran[0])
 
 
 # Blocks and documents.
@@ -501,12 +676,14 @@ def wrong_info(block: Block) -> str:
         if name not in ATTRIBUTES[kind] or not value:
             return f"the block says {name}={value}, which is not known of {kind}"
     names = [name for name, _ in attributes]
-    if len(set(names)) > 1 or (names and names[0] != "needs" and len(names) > 1):
+    if len(names) > 1 and set(names) - {"needs", "status"} or names.count("status") > 1:
         return f"the block says too much: {block.info}"
     if kind in QUOTES and not names:
         return f"the block does not say of which file it is: {block.info}"
     if not REASON.fullmatch(block.value("skip") or "none"):
         return f"the reason is not in words that are joined by hyphens: {block.info}"
+    if not (block.value("status") or "0").isdecimal():
+        return f"the status is no number: {block.info}"
     if "/" in (block.value("save") or ""):
         return f"a file is saved in the folder itself: {block.info}"
     return FINE
@@ -532,8 +709,12 @@ def check_document(repository: Repository, document: Document) -> Iterator[Findi
     with tempfile.TemporaryDirectory() as folder:
         sandbox = Sandbox(repository, pathlib.Path(folder))
         for block in document.blocks:
-            yield from check_block(sandbox, document, block)
-    for check in (check_links, check_names, check_words, check_minutes):
+            if repository.runs or block.value("file"):
+                yield from check_block(sandbox, document, block)
+    checks = [check_links, check_names, check_cells, check_words, check_minutes, check_tables]
+    if document.path not in (CALLS, CHANGELOG):
+        checks += [check_code, check_clauses]
+    for check in checks:
         yield from check(repository, document)
 
 
@@ -566,9 +747,10 @@ def check_repository(repository: Repository) -> Iterator[tuple[str, Finding]]:
     if README not in repository.files:
         yield README, (1, "the file is missing")
         return
-    count = len(repository.read(README).splitlines())
-    if count > MAX_LINES:
-        yield README, (count, f"the file has more than {MAX_LINES} lines")
+    for path, most in MAX_LINES.items():
+        count = len(repository.read(path).splitlines()) if path in repository.files else 0
+        if count > most:
+            yield path, (count, f"the file has more than {most} lines")
     for path in lost_documents(repository):
         yield path, (1, "no link leads here from README.md, nor from a document that it leads to")
     yield from old_paths(repository)
@@ -614,13 +796,17 @@ SOUND = {
     "docs/A.md": "# A\n\nSee [B](user/B.md).\n",
     "docs/user/B.md": "# B\n\n## `mf_kind`: one\n\n## Twice\n\n## Twice\n",
     "bench/README.md": "# Speed\n\n## How *it* is measured\n",
-    "bench/times.tsv": "run\tpart\tminutes\nbuild\twhole\t12.6\n",
+    "results/times.tsv": "run\tpart\tminutes\nbuild\twhole\t12.6\n",
     "examples/a.mfp": SCRIPT,
     "crates/mf_kind/src/lib.rt": SOURCE_FILE,
     "crates/mf_other/src/only.rt": "",
     "mfpic": "#!/bin/bash\nexec crates/mfpic/out/mfpic\n",
     **dict.fromkeys(PROGRAMS, PRETENDED),
 }
+
+
+# The head of a table of results, with a column of its own.
+QUOTES_TIMES = "<!-- results/times.tsv -->\n| run | minutes | processors |\n|---|---|---|\n"
 
 
 def block_of(info: str, *lines: str) -> str:
@@ -652,8 +838,11 @@ RIGHT = {
     "a link": (2, "[B](docs/user/B.md#mf_kind-one) and [again](docs/user/B.md#twice-1)\n"),
     "no link": (0, "`[a](b.md)`, [web](https://example.org/b.md)\n"),
     "names": (0, "`crates/mf_kind/`, `mf_kind/src/lib.rt`, `src/only.rt`, `crates/NAME/src/*.rt`, `a / 2`, `out/a.md`\n"),
-    "a name in a section": (0, "## `mf_kind`\n\n`src/lib.rt`\n"),
+    "a name in a section": (1, "## `mf_kind`\n\n`src/lib.rt`\n"),
     "a list": (0, "- One\n\n    and more of it\n"),
+    "a status": (2, block_of("console status=3", "$ true", "$ exit 3")),
+    "clauses": (4, "`first` and `second` of `Kind::one`\n\n`two` (`third`), `one`\n"),
+    "results": (3, f"{QUOTES_TIMES}| `build` | [12.6](docs/A.md) | 4 |\n| build | 12.6 | 5 |\n"),
     "minutes": (1, "13 minutes\n"),
 }
 # The same with a fault, its line below the first one, and words of what is said of it.
@@ -699,6 +888,16 @@ WRONG = {
     "a refusal's number in two lines": (0, "numbers of refusals", "`Backtracks i`\n(5)\n"),
     "a refusal by number": (0, "numbers of refusals", "refusal 12\n"),
     "a placeholder": (0, "placeholder @GATE_TIME@", "@GATE_TIME@ minutes\n"),
+    "another status": (1, "exits with status 1, and not 0", block_of("console", "$ false", "$ true")),
+    "no status": (1, "exits with status 0, and not 3", block_of("console status=3", "$ true")),
+    "a status in words": (0, "is no number", block_of("console status=none", "$ true")),
+    "no such call": (0, "Kind::three is named in no source", "`Kind::three`\n"),
+    "no such word": (0, "no_such_word is named in no source", "`no_such_word`\n"),
+    "no such clause": (1, "fourth is no clause of Kind::one", "One\n`first` and `fourth` of `Kind::one`\n"),
+    "a clause of another call": (0, "third is no clause of Kind::one", "`Kind::one` (`third`)\n"),
+    "a long cell": (2, "a cell has 151 characters", f"| a |\n|---|\n| {'a' * 151} |\n"),
+    "another count": (3, "results/times.tsv has no such row", f"{QUOTES_TIMES}| build | 12.7 | 4 |\n"),
+    "no results": (0, "has no such table", QUOTES_TIMES.replace("times", "none") + "| build | 12.6 | 4 |\n"),
     "minutes that nobody measured": (0, "has no 12 minutes", "12\nminutes\n"),
 }
 # Files that make the documents wrong when taken together, with the place of the fault and words of it.
@@ -779,15 +978,21 @@ def main() -> int:
         print("".join(f"{line}\n" for line in wrong), end="")
         print(f"{len(trials) - len(wrong)} passed, {len(wrong)} failed")
         return int(bool(wrong))
-    for program in PROGRAMS:
+    reads, writes = words[:1] == ["--read"], words[:1] == ["--write"]
+    words = words[reads or writes :]
+    for program in () if reads or writes else PROGRAMS:
         if not os.access(ROOT / program, os.X_OK):
             print(f"{program} is missing: `./{pathlib.PurePosixPath(program).name} < /dev/null` builds it", file=sys.stderr)
             return 1
-    repository = open_repository(ROOT)
+    repository = open_repository(ROOT, runs=not reads)
     named = [os.path.relpath(pathlib.Path(word).resolve(), ROOT) for word in words]
     if unknown := sorted(set(named) - set(repository.documents())):
         print(f"{unknown[0]} is not a document", file=sys.stderr)
         return 2
+    if writes:
+        for path in named or repository.documents():
+            write_tables(repository, read_document(repository, path))
+        return 0
     passed, faults = tally(findings(repository, named), lambda fault: print(fault, flush=True))
     print(f"{passed} passed, {len(faults)} failed")
     return int(bool(faults))
