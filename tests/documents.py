@@ -30,7 +30,7 @@ from README.md or from one that is. Some documents must be short (`MAX_LINES`), 
 - One with `_` or with a capital inside must stand in some source, and `Type::call` in a source that names the type.
 - "`a` and `b` of `call`" must be clauses of that call, if it is a function, and so must "(`a`, `b`)" in a paragraph that names calls.
 - Only docs/user/LANGUAGE.md has the numbers of refusals, and only README.md and CONTRIBUTING.md have numbers of minutes, which are
-  those of results/times.tsv. No placeholder may be left.
+  those of results/times.tsv. No placeholder may be left. Each decision has its date.
 - A table below a line `<!-- results/NAME.tsv -->` quotes that file: each of its rows must agree with one of the file in all columns that
   both have.
 
@@ -58,10 +58,11 @@ ROOT = pathlib.Path(__file__).resolve().parent.parent
 PROGRAM = "crates/mfpic/out/mfpic"
 PROGRAMS = (PROGRAM, "crates/mfview/out/mfview")
 README, LANGUAGE, CONTRIBUTING, TIMES = "README.md", "docs/user/LANGUAGE.md", "docs/work/CONTRIBUTING.md", "results/times.tsv"
+DECISIONS = "docs/DECISIONS.md"
 # Made from the sources, and about names of the past: the names in these are not looked for.
 CALLS, CHANGELOG = "docs/work/CALLS.md", "docs/work/CHANGELOG.md"
 # Lines that documents may have, characters that a cell of a table may have, and seconds that a command may take.
-MAX_LINES = {README: 150, "docs/DECISIONS.md": 300, "docs/work/PROVED.md": 300, CHANGELOG: 150, CONTRIBUTING: 330}
+MAX_LINES = {README: 150, DECISIONS: 300, "docs/work/PROVED.md": 300, CHANGELOG: 150, CONTRIBUTING: 330}
 MAX_CELL, LIMIT = 150, 60
 # The attributes that a block of each kind may have, and those of which it needs one.
 ATTRIBUTES = {"console": {"needs", "skip", "status"}, "mfp": {"file", "save"}, "rust": {"file"}, "contract": {"file"}, "text": {"save"}}
@@ -102,6 +103,7 @@ WORDS = r"`\w+`(?:(?:,\s+and\s+|,\s+|\s+and\s+)`\w+`)*"
 TARGETS = r"`[\w:]+`(?:(?:,\s+and\s+|,\s+|\s+and\s+)(?:of\s+)?`[\w:]+`(?!\s+of\b))*"
 CITED_OF = re.compile(rf"({WORDS})\s+of\s+({TARGETS})")
 CITED = re.compile(rf"\(({WORDS})\)")
+DATE = re.compile(r"\(\d{4}-\d\d-\d\d\)\s*$")
 # Between paragraphs and items of lists.
 APART = re.compile(r"\n\s*\n|\n(?=\s*(?:[-*]|\d+\.) )")
 
@@ -405,6 +407,15 @@ def check_words(repository: Repository, document: Document) -> Iterator[Finding]
     for number, line in enumerate(document.lines, 1):
         for found in PLACEHOLDER.finditer(line):
             yield number, f"the placeholder {found[0]} is left"
+
+
+def check_dates(repository: Repository, document: Document) -> Iterator[Finding]:
+    """The date at the end of each decision."""
+    text, begin = document.text(), 0
+    for paragraph in APART.split(text) if document.path == DECISIONS else ():
+        begin = text.index(paragraph, begin)
+        if paragraph.startswith("- "):
+            yield line_of(text, begin), FINE if DATE.search(paragraph) else "the decision has no date"
 
 
 def check_minutes(repository: Repository, document: Document) -> Iterator[Finding]:
@@ -711,7 +722,7 @@ def check_document(repository: Repository, document: Document) -> Iterator[Findi
         for block in document.blocks:
             if repository.runs or block.value("file"):
                 yield from check_block(sandbox, document, block)
-    checks = [check_links, check_names, check_cells, check_words, check_minutes, check_tables]
+    checks = [check_links, check_names, check_cells, check_words, check_dates, check_minutes, check_tables]
     if document.path not in (CALLS, CHANGELOG):
         checks += [check_code, check_clauses]
     for check in checks:
@@ -912,6 +923,11 @@ WRONG_FILES = {
     "an old path": ({"tests/a.py": f"\n# docs/{OLD[0]}.md\n"}, "tests/a.py:2: ", "was before"),
     "an old path in a folder": ({"tests/a.py": f"\n# docs/work/{'DECISIONS'}.md\n"}, "tests/a.py:2: ", "was before"),
     "minutes elsewhere": ({"docs/A.md": SOUND["docs/A.md"] + "13 minutes\n"}, "docs/A.md:4: ", "numbers of minutes"),
+    "a decision without a date": (
+        {"docs/A.md": "[D](DECISIONS.md) [B](user/B.md)\n", DECISIONS: "- One (2026-12-01)\n- Two\n"},
+        "docs/DECISIONS.md:2: ",
+        "has no date",
+    ),
     "no README": ({"README.md": None}, "README.md:1: ", "is missing"),
 }
 
