@@ -2,7 +2,7 @@
 use Rattle.std.proofs.Common.{◌≡◌, List, ℕ, [], ◌∷◌, ◌++◌, refl, sym, ap, ◌∙◌, append_assoc, append-nil, arith}
 use Rattle.mf_desk_session.specs.Answers.{Answers}
 use Rattle.mf_desk_session.specs.States.{Answer, Limits, State, answer_with, answers_in_turn}
-use Rattle.mf_desk_session.specs.Transcript.{Perform}
+use Rattle.mf_desk_session.specs.Transcript.{Perform, PerformInTurn}
 
 -- of three answers, the last two may be joined first
 answers_in_turn-assoc : (a b c : Answer) → answers_in_turn (answers_in_turn a b) c ≡ answers_in_turn a (answers_in_turn b c)
@@ -21,7 +21,7 @@ Perform-one limits s line a answer = (a, answer_with [] a.next, answer, refl, ap
 
 -- what lines and then others answer is what the first answer and then, from the state in between, what the others answer
 pub Perform-split : (limits : Limits) (s : State) (lines more : List (List ℕ)) (whole : Answer) → Perform limits s (lines ++ more) whole
-    → (a : Answer) × (b : Answer) × Perform limits s lines a × Perform limits a.next more b × (whole ≡ answers_in_turn a b)
+    → PerformInTurn limits s lines more whole
 Perform-split limits s [] more whole performed = (answer_with [] s, whole, refl, performed, refl)
 Perform-split limits s (line ∷ lines) more whole (first, rest, answer, performed, is) =
     let (a, b, before, after, cut) = Perform-split limits first.next lines more rest performed in

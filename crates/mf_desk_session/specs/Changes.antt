@@ -22,7 +22,7 @@ abbrev pub IsClearable : ℕ → Pictures → Name → Type 0
 IsClearable max_ops s Current = revision_at s.accepted < max_ops
 IsClearable max_ops s (Register number) = Unit {0}
 
--- the pictures after an operation on one of them
+-- the pictures after an operation on one of them that is accepted
 abbrev pub pictures_after : Pictures → Name → Op → Pictures
 pictures_after s Current op = record s { accepted = accepted_list_with s.accepted s.published (Operation op) }
 pictures_after s (Register number) op = record s { registers = slice_set s.registers number (next_picture (picture s (Register number)) op) }

@@ -22,20 +22,20 @@ pub record IsFileOf (session : Session) (s : State) (file : GfFile) : Type 0 whe
   pub keeps : Keeps file [] s.characters
   pub max_bytes_is : max_bytes_of file ≡ (limits session).max_bytes
 
--- everything that was accepted is published, and so is the end mark
+-- everything that was accepted is published, and so is the end mark; the font file keeps what was shipped
 pub record HasEnded (session : Session) (s : State) (ended : Ended) (file : GfFile) : Type 0 where
   pub identity_is : ended_identity ended ≡ identity session
   pub published : ended_published_list ended ≡ complete_list s.pictures
   pub file_is : IsFileOf session s file
 
--- the end mark is set, and nothing was published
+-- the end mark is set, and nothing was published with it; the font file keeps what was shipped
 pub record IsHalfway (session : Session) (s : State) (closing : Closing) (file : GfFile) : Type 0 where
   pub identity_is : closing_identity closing ≡ identity session
   pub accepted : closing_accepted_list closing ≡ complete_list s.pictures
   pub published : closing_published_list closing ≡ s.pictures.published
   pub file_is : IsFileOf session s file
 
--- the session is as it was
+-- a session of the same picture, with the same limits and this state
 pub record IsSameSession (session : Session) (s : State) (same : Session) : Type 0 where
   pub identity_is : identity same ≡ identity session
   pub limits_are : limits same ≡ limits session

@@ -10,6 +10,11 @@ Perform limits s [] a = Prints s [] a
 Perform limits s (line ∷ more) a =
     (first : Answer) × (rest : Answer) × Answers limits s line first × Perform limits first.next more rest × (a ≡ answers_in_turn first rest)
 
+-- lines, and then others from the state after them, answer this when they are performed
+abbrev pub PerformInTurn : Limits → State → List (List ℕ) → List (List ℕ) → Answer → Type 0
+PerformInTurn limits s lines more whole =
+    (a : Answer) × (b : Answer) × Perform limits s lines a × Perform limits a.next more b × (whole ≡ answers_in_turn a b)
+
 -- lines that are due to be performed from a state on
 pub record DueLines : Type 0 where
   pub limits : Limits

@@ -2,19 +2,16 @@
 //! function's contract names it.
 ghost use Rattle.std.specs.Prelude.{◌≡◌, ◌++◌, ℕ, List};
 ghost use Rattle.mf_desk_session.specs.Answers.{Answers};
-ghost use Rattle.mf_desk_session.specs.States.{Answer, Limits, State, answers_in_turn};
-ghost use Rattle.mf_desk_session.specs.Transcript.{Perform, IsTranscript};
+ghost use Rattle.mf_desk_session.specs.States.{Answer, Limits, State};
+ghost use Rattle.mf_desk_session.specs.Transcript.{IsTranscript, Perform, PerformInTurn};
 
 /// A script may be cut between two lines: it prints what the first lines print and then, from the state after them, what the
 /// others print.
 pub fn line_by_line()
-    ensures together { (limits : Limits) (s : State) (lines more : List (List ℕ)) (a b : Answer)
-        → Perform limits s lines a → Perform limits a.next more b
-        → Perform limits s (lines ++ more) (answers_in_turn a b) }
+    ensures together { (limits : Limits) (s : State) (lines more : List (List ℕ)) (whole : Answer)
+        → PerformInTurn limits s lines more whole → Perform limits s (lines ++ more) whole }
     ensures apart { (limits : Limits) (s : State) (lines more : List (List ℕ)) (whole : Answer)
-        → Perform limits s (lines ++ more) whole
-        → (a : Answer) × (b : Answer) × Perform limits s lines a × Perform limits a.next more b
-        × (whole ≡ answers_in_turn a b) }
+        → Perform limits s (lines ++ more) whole → PerformInTurn limits s lines more whole }
 {}
 
 /// In a state, a line has exactly one answer: one text, and one state after it.

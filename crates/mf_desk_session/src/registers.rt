@@ -73,8 +73,8 @@ impl Registers {
         ensures turning { (fault : CycleFault)
             → op_fault (slice_index_or self.old number []) op.now ≡ Some (OpFault.Cycle fault)
             → result ≡ Err (OpFault.Cycle fault) }
-        ensures out_of_field { op_fault (slice_index_or self.old number []) op.now ≡ Some OpFault.OutOfField
-            → result ≡ Err OpFault.OutOfField }
+        ensures out_of_field { op_fault (slice_index_or self.old number []) op.now
+            ≡ Some OpFault.OutOfField → result ≡ Err OpFault.OutOfField }
         ensures clears { op.now ≡ ops.Clear → IsOk result }
     {
         apply(alloc, &mut self.pictures[number as usize], op)

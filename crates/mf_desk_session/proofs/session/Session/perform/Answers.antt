@@ -8,9 +8,9 @@ use Rattle.mf_desk_session.proofs.session.Session.perform.Goals as goal
 use Rattle.mf_desk_session.proofs.session.Session.perform.Goals.{in-Contour, in-Cull, in-Clear, in-Shift, in-Scale, in-Quarter}
 
 -- drawing changes neither the turning check nor what was shipped
-draws : (s : State) (text line : List ℕ) (before after : Pictures) → (text ≡ line) × (before ≡ after)
+draws : {text line : List ℕ} {before after : Pictures} (s : State) → (text ≡ line) × (before ≡ after)
     → answer_with text (record s { pictures = before }) ≡ answer_with line (record s { pictures = after })
-draws s text line before after (printed, same) =
+draws {line} {before} s (printed, same) =
     ap (λ t. answer_with t (record s { pictures = before })) printed ∙ ap (λ p. answer_with line (record s { pictures = p })) same
 
 pub returns-in-Turning-clause-answer : goal.returns-in-Turning-clause-answer
@@ -22,13 +22,13 @@ pub returns-in-Also-clause-answer : goal.returns-in-Also-clause-answer
 returns-in-Also-clause-answer g c =
     IfOk-weaker c.add.result _ _
     (λ text given. HasAnswered-same_file c.args.self.now _ _ _ refl
-    (λ characters. rw c.in-Also.is (draws (state_of c.args.self.now characters) _ _ _ _ given))) c.add.ensures.answer
+    (λ characters. rw c.in-Also.is (draws (state_of c.args.self.now characters) given))) c.add.ensures.answer
 
 pub returns-in-Publish-clause-answer : goal.returns-in-Publish-clause-answer
 returns-in-Publish-clause-answer g c =
     IfOk-weaker c.publish.result _ _
     (λ text given. HasAnswered-same_file c.args.self.now _ _ _ refl
-    (λ characters. rw c.in-Publish.is (draws (state_of c.args.self.now characters) _ _ _ _ given))) c.publish.ensures.answer
+    (λ characters. rw c.in-Publish.is (draws (state_of c.args.self.now characters) given))) c.publish.ensures.answer
 
 pub returns-clause-answer : goal.returns-clause-answer
 returns-clause-answer g c =
@@ -37,13 +37,13 @@ returns-clause-answer g c =
     (λ characters.
     let s = state_of c.args.self.now characters in
     elim c.match-command.branch [
-      | in-Contour w ↦ rw w.in-Contour.is (draws s _ _ _ _ (rw w.name-is at given))
-      | in-Cull w ↦ rw w.in-Cull.is (draws s _ _ _ _ (rw w.name-is at given))
-      | in-Clear w ↦ rw w.in-Clear.is (draws s _ _ _ _ (rw w.name-is at given))
+      | in-Contour w ↦ rw w.in-Contour.is (draws s (rw w.name-is at given))
+      | in-Cull w ↦ rw w.in-Cull.is (draws s (rw w.name-is at given))
+      | in-Clear w ↦ rw w.in-Clear.is (draws s (rw w.name-is at given))
       | in-Shift w ↦
           let right : to_z w32 (of_z w32 w.in-Shift.right) ≡ w.in-Shift.right = omega (arith, ints) in
           let up : to_z w32 (of_z w32 w.in-Shift.up) ≡ w.in-Shift.up = omega (arith, ints) in
-          rw w.in-Shift.is (draws s _ _ _ _ (rw (w.name-is, right, up) at given))
-      | in-Scale w ↦ rw w.in-Scale.is (draws s _ _ _ _ (rw w.name-is at given))
-      | in-Quarter w ↦ rw w.in-Quarter.is (draws s _ _ _ _ (rw w.name-is at given))
+          rw w.in-Shift.is (draws s (rw (w.name-is, right, up) at given))
+      | in-Scale w ↦ rw w.in-Scale.is (draws s (rw w.name-is at given))
+      | in-Quarter w ↦ rw w.in-Quarter.is (draws s (rw w.name-is at given))
     ])) c.operate.ensures.answer
