@@ -28,9 +28,9 @@ pub record AreSpanned (ds : List Dot) (rs : List Run) (least greatest : ℤ) : T
   pub up : pos 0 ≤ℤ greatest
   pub high : greatest ≤ℤ greatest_weight
 
-pub one_more_spanned : (ds : List Dot) (rs : List Run) (r : Run) (others : List Run) (least greatest low high : ℤ) → rs ≡ r ∷ others
+pub one_more_spanned : {ds : List Dot} {rs : List Run} {r : Run} {others : List Run} {least greatest low high : ℤ} → rs ≡ r ∷ others
     → low ≡ int_min least r.weight → high ≡ int_max greatest r.weight → AreSpanned ds rs least greatest → AreSpanned ds others low high
-one_more_spanned ds rs r others least greatest low high first lesser greater so_far =
+one_more_spanned {rs} {r} {others} {least} {greatest} first lesser greater so_far =
     let run = first_is_lawful rs r others first so_far.runs in
     record {
       runs = All-rest IsRun r others rs first so_far.runs;
@@ -42,24 +42,32 @@ one_more_spanned ds rs r others least greatest low high first lesser greater so_
       high = omega (arith, ints, greater, int_max_is greatest r.weight, run.lawful.greatest, so_far.high);
     }
 
-pub all_spanned : (ds : List Dot) (rs : List Run) (least greatest : ℤ) → rs ≡ [] → AreSpanned ds rs least greatest
+pub all_spanned : {ds : List Dot} {rs : List Run} {least greatest : ℤ} → rs ≡ [] → AreSpanned ds rs least greatest
     → (least ≡ least_weight_of (runs_of ds)) × (greatest ≡ greatest_weight_of (runs_of ds))
-all_spanned ds rs least greatest none so_far = grind (arith, ints)
+all_spanned none so_far = grind (arith, ints)
 
 -- ---- the paths
 
--- with the paths of the weights from w on, the text so far is whole; so it is one path later
-pub one_more_path : (rs : List Run) (w greatest : ℤ) (text new whole : List ℕ) → w ≤ℤ greatest → new ≡ text ++ path_of_weight w (flat_map (rectangle_of w) rs)
-    → text ++ paths_from rs w (extent w greatest) ≡ whole → new ++ paths_from rs (w +ℤ pos 1) (extent (w +ℤ pos 1) greatest) ≡ whole
+-- with the paths of the weights from w on, the text so far is whole
+pub record ArePathsBefore (rs : List Run) (w greatest : ℤ) (text whole : List ℕ) : Type 0 where
+  pub order : w ≤ℤ (greatest +ℤ pos 1)
+  pub whole_is : text ++ paths_from rs w (extent w greatest) ≡ whole
+
+pub one_more_path : {rs : List Run} {w greatest : ℤ} {text new whole : List ℕ} → w ≤ℤ greatest
+    → new ≡ text ++ path_of_weight w (flat_map (rectangle_of w) rs) → ArePathsBefore rs w greatest text whole
+    → ArePathsBefore rs (w +ℤ pos 1) greatest new whole
 unfolding paths_from
-one_more_path rs w greatest text new whole within pushed so_far =
-    piece_more text (path_of_weight w (flat_map (rectangle_of w) rs)) _ _ new whole pushed (ap (paths_from rs w) (extent-next w greatest within)) so_far
+one_more_path {rs} {w} {greatest} {text} {new} {whole} within pushed so_far = record {
+  order = omega (arith, ints);
+  whole_is = piece_more text (path_of_weight w (flat_map (rectangle_of w) rs)) _ _ new whole pushed (ap (paths_from rs w) (extent-next w greatest within))
+      so_far.whole_is;
+}
 
 -- no path is left
-pub all_paths : (rs : List Run) (w greatest : ℤ) (text whole : List ℕ) → w ≡ greatest +ℤ pos 1 → text ++ paths_from rs w (extent w greatest) ≡ whole
-    → text ≡ whole
+pub all_paths : {rs : List Run} {w greatest : ℤ} {text whole : List ℕ} → w ≡ greatest +ℤ pos 1 → ArePathsBefore rs w greatest text whole → text ≡ whole
 unfolding paths_from
-all_paths rs w greatest text whole over so_far = pieces_all text _ whole (ap (paths_from rs w) (extent-none w greatest over)) so_far
+all_paths {rs} {w} {greatest} {text} {whole} over so_far =
+    pieces_all text _ whole (ap (paths_from rs w) (extent-none w greatest over)) so_far.whole_is
 
 pub paths_are : (rs : List Run) (least greatest : ℤ) → least ≡ least_weight_of rs → greatest ≡ greatest_weight_of rs
     → paths_from rs least (extent least greatest) ≡ paths rs

@@ -21,7 +21,7 @@ greatest_image_side = 4096
 abbrev pub IsTooLargeForImage : List Dot → Type 0
 IsTooLargeForImage ds = IsLargerThan greatest_image_side (image_box ds)
 
--- the box is that of a picture's image
+-- the box is that of a picture's image, and in the field
 pub record IsImageBox (ds : List Dot) (b : Box4) : Type 0 where
   pub is : b ≡ image_box ds
   pub field : IsBoxOfField b

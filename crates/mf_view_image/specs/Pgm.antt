@@ -1,11 +1,11 @@
 -- The PGM image of a picture (Netpbm's portable graymap): the gray value of each pixel of its least box in a byte, rows in order from
 -- the top.
-use Rattle.std.specs.Prelude.{◌+◌, ◌-◌, ◌*◌, ℕ, ℤ, pos, negsuc, int_lt, min, List, [], ◌++◌, codes, if◌then◌else◌}
+use Rattle.std.specs.Prelude.{◌+◌, ◌-◌, ◌*◌, ◌+ℤ◌, ◌-ℤ◌, ℕ, ℤ, pos, negsuc, int_lt, min, List, [], ◌++◌, codes, length, if◌then◌else◌}
 use Rattle.std.specs.Fmt.{signed_decimal}
 use Rattle.std.specs.Int.RustNames.{unsigned_abs}
 use Rattle.std.specs.Ordering.{int_eq}
 use Rattle.mf_rows.specs.declared.bounds.Box4.{Box4}
-use Rattle.mf_rows.specs.Dots.{Dot}
+use Rattle.mf_rows.specs.Dots.{Dot, weight_at}
 use Rattle.mf_text_show.specs.Grid.{shown_at, shown_box}
 use Rattle.mf_rows.specs.Boxes.{extent}
 use Rattle.mf_view_image.specs.Boxes.{image_box}
@@ -36,11 +36,19 @@ least_distinct_weight = negsuc 53
 abbrev pub greatest_distinct_weight : ℤ
 greatest_distinct_weight = pos 42
 
--- what comes before the gray values: the left column and the top row, and the numbers of columns and rows
+-- what comes before the gray values: the left column and the top row, the numbers of columns and rows, and the greatest gray value
 abbrev pub pgm_head : Box4 → List ℕ
 pgm_head b =
     codes "P5\n# left " ++ signed_decimal b.min_x ++ codes " top " ++ signed_decimal b.max_y ++ codes "\n" ++ signed_decimal
     (pos (extent b.min_x b.max_x)) ++ codes " " ++ signed_decimal (pos (extent b.min_y b.max_y)) ++ codes "\n255\n"
+
+-- the weight of the pixel in column i and row j of a box, both counted from 0, from the left and from the top, and the place of its gray
+-- value in the image
+abbrev pub weight_in_box : List Dot → Box4 → ℕ → ℕ → ℤ
+weight_in_box ds b i j = weight_at ds (b.min_x +ℤ pos i) (b.max_y -ℤ pos j)
+
+abbrev pub place_in_image : Box4 → ℕ → ℕ → ℕ
+place_in_image b i j = length (pgm_head b) + (j * extent b.min_x b.max_x + i)
 
 -- the gray values of the pixels of a box
 abbrev pub box_bytes : List Dot → Box4 → List ℕ

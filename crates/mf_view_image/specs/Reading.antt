@@ -16,7 +16,7 @@ rest_after [] text = Some text
 rest_after (p ∷ ps) [] = None
 rest_after (p ∷ ps) (b ∷ bs) = if b == p then rest_after ps bs else None
 
--- what comes after the first byte c of a text
+-- what comes after the first byte c of a text, nothing where it has none
 unfoldable pub after_first : ℕ → List ℕ → List ℕ
 after_first c [] = []
 after_first c (b ∷ bs) = if b == c then bs else after_first c bs
@@ -26,7 +26,7 @@ unfoldable pub with_digits : ℕ → List ℕ → ℕ
 with_digits n [] = n
 with_digits n (b ∷ bs) = if is_ascii_digit b then with_digits (10 * n + (b - digit_zero)) bs else n
 
--- the number at the front of a text
+-- the number at the front of a text, 0 where it has none there
 unfoldable pub number : List ℕ → ℤ
 number [] = pos 0
 number (b ∷ bs) = if b == minus_sign then neg_ℤ (pos (with_digits 0 bs)) else pos (with_digits 0 (b ∷ bs))
@@ -95,7 +95,7 @@ graymap_of b values = record {
   values = values;
 }
 
--- a PGM image, which begins with P5 and a comment
+-- what a PGM image says, if the bytes begin as one: with P5 and the comment
 abbrev pub read_pgm : List ℕ → Option Graymap
 read_pgm bytes = option_map graymap_from (rest_after (codes "P5\n# left ") bytes)
 

@@ -23,7 +23,7 @@ rectangle r =
 abbrev pub rectangle_of : ℤ → Run → List ℕ
 rectangle_of w r = if int_eq r.weight w then rectangle r else []
 
--- the color of a weight: orange for negative ones, dark gray for 1, blue for 2, and black for 3 and more
+-- the color of a weight: orange for negative ones, dark gray for 1 (and for 0, which no path has), blue for 2, and black for 3 and more
 abbrev pub color : ℤ → List ℕ
 color w =
     if int_lt w (pos 0) then codes "#f80"
@@ -88,7 +88,7 @@ axes v =
     codes "<path d=\"M0 " ++ signed_decimal v.top ++ codes "v" ++ signed_decimal v.height ++ codes "M" ++ signed_decimal v.left ++ codes " 0h"
     ++ signed_decimal v.width ++ codes "\" stroke=\"#c00\" stroke-width=\".12\"/>\n"
 
--- no number of an image is greater than this
+-- no number of an image is farther from 0 than this
 abbrev pub greatest_number : ℕ
 greatest_number = 40000
 

@@ -1,20 +1,19 @@
 //! Laws of images. Each is the contract of a function that does nothing, because the toolchain proves a statement only where the
 //! contract of a function names it.
-ghost use Rattle.std.specs.Prelude.{◌≡◌, ◌<◌, ◌+◌, ◌*◌, ℕ, ℤ, pos, ◌≤ℤ◌, ◌+ℤ◌, ◌-ℤ◌, List, Some, drop, get_or, length};
+ghost use Rattle.std.specs.Prelude.{◌≡◌, ◌<◌, ◌+◌, ◌*◌, ℕ, ℤ, ◌≤ℤ◌, List, Some, drop, get_or, length};
 ghost use Rattle.mf_rows.specs.Dots.{Dot, IsPicture, weight_at};
 ghost use Rattle.mf_rows.specs.Boxes.{extent};
 ghost use Rattle.mf_view_image.specs.Boxes.{image_box};
-ghost use Rattle.mf_view_image.specs.Pgm.{gray_value, greatest_distinct_weight, least_distinct_weight, pgm_bytes, pgm_head};
+ghost use Rattle.mf_view_image.specs.Pgm.{gray_value, greatest_distinct_weight, least_distinct_weight, pgm_bytes, pgm_head, place_in_image, weight_in_box};
 ghost use Rattle.mf_view_image.specs.Reading.{graymap_of, read_pgm, read_svg, weight_of_gray_value};
 ghost use Rattle.mf_view_image.specs.Svg.{svg_text};
 
 /// After its head, a PGM image has the gray value of each pixel of its box, rows in order from the top and columns from the left, and
 /// nothing else.
 pub fn pgm_has_each_pixel()
-    ensures pixels { (ds : List Dot) (i j : ℕ) → let b = image_box ds in i < extent b.min_x b.max_x
-        → j < extent b.min_y b.max_y
-        → get_or (pgm_bytes ds) (length (pgm_head b) + (j * extent b.min_x b.max_x + i)) 0
-        ≡ gray_value (weight_at ds (b.min_x +ℤ pos i) (b.max_y -ℤ pos j)) }
+    ensures pixels { (ds : List Dot) (i j : ℕ) → let b = image_box ds in
+        i < extent b.min_x b.max_x → j < extent b.min_y b.max_y
+        → get_or (pgm_bytes ds) (place_in_image b i j) 0 ≡ gray_value (weight_in_box ds b i j) }
     ensures whole { (ds : List Dot)
         → let b = image_box ds in
         length (pgm_bytes ds)

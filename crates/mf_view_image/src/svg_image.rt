@@ -52,11 +52,13 @@ impl ViewBox {
         ensures value { result ≡ view_box_of bounds.now }
         ensures numbers { HasImageNumbers result }
     {
+        let columns = extent(bounds.min_x, bounds.max_x);
+        let rows = extent(bounds.min_y, bounds.max_y);
         ViewBox {
             left: bounds.min_x - 1,
             top: -(bounds.max_y + 2),
-            width: extent(bounds.min_x, bounds.max_x) as i32 + 2,
-            height: extent(bounds.min_y, bounds.max_y) as i32 + 2,
+            width: columns as i32 + 2,
+            height: rows as i32 + 2,
         }
     }
 

@@ -17,10 +17,10 @@ loop-run-preserved c =
     omega (arith, ints, clamps, c.min-least.ensures.value, run.lawful.least, run.lawful.greatest) in
     let greatest : to_z w32 (of_z w32 c.max-greatest.result) ≡ int_max (to_z w32 c.loop-run.greatest-bits) w =
     omega (arith, ints, clamps, c.max-greatest.ensures.value, run.lawful.least, run.lawful.greatest) in
-    one_more_spanned _ _ _ _ _ _ _ _ c.in-Some.ensures.steps least greatest c.loop-run.invariant
+    one_more_spanned c.in-Some.ensures.steps least greatest c.loop-run.invariant
 
 pub returns-clause-least : goal.returns-clause-least
-returns-clause-least c = (all_spanned _ _ _ _ c.in-None.ensures.steps.0 c.loop-run.invariant).0
+returns-clause-least c = (all_spanned c.in-None.ensures.steps.0 c.loop-run.invariant).0
 
 pub returns-clause-greatest : goal.returns-clause-greatest
-returns-clause-greatest c = (all_spanned _ _ _ _ c.in-None.ensures.steps.0 c.loop-run.invariant).1
+returns-clause-greatest c = (all_spanned c.in-None.ensures.steps.0 c.loop-run.invariant).1
