@@ -68,7 +68,7 @@ measures style b s =
 abbrev pub picture_text : Style → Size → List Dot → Window → List ℕ
 picture_text style canvas ds w = empty_lines_above style canvas w.lines ++ window_lines style (cell_shade w.scale ds) w
 
--- the frame of the blank picture
+-- the frame of this picture, which is blank
 unfoldable pub blank_frame : Style → Size → ℕ → List Dot → List ℕ
 blank_frame style canvas revision ds = empty_lines_above style canvas 0 ++ heading style revision (total_of ds) ++ line_start style ++ codes "blank  scale 1\n"
 

@@ -41,7 +41,7 @@ is_negative a = depth a == depth Negative
 abbrev pub is_at_axis : ℤ → ℤ → Bool
 is_at_axis column line = int_eq column (pos 0) || int_eq line (pos 0)
 
--- what marks the axis in a tile without dark cells
+-- what marks the axis in a tile without dark cells, a space where it is at none
 abbrev pub axis_mark : ℤ → ℤ → List ℕ
 axis_mark column line =
     if int_eq column (pos 0) then left_border
@@ -71,9 +71,10 @@ axis_color = codes "250"
 
 -- what sets the color of a character and that of its background
 abbrev pub colors : List ℕ → List ℕ → List ℕ
-colors front back = escape ++ codes "[38;5;" ++ front ++ codes ";48;5;" ++ back ++ codes "m"
+colors foreground background = escape ++ codes "[38;5;" ++ foreground ++ codes ";48;5;" ++ background ++ codes "m"
 
--- a tile in colors: its upper half in the front, its lower half behind, or the axis where both are blank
+-- a tile in colors: its upper half in the foreground and its lower half in the background, or the axis where both are blank and it is at
+-- one
 abbrev pub colored_tile : Shade → Shade → ℤ → ℤ → List ℕ
 colored_tile upper lower column line =
     if (is_blank_shade upper && is_blank_shade lower) && is_at_axis column line then colors axis_color (color_of Blank) ++ axis_mark column line

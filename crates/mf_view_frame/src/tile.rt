@@ -108,7 +108,7 @@ fn push_colored(
     ensures { IfOk result (λ _.
         text.new.items ≡ text.old.items ++ colored_tile upper lower column line) }
 {
-    if is_empty(upper, lower) && (column == 0 || line == 0) {
+    if are_blank(upper, lower) && (column == 0 || line == 0) {
         push_colors(text, b"250", b"255")?;
         return push(text, axis_mark(column, line));
     }
@@ -117,20 +117,21 @@ fn push_colored(
 }
 
 /// Whether two shades are both blank.
-fn is_empty(upper: Shade, lower: Shade) -> bool
+fn are_blank(upper: Shade, lower: Shade) -> bool
     ensures { result ≡ (is_blank_shade upper && is_blank_shade lower) }
 {
     upper == Shade::Blank && lower == Shade::Blank
 }
 
 /// Appends what sets the color of a character and that of its background.
-fn push_colors(text: &mut Vec<u8>, front: &[u8], back: &[u8]) -> Result<(), OutOfMemory>
-    ensures { IfOk result (λ _. text.new.items ≡ text.old.items ++ colors front.now back.now) }
+fn push_colors(text: &mut Vec<u8>, foreground: &[u8], background: &[u8]) -> Result<(), OutOfMemory>
+    ensures { IfOk result (λ _.
+        text.new.items ≡ text.old.items ++ colors foreground.now background.now) }
 {
     push(text, b"\x1B[38;5;")?;
-    push(text, front)?;
+    push(text, foreground)?;
     push(text, b";48;5;")?;
-    push(text, back)?;
+    push(text, background)?;
     push(text, b"m")
 }
 

@@ -55,15 +55,19 @@ impl Window {
         ensures { result ≡ window_at bounds.now scale }
     {
         let column = cell_of(scale, bounds.min_x);
-        let line = line_of(cell_of(scale, bounds.min_y));
         let last_column = cell_of(scale, bounds.max_x);
-        let last_line = line_of(cell_of(scale, bounds.max_y));
+        let row = cell_of(scale, bounds.min_y);
+        let last_row = cell_of(scale, bounds.max_y);
+        let line = line_of(row);
+        let last_line = line_of(last_row);
+        let columns = extent(column, last_column);
+        let lines = extent(line, last_line);
         Window {
             scale,
             column,
-            columns: extent(column, last_column),
+            columns,
             line,
-            lines: extent(line, last_line),
+            lines,
         }
     }
 

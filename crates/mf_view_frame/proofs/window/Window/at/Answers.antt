@@ -12,17 +12,17 @@ ends : (c : After-line_of-last_line) → AreWindowEnds c.args.bounds.now c.args.
 })
 ends c =
     window_ends c.requires.bounds c.requires.scale c.cell_of-column.ensures c.cell_of-last_column.ensures
-    c.cell_of.ensures c.cell_of-2.ensures c.line_of-line.ensures c.line_of-last_line.ensures
+    c.cell_of-row.ensures c.cell_of-last_row.ensures c.line_of-line.ensures c.line_of-last_line.ensures
 
-pub extent-requires : goal.extent-requires
-extent-requires c =
-    let v = ends (goal.at.extent-requires c).After-line_of-last_line in
+pub extent-columns-requires : goal.extent-columns-requires
+extent-columns-requires c =
+    let v = ends (goal.at.extent-columns-requires c).After-line_of-last_line in
     omega (arith, ints, v, v.field.first_column, v.field.last_column, v.field.columns)
 
-pub extent-requires-2 : goal.extent-requires-2
-extent-requires-2 c =
-    let v = ends (goal.at.extent-requires-2 c).After-line_of-last_line in
+pub extent-lines-requires : goal.extent-lines-requires
+extent-lines-requires c =
+    let v = ends (goal.at.extent-lines-requires c).After-line_of-last_line in
     omega (arith, ints, v, v.field.first_line, v.field.last_line, v.field.lines)
 
 pub returns : goal.returns
-returns c = let v = ends (goal.at.returns c).After-line_of-last_line in same_window c.requires.scale v c.extent.ensures c.extent-2.ensures
+returns c = let v = ends (goal.at.returns c).After-line_of-last_line in same_window c.requires.scale v c.extent-columns.ensures c.extent-lines.ensures
