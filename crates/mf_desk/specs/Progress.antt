@@ -3,7 +3,7 @@ use Rattle.std.specs.Prelude.{ℕ, ◌+◌, List, [], Option, ◌≡◌, ◌++�
 use Rattle.std.specs.Str.Lines.{lines}
 use Rattle.mf_desk.specs.Ended.{ended_lines, unended_line}
 use Rattle.mf_desk.specs.Faults.{Stops}
-use Rattle.mf_desk.specs.Streams.{Gets, HasRead, MakesPassage, Streams}
+use Rattle.mf_desk.specs.Streams.{Gets, HasRead, MakesPassage, Passes, Streams}
 use Rattle.mf_desk_session.specs.Sessions.{HasPerformed, limits}
 use Rattle.mf_desk_session.specs.States.{start}
 use Rattle.mf_desk_session.specs.Transcript.{due_lines}
@@ -30,6 +30,10 @@ HasReadNothing progress = (held : Option (List ℕ)) → IsAfter held [] progres
 -- what was read was performed as a complete script
 abbrev pub ReadsThrough : Streams → Performer → Type 0
 ReadsThrough s performer = HasRead s (λ read. HasCounted s.held (lines read) performer s.holds)
+
+-- a run that began in this state was stopped, and what has passed through its streams is what the stop says
+abbrev pub StopsIn : {F : Type 0} → Progress → Streams → Stopped F → Type 0
+StopsIn run s stopped = Passes s (Stops (limits run.performer.session) stopped)
 
 -- whatever was read before these bytes, the run has taken them and goes on
 abbrev pub GoesOn : Progress → List ℕ → Option (List ℕ) → Option (List ℕ) → Progress → Type 0
