@@ -65,7 +65,7 @@ HasRoomFor more w = length (record_of w).items + more ≤ vec_capacity (record_o
 abbrev pub IsLastIn : List Entry → List Glance → Type 0
 IsLastIn list glances = (glances ≡ []) ⊎ ((earlier : List Glance) × (glances ≡ earlier ++ glance_at list ∷ []))
 
--- a viewer of this picture, with the record of this many looks, the last of which is its last answered look, and with room for
+-- a viewer of this picture, with the record of this many looks, the last of which is its last answered look, and with room for this many
 -- more
 pub record IsWatcher (picture : Book) (looks more : ℕ) (w : Watcher) : Type 0 where
   pub identity_is : identity w ≡ picture
