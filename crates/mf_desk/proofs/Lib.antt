@@ -1,8 +1,8 @@
+mod AfterBytes
 mod Ended
 mod Intakes
 mod LongLines
 pub mod Performances
 mod ScriptEnds
 mod Showing
-mod Stages
 mod ViewerLines

@@ -15,7 +15,7 @@ use Rattle.mf_desk.specs.Performances.{Performs, TellsOfRun, task, run_limits}
 use Rattle.mf_desk.specs.Streams.{Passage, Passes, Streams, streams}
 use Rattle.mf_desk_session.specs.States.{Limits, least_bytes}
 use Rattle.mf_desk_watch.specs.Watchers.{HasSeen}
-use Rattle.mf_desk.proofs.Stages.{Breaks-nothing}
+use Rattle.mf_desk.proofs.AfterBytes.{Breaks-nothing}
 
 module _ (settings : Settings) (viewers : ℕ) where
   Tells-breaks : (fault : RunFault) (p : Passage) → Breaks (run_limits settings) fault p → TellsOfRun settings viewers fault p
@@ -25,9 +25,9 @@ module _ (settings : Settings) (viewers : ℕ) where
   Tells-breaks fault p none = absurd none
 
   -- a fault of the script, its reader or its writer ends the run
-  pub TellsOfRun-script : (l : Limits) (fault : RunFault) (s : Streams) → l ≡ run_limits settings → Passes s (Breaks l fault)
+  pub TellsOfRun-script : {l : Limits} (fault : RunFault) (s : Streams) → l ≡ run_limits settings → Passes s (Breaks l fault)
       → Passes s (TellsOfRun settings viewers fault)
-  TellsOfRun-script l fault s same (read, consumed, (written, out, breaks)) =
+  TellsOfRun-script fault s same (read, consumed, (written, out, breaks)) =
       let p : Passage = record { left = s.left; read = read; written = written } in
       (read, consumed, (written, out, Tells-breaks fault p (subst (λ m. Breaks m fault p) same breaks)))
 
@@ -35,7 +35,7 @@ module _ (settings : Settings) (viewers : ℕ) where
     -- nothing was read or written
     pub TellsOfRun-nothing : Passes (streams unread unread held held) (TellsOfRun settings viewers OutOfMemory)
     TellsOfRun-nothing =
-        TellsOfRun-script (run_limits settings) OutOfMemory (streams unread unread held held) refl
+        TellsOfRun-script OutOfMemory (streams unread unread held held) refl
         ([], Consumes-nil unread, Breaks-nothing (run_limits settings) unread held)
 
     -- there is no place for a viewer

@@ -11,7 +11,7 @@ use Rattle.mf_desk.specs.Progress.{ReadsThrough}
 use Rattle.mf_desk.specs.Streams.{Passes, Streams}
 use Rattle.mf_desk_session.specs.Endings.{HasEnded}
 use Rattle.mf_desk_session.specs.Sessions.{limits}
-use Rattle.mf_desk.proofs.Stages.{first-text}
+use Rattle.mf_desk.proofs.AfterBytes.{first-text}
 use Rattle.mf_desk.proofs.ViewerLines.{lines-nobody}
 
 module _ (s : Streams) (performer : Performer) (reads : ReadsThrough s performer) where

@@ -7,7 +7,7 @@ use Rattle.mf_desk.specs.declared.ended_run.EndedRun.{EndedRun}
 use Rattle.mf_desk.specs.declared.fault.RunFault.{RunFault}
 use Rattle.mf_desk.specs.declared.fault.RunFault.TheVariants.{OutOfMemory, NoLook, WriteFault}
 use Rattle.mf_desk.specs.declared.settings.Settings.{Settings}
-use Rattle.mf_desk.specs.EndedRuns.{EndsWith, IsOver, IsSameEnd, glance}
+use Rattle.mf_desk.specs.EndedRuns.{EndsWith, IsOver, IsSameEnd, ShowsLines, glance}
 use Rattle.mf_desk.specs.Faults.{BreaksOff}
 use Rattle.mf_desk.specs.Performances.{IsCompleteText, IsShownText, TellsOfRun, run_limits, viewer_lines}
 use Rattle.mf_desk.specs.Streams.{Gets, Passes, streams}
@@ -15,8 +15,8 @@ use Rattle.mf_desk_session.specs.States.{Limits}
 use Rattle.mf_desk_watch.specs.Watchers.{glance_at}
 use Rattle.mf_desk.proofs.ViewerLines.{lines-nobody}
 
-pub IsSameEnd-trans : (a b c : EndedRun) → IsSameEnd a b → IsSameEnd b c → IsSameEnd a c
-IsSameEnd-trans a b c first then = record {
+pub IsSameEnd-trans : {a b c : EndedRun} → IsSameEnd a b → IsSameEnd b c → IsSameEnd a c
+IsSameEnd-trans first then = record {
   identity = then.identity ∙ first.identity;
   published = then.published ∙ first.published;
   file = then.file ∙ first.file;
@@ -35,27 +35,27 @@ complete-with l n read run text lines over are =
       is = ap (λ t. t ++ lines) whole ∙ ap (λ more. complete.transcript ++ more) (are ∙ ap (λ L. viewer_lines n (glance_at L)) over.published);
     }
 
-module _ (unread left held holds : Option (List ℕ)) (run : EndedRun) where
-  -- the lines of all viewers are written
-  pub EndsWith-lines : (l : Limits) (viewers : ℕ) (later : Option (List ℕ)) (after : EndedRun) (lines : List ℕ)
-      → EndsWith l 0 (streams unread left held holds) run → lines ≡ viewer_lines viewers (glance run) → Appends holds later lines
-      → after.written ≡ run.written + length lines → IsSameEnd run after → EndsWith l viewers (streams unread left held later) after
-  EndsWith-lines l viewers later after lines (read, consumed, (text, out, over)) are more counted same = (
-    read,
-    consumed,
-    (
-      text ++ lines,
-      Appends-trans held holds later text lines out more,
-      record {
-        complete = complete-with l viewers read run text lines over are;
-        published = same.published ∙ over.published;
-        file = rw same.file over.file;
-        max_bytes_is = rw same.file over.max_bytes_is;
-        counted = omega (arith, counted, over.counted, length-append text lines);
-      },
-    ),
-  )
+-- the lines of all viewers are written
+pub ShowsLines-written : {run after : EndedRun} {lines : List ℕ} (viewers : ℕ) (holds later : Option (List ℕ)) → IsSameEnd run after
+    → lines ≡ viewer_lines viewers (glance run) → Appends holds later lines → after.written ≡ run.written + length lines
+    → ShowsLines viewers run holds later after
+ShowsLines-written {run} {lines} viewers holds later same are more counted l unread left held (read, consumed, (text, out, over)) = (
+  read,
+  consumed,
+  (
+    text ++ lines,
+    Appends-trans held holds later text lines out more,
+    record {
+      complete = complete-with l viewers read run text lines over are;
+      published = same.published ∙ over.published;
+      file = rw same.file over.file;
+      max_bytes_is = rw same.file over.max_bytes_is;
+      counted = omega (arith, counted, over.counted, length-append text lines);
+    },
+  ),
+)
 
+module _ (unread left held holds : Option (List ℕ)) (run : EndedRun) where
   module _ (settings : Settings) (viewers : ℕ) (all_read : IsAtEnd left) (ends : EndsWith (run_limits settings) 0 (streams unread left held holds) run) where
     -- a look fails before any of these lines is written
     pub TellsOfRun-unshown : (fault : RunFault) → (fault ≡ OutOfMemory) ⊎ ((fault ≡ NoLook) × (0 < viewers))

@@ -42,7 +42,7 @@ Breaks limits ReadFault p = IsTextOf limits (ended_lines p.read) p.written
 Breaks limits (WriteFault count) p = IsCutAfter count (IsTextSoFar limits p.left p.read) p.written
 Breaks limits _ p = ⊥
 
--- the same of what stops a run
+-- the same of what stops a run: its observer stops it after the texts of the first completely read lines
 abbrev pub Stops : {F : Type 0} → Limits → Stopped F → Passage → Type 0
 Stops limits (Run fault) p = Breaks limits fault p
 Stops limits (Observer fault) p = IsTextSoFar limits p.left p.read p.written

@@ -1,5 +1,6 @@
 -- The state of a run whose bytes so far are known.
 use Rattle.std.specs.Prelude.{ℕ, ◌+◌, List, [], Option, ◌≡◌, ◌++◌, length, take}
+use Rattle.std.specs.Io.KnownBytes.{IsAtEnd}
 use Rattle.std.specs.Str.Lines.{lines}
 use Rattle.mf_desk.specs.Ended.{ended_lines, unended_line}
 use Rattle.mf_desk.specs.Faults.{Stops}
@@ -36,11 +37,15 @@ abbrev pub StopsIn : {F : Type 0} → Progress → Streams → Stopped F → Typ
 StopsIn run s stopped = Passes s (Stops (limits run.performer.session) stopped)
 
 -- whatever was read before these bytes, the run has taken them and goes on
-abbrev pub GoesOn : Progress → List ℕ → Option (List ℕ) → Option (List ℕ) → Progress → Type 0
-GoesOn before bytes held holds after =
-    (first : Option (List ℕ)) (read : List ℕ) → IsAfter first read before held → IsAfter first (read ++ bytes) after holds
+pub record GoesOn (before : Progress) (bytes : List ℕ) (held holds : Option (List ℕ)) (after : Progress) : Type 0 where
+  pub goes_on : (first : Option (List ℕ)) (read : List ℕ) → IsAfter first read before held → IsAfter first (read ++ bytes) after holds
 
 -- whatever was read before these bytes, and whatever comes after them, the script is stopped
-abbrev pub StopsDuring : {F : Type 0} → Progress → List ℕ → Option (List ℕ) → Option (List ℕ) → Stopped F → Type 0
-StopsDuring before bytes held holds stopped = (first left : Option (List ℕ)) (read more : List ℕ) → IsAfter first read before held
-    → Gets first holds (MakesPassage (Stops (limits before.performer.session) stopped) left (read ++ bytes ++ more))
+pub record StopsDuring {F : Type 0} (before : Progress) (bytes : List ℕ) (held holds : Option (List ℕ)) (stopped : Stopped F) : Type 0 where
+  pub stops : (first left : Option (List ℕ)) (read more : List ℕ) → IsAfter first read before held
+      → Gets first holds (MakesPassage (Stops (limits before.performer.session) stopped) left (read ++ bytes ++ more))
+
+-- whatever was read, to the end of the script, it is stopped
+abbrev pub StopsAtEnd : {F : Type 0} → Progress → Option (List ℕ) → Option (List ℕ) → Stopped F → Type 0
+StopsAtEnd before held holds stopped = (first left : Option (List ℕ)) (read : List ℕ) → IsAtEnd left → IsAfter first read before held
+    → Gets first holds (MakesPassage (Stops (limits before.performer.session) stopped) left read)

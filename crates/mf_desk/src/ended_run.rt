@@ -1,17 +1,15 @@
 //! A run whose script has ended: its viewers are shown the last picture, and its font file is finished.
-ghost use Rattle.std.specs.Prelude.{◌≡◌, ◌≢◌, ◌⊎◌, ◌+◌, ◌<◌, ◌≤◌, [], ℕ, All, Err, IfErr, IfOk, List, OnOk, Option, length, map, true};
+ghost use Rattle.std.specs.Prelude.{◌≡◌, ◌≢◌, ◌⊎◌, ◌+◌, ◌<◌, ◌≤◌, [], ℕ, All, Err, IfErr, IfOk, OnOk, length, map, true};
 ghost use Rattle.std.specs.Io.KnownBytes.{Appends, IsAtEnd};
 ghost use Rattle.mf_live.specs.Desks.{most_places};
 ghost use Rattle.mf_live.specs.Entries.{is_closed};
 ghost use Rattle.mf_live.specs.Viewers.{notice_identity, told_list};
 ghost use Rattle.mf_live.specs.Writers.{ended_identity, ended_published_list};
-ghost use Rattle.mf_desk.specs.declared.settings.Settings.{Settings};
-ghost use Rattle.mf_desk.specs.EndedRuns.{EndsWith, HasSeenLast, IsSameEnd, glance, glances_of, whole_record};
-ghost use Rattle.mf_desk.specs.Performances.{Performs, TellsOfRun, run_limits, task, viewer_line, viewer_lines};
+ghost use Rattle.mf_desk.specs.EndedRuns.{Concludes, EndsWith, HasSeenLast, IsSameEnd, ShowsLines, StopsShowing, glance, glances_of, whole_record};
+ghost use Rattle.mf_desk.specs.Performances.{TellsOfRun, run_limits, viewer_line, viewer_lines};
 ghost use Rattle.mf_desk.specs.Performer.{most_written_bytes};
 ghost use Rattle.mf_desk.specs.Faults.{BreaksOff};
-ghost use Rattle.mf_desk.specs.Streams.{Gets, Passes, Streams, streams};
-ghost use Rattle.mf_desk_session.specs.States.{Limits};
+ghost use Rattle.mf_desk.specs.Streams.{Gets, Passes, Streams};
 ghost use Rattle.mf_desk_watch.specs.Watchers.{HasRoomFor, IsRecord, identity};
 
 use crate::fault::RunFault;
@@ -71,18 +69,10 @@ impl EndedRun {
             (viewers : ℕ) → IfOk joined (λ watchers. length watchers.items ≡ viewers)
             → length seen.items ≡ viewers) }
         ensures over { IfOk result (λ seen.
-            (limits : Limits) (unread left held : Option (List ℕ))
-            → EndsWith limits 0 (streams unread left held (W.contents writer.old)) self.old
-            → EndsWith limits (length seen.items) (streams unread left held (W.contents writer.new))
+            ShowsLines (length seen.items) self.old (W.contents writer.old) (W.contents writer.new)
             self.new) }
-        ensures fault { IfErr result (λ fault.
-            (settings : Settings) (viewers : ℕ) (unread left held : Option (List ℕ)) → IsAtEnd left
-            → IfOk joined (λ watchers. length watchers.items ≡ viewers)
-            → IfErr joined (λ _. 0 < viewers)
-            → EndsWith (run_limits settings) 0 (streams unread left held (W.contents writer.old))
-            self.old
-            → Passes (streams unread left held (W.contents writer.new))
-            (TellsOfRun settings viewers fault)) }
+        ensures fault { IfErr result
+            (StopsShowing joined self.old (W.contents writer.old) (W.contents writer.new)) }
         ensures placed { result ≢ Err RunFault.NoPlace }
     {
         let watchers = match joined {
@@ -157,10 +147,7 @@ impl EndedRun {
         settings: &Settings,
         seen: Vec<Vec<Glance>>,
     ) -> Result<Outcome, RunFault>
-        ensures performance { IfOk result (λ outcome.
-            (looks : ℕ) (s : Streams) → All (HasSeenLast self looks) seen.items
-            → EndsWith (run_limits settings.now) (length seen.items) s self
-            → Performs (task settings.now (length seen.items) looks) s outcome) }
+        ensures performance { IfOk result (Concludes settings.now self seen.items) }
         ensures fault { IfErr result (λ fault.
             (s : Streams) → IsAtEnd s.left
             → EndsWith (run_limits settings.now) (length seen.items) s self

@@ -5,11 +5,11 @@ ghost use Rattle.std.specs.Prelude.{◌≡◌, ◌≢◌, ◌⊎◌, ◌+◌, �
 ghost use Rattle.mf_live.specs.Desks.{desk_identity, most_places, remaining_viewers};
 ghost use Rattle.mf_live.specs.Writers.{ended_identity};
 ghost use Rattle.mf_desk.specs.EndedRuns.{EndsWith};
-ghost use Rattle.mf_desk.specs.Faults.{Breaks, Stops};
+ghost use Rattle.mf_desk.specs.Faults.{Breaks};
 ghost use Rattle.mf_desk.specs.Performances.{run_limits};
 ghost use Rattle.mf_desk.specs.Performer.{longest_text, most_counted_bytes, most_written_bytes};
-ghost use Rattle.mf_desk.specs.Progress.{GoesOn, HasCounted, HasReadNothing, IsAfter, ReadsThrough, StopsDuring};
-ghost use Rattle.mf_desk.specs.Streams.{Gets, Passes, MakesPassage, Streams, streams_of};
+ghost use Rattle.mf_desk.specs.Progress.{GoesOn, HasCounted, HasReadNothing, IsAfter, ReadsThrough, StopsAtEnd, StopsDuring, StopsIn};
+ghost use Rattle.mf_desk.specs.Streams.{Passes, Streams, streams_of};
 ghost use Rattle.mf_desk_session.specs.Sessions.{identity, limits};
 ghost use Rattle.mf_desk_session.specs.States.{least_bytes};
 
@@ -126,9 +126,9 @@ impl Progress {
         ensures identity { identity self.new.performer.session
             ≡ identity self.old.performer.session }
         ensures end { OnOk result (IsAtEnd (R.remaining reader.new)) }
-        ensures fault { IfErr result (λ stopped.
-            Passes (streams_of R.remaining reader.old reader.new W.contents writer.old writer.new)
-            (Stops (limits self.old.performer.session) stopped)) }
+        ensures fault { IfErr result
+            (StopsIn self.old
+            (streams_of R.remaining reader.old reader.new W.contents writer.old writer.new)) }
     {
         // Where this memory is missing, nothing was read or written.
         let Ok(mut memory) = vec![in alloc; 0u8; CHUNK_SIZE] else {
@@ -175,9 +175,9 @@ impl Progress {
             (StopsDuring self.old bytes.now (W.contents writer.old) (W.contents writer.new)) }
     {
         let mut rest = bytes;
-        'lines: while let Some(place) = memchr(b'\n', rest) {
-            self.take_line(rt, alloc, writer, &rest[..place], observer)?;
-            rest = &rest[place + 1..];
+        'lines: while let Some(end) = memchr(b'\n', rest) {
+            self.take_line(rt, alloc, writer, &rest[..end], observer)?;
+            rest = &rest[end + 1..];
         }
         Ok(self.keep(rest)?)
     }
@@ -232,11 +232,8 @@ impl Progress {
         ensures limits { limits self.new.performer.session ≡ limits self.old.performer.session }
         ensures identity { identity self.new.performer.session
             ≡ identity self.old.performer.session }
-        ensures fault { IfErr result (λ stopped.
-            (held left : Option (List ℕ)) (read : List ℕ) → IsAtEnd left
-            → IsAfter held read self.old (W.contents writer.old)
-            → Gets held (W.contents writer.new)
-            (MakesPassage (Stops (limits self.old.performer.session) stopped) left read)) }
+        ensures fault { IfErr result
+            (StopsAtEnd self.old (W.contents writer.old) (W.contents writer.new)) }
     {
         if self.line.is_empty() {
             return Ok(());

@@ -40,5 +40,6 @@ pub fn run<S: Wait, R: Read, W: Write>(
 {
     let (progress, _) = Progress::new(rt, alloc, settings, 0)?;
     let ended = progress.complete(rt, alloc, reader, writer)?;
-    ended.conclude(rt, settings, Vec::new(alloc))
+    let seen = Vec::new(alloc);
+    ended.conclude(rt, settings, seen)
 }

@@ -3,7 +3,7 @@ use Rattle.mf_base.proofs.Faults.{IfErr-raised}
 use Rattle.mf_desk.specs.EndedRuns.{glance}
 use Rattle.mf_desk.specs.Performances.{viewer_lines}
 use Rattle.mf_desk_watch.specs.Watchers.{IsRecord}
-use Rattle.mf_desk.proofs.Showing.{EndsWith-lines, IsSameEnd-trans, TellsOfRun-cut, TellsOfRun-unshown}
+use Rattle.mf_desk.proofs.Showing.{IsSameEnd-trans, ShowsLines-written, TellsOfRun-cut, TellsOfRun-unshown}
 use Rattle.mf_desk.proofs.ended_run.EndedRun.show.Goals as goal
 
 pub returns-in-Err-clause-fault : goal.returns-in-Err-clause-fault
@@ -29,7 +29,7 @@ returns-clause-seen g c = λ looks records.
     c.in_ok-seen.ensures.seen looks (subst (λ r. IfOk r (λ watchers. All (IsRecord looks) watchers.items)) c.in-Ok.is records)
 
 pub returns-clause-over : goal.returns-clause-over
-returns-clause-over g c = λ limits unread left held ends.
+returns-clause-over g c =
     let lines = c.as_slice.ensures.value ∙ c.in_ok-seen.ensures.lines ∙ ap (λ n. viewer_lines n (glance c.args.self.now)) (sym c.in_ok-seen.ensures.count) in
-    EndsWith-lines unread left held _ c.args.self.now limits _ _ _ _ ends lines c.in_ok-write.ensures.all
-    (omega (arith, c.in_ok-write.ensures.written, c.look_last.ensures.written)) (IsSameEnd-trans _ _ _ c.look_last.ensures.same c.write.ensures.same)
+    ShowsLines-written _ _ _ (IsSameEnd-trans c.look_last.ensures.same c.write.ensures.same) lines c.in_ok-write.ensures.all
+    (omega (arith, c.in_ok-write.ensures.written, c.look_last.ensures.written))

@@ -12,9 +12,9 @@ kept_more n xs ys fits =
     ap (λ front. xs ++ front) (take_min (n - length xs) ys) ∙ sym (take-append-add xs ys (n - length xs)) ∙ ap (λ m. take m (xs ++ ys)) room
 
 -- what a successful call adds
-added : {T E : Type 0} (r : Result T E) (old more new kept : List ℕ) → new ≡ (if is_ok r then more else old) → more ≡ kept → OnOk r (new ≡ kept)
-added (Ok done) old more new kept is more_is = is ∙ more_is
-added (Err fault) old more new kept is more_is = tt
+added : {T E : Type 0} {more new kept : List ℕ} (r : Result T E) (old : List ℕ) → new ≡ (if is_ok r then more else old) → more ≡ kept → OnOk r (new ≡ kept)
+added (Ok done) old is more_is = is ∙ more_is
+added (Err fault) old is more_is = tt
 
 pub returns-clause-added : goal.returns-clause-added
 returns-clause-added c =
@@ -22,5 +22,5 @@ returns-clause-added c =
     let bytes = c.args.bytes.now in
     let kept : c.len-room.result ≡ length line = omega arith in
     let count_is : c.min-count.result ≡ min (MAX_KEPT - length line) (length bytes) = c.min-count.ensures ∙ ap (λ n. min (MAX_KEPT - n) (length bytes)) kept in
-    added c.extend_from_slice.result _ _ _ _ c.extend_from_slice.ensures.items
+    added c.extend_from_slice.result _ c.extend_from_slice.ensures.items
     (ap (λ count. line ++ take count bytes) count_is ∙ kept_more MAX_KEPT line bytes c.self.invariant ∙ ap (λ all. take MAX_KEPT (all ++ bytes)) c.self.view_is)

@@ -3,7 +3,7 @@ use Rattle.std.specs.Str.Lines.{lines}
 use Rattle.mf_desk.specs.Progress.{HasCounted, IsAfter}
 use Rattle.mf_base.proofs.Faults.{IfErr-raised}
 use Rattle.mf_desk.proofs.Ended.{lines-none}
-use Rattle.mf_desk.proofs.Stages.{HasCounted-flushed, HasCounted-last, unended_line-none, Stops-last, Breaks-flush}
+use Rattle.mf_desk.proofs.AfterBytes.{HasCounted-flushed, HasCounted-last, unended_line-none, Stops-last, Breaks-flush}
 use Rattle.mf_desk.proofs.progress.Progress.end_script.Goals.{In_ok-perform}
 use Rattle.mf_desk.proofs.progress.Progress.end_script.Goals as goal
 
@@ -34,5 +34,5 @@ pub returns-in_err-flush-clause-fault : goal.returns-in_err-flush-clause-fault
 returns-in_err-flush-clause-fault g c =
     let done = HasCounted-performed g (goal.at.returns-in_err-flush-clause-fault g c).In_ok-perform in
     IfErr-raised c.from_residual-in_err-flush.result _ c.from_residual-in_err-flush.ensures.1 (λ held left read all_read after.
-    Breaks-flush _ held left _ _ read (lines read) c.perform.new.self (inr (all_read, sym (append-nil _))) c.perform.ensures.limits c.flush.ensures.kept
-    (done held read after) _ c.in_err-flush.ensures.fault)
+    Breaks-flush left _ read (done held read after) (inr (all_read, sym (append-nil _))) c.perform.ensures.limits c.flush.ensures.kept
+    c.in_err-flush.ensures.fault)

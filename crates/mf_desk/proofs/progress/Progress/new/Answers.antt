@@ -1,5 +1,5 @@
 use Rattle.std.proofs.Common.{refl}
-use Rattle.mf_desk.proofs.Stages.{IsAfter-start}
+use Rattle.mf_desk.proofs.AfterBytes.{IsAfter-start}
 use Rattle.mf_desk.proofs.progress.Progress.new.Goals as goal
 
 pub returns-in-Ok-clause-start : goal.returns-in-Ok-clause-start

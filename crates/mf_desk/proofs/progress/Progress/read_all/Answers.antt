@@ -2,12 +2,11 @@ use Rattle.std.proofs.Common.{◌≡◌, ◌<◌, ◌++◌, Option, [], List, �
 use Rattle.std.proofs.KnownBytes.{Consumes-nil, Consumes-trans, Consumes-kept}
 use Rattle.std.proofs.lemmas.Result.{on_ok_weaker, IfErr-weaker}
 use Rattle.std.specs.Io.KnownBytes.{Consumes, IsAtEnd}
-use Rattle.mf_desk.specs.Ended.{ended_lines}
 use Rattle.mf_desk.specs.Faults.{Stops}
 use Rattle.mf_desk.specs.Streams.{Gets, MakesPassage}
 use Rattle.mf_desk_session.specs.Sessions.{limits}
 use Rattle.mf_base.proofs.Faults.{IfErr-raised}
-use Rattle.mf_desk.proofs.Stages.{Breaks-flush, Breaks-nothing, IsAfter-flushed, nothing-written}
+use Rattle.mf_desk.proofs.AfterBytes.{Breaks-flush, Breaks-nothing, IsAfter-flushed, nothing-written}
 use Rattle.mf_desk.proofs.progress.Progress.read_all.Goals as goal
 
 -- a read that gives no byte
@@ -29,8 +28,7 @@ returns-in_err-flush-clause-fault g c =
     (rw (← c.reads.invariant.2) (
       read,
       consumed,
-      Breaks-flush _ _ _ _ _ read (ended_lines read) c.reads.self.performer (inl (sym (append-nil _))) refl c.flush.ensures.kept after.lines
-          c.in_err-flush.field-0.0 c.in_err-flush.ensures.fault,
+      Breaks-flush _ _ read after.lines (inl (sym (append-nil _))) refl c.flush.ensures.kept c.in_err-flush.ensures.fault,
     ))
 
 pub returns-in-Err-clause-fault : goal.returns-in-Err-clause-fault
@@ -65,7 +63,8 @@ returns-in-Ok-eq0-clause-fault g c =
     let (read, consumed, before) = c.reads.invariant.1 in
     let after = IsAfter-flushed _ _ _ read c.reads.self c.flush.ensures.kept before in
     let all_read = Consumes-none _ _ _ read c.read.new.buf _ consumed c.in-Ok-eq0.field-0-test c.in-Ok-eq0.ensures.bytes.0 in
-    rw (← c.reads.invariant.2) (IfErr-weaker c.end_script.result _ _ (λ fault cut_short. (read, all_read, cut_short _ _ read at_end after)) c.end_script.ensures.fault)
+    IfErr-weaker c.end_script.result _ _ (λ fault cut_short. rw (← c.reads.invariant.2) (read, all_read, cut_short _ _ read at_end after))
+    c.end_script.ensures.fault
 
 pub returns-in_err-take-in-Ok-read-clause-fault : goal.returns-in_err-take-in-Ok-read-clause-fault
 returns-in_err-take-in-Ok-read-clause-fault g c =
@@ -80,7 +79,7 @@ returns-in_err-take-in-Ok-read-clause-fault g c =
       bytes,
       Consumes-trans _ _ _ read _ consumed c.in-Ok-read.ensures.bytes.0,
       subst (λ all. Gets held later (MakesPassage (Stops (limits c.reads.self.performer.session) c.in_err-take-in-Ok-read.field-0.0) left all)) (append-nil bytes)
-          (c.in_err-take-in-Ok-read.ensures.fault held _ read [] after),
+          (c.in_err-take-in-Ok-read.ensures.fault.stops held _ read [] after),
     ))
 
 pub reads-preserved : goal.reads-preserved
@@ -88,7 +87,7 @@ reads-preserved g c =
     let (read, consumed, before) = c.reads.invariant.1 in
     let after = IsAfter-flushed _ _ _ read c.reads.self c.flush.ensures.kept before in (
       omega (arith, c.in-Ok-read.ensures.bound, c.in_ok-take-in-Ok-read.ensures.at_most, c.read.auto.buf, c.reads.auto.chunk, c.as_mut_slice-chunk.ensures.len, c.in-Ok.ensures.len),
-      (read ++ take c.in-Ok-read.count c.read.new.buf, Consumes-trans _ _ _ read _ consumed c.in-Ok-read.ensures.bytes.0, c.in_ok-take-in-Ok-read.ensures.after _ read after),
+      (read ++ take c.in-Ok-read.count c.read.new.buf, Consumes-trans _ _ _ read _ consumed c.in-Ok-read.ensures.bytes.0, c.in_ok-take-in-Ok-read.ensures.after.goes_on _ read after),
       c.take.ensures.limits ∙ c.reads.invariant.2,
       c.take.ensures.identity ∙ c.reads.invariant.3,
     )

@@ -22,20 +22,20 @@ with_line done rest bytes at within is are =
 pub returns-in_err-take_line-clause-fault : goal.returns-in_err-take_line-clause-fault
 returns-in_err-take_line-clause-fault g c =
     let (done, bytes_are, few, goes_on, same, identity_is) = c.lines.invariant in
-    let all = with_line done c.lines.rest.now _ c.in-Some.place c.in-Some.ensures.0.high c.in-Some.ensures.1 bytes_are in
+    let all = with_line done c.lines.rest.now _ c.in-Some.end c.in-Some.ensures.0.high c.in-Some.ensures.1 bytes_are in
     IfErr-raised c.from_residual.result _ c.from_residual.ensures.1
-    (StopsDuring-first _ _ _ _ all _ _ _ (StopsDuring-next _ done _ _ refl _ _ _ _ goes_on _ same c.in_err-take_line.ensures.fault))
+    (StopsDuring-first _ (StopsDuring-next goes_on same c.in_err-take_line.ensures.fault refl) all)
 
 pub lines-preserved : goal.lines-preserved
 lines-preserved g c =
     let (done, bytes_are, few, goes_on, same, identity_is) = c.lines.invariant in
     let rest = c.lines.rest.now in
-    let at = c.in-Some.place in
+    let at = c.in-Some.end in
     let line = take at rest ++ 10 ∷ [] in (
       done ++ line,
       rw (take_rest rest (at + 1)) (with_line done rest _ at c.in-Some.ensures.0.high c.in-Some.ensures.1 bytes_are),
       omega (arith, few, c.in_ok-take_line.ensures.at_most, length-append done line, length-append (take at rest) (10 ∷ [])),
-      GoesOn-next _ done line _ refl _ _ _ _ goes_on _ c.in_ok-take_line.ensures.after,
+      GoesOn-next goes_on c.in_ok-take_line.ensures.after refl,
       c.take_line.ensures.limits ∙ same,
       c.take_line.ensures.identity ∙ identity_is,
     )
@@ -46,19 +46,17 @@ keep-requires g c = λ k d within is. c.in_default.ensures k (omega arith) withi
 pub returns-clause-after : goal.returns-clause-after
 returns-clause-after g c =
     let (done, bytes_are, few, goes_on, same, identity_is) = c.lines.invariant in
-    GoesOn-next _ done _ _ bytes_are _ _ _ _ goes_on _ (c.in_ok-keep.ensures.after _)
+    GoesOn-next goes_on (c.in_ok-keep.ensures.after _) bytes_are
 
 pub returns-in_err-keep-clause-fault : goal.returns-in_err-keep-clause-fault
 returns-in_err-keep-clause-fault g c =
     let (done, bytes_are, few, goes_on, same, identity_is) = c.lines.invariant in
     let (given, is, raised) = err_from_is_err_and c.from_residual-in_err-keep.result c.from_residual-in_err-keep.ensures.1 in
-    let now = c.lines.self in
-    let holds = g.W.Write.contents c.lines.writer in
-    rw is (StopsDuring-next c.args.self.now done c.lines.rest.now c.args.bytes.now bytes_are (g.W.Write.contents c.args.writer.now) holds now holds
-    goes_on given same (StopsDuring-wanting now c.lines.rest.now holds given _ raised c.in_err-keep.ensures.fault))
+    let wanting = StopsDuring-wanting c.lines.self c.lines.rest.now (g.W.Write.contents c.lines.writer) raised c.in_err-keep.ensures.fault in
+    rw is (StopsDuring-next goes_on same wanting bytes_are)
 
 pub lines-init : goal.lines-init
-lines-init g c = ([], refl, omega arith, λ held read after. rw (append-nil read) after, refl, refl)
+lines-init g c = ([], refl, omega arith, record { goes_on = λ held read after. rw (append-nil read) after }, refl, refl)
 
 pub take_line-requires-clause-unbroken : goal.take_line-requires-clause-unbroken
 take_line-requires-clause-unbroken g c = grind (arith, length-take-le, eq-eqb, get_or_default, sym, get_or-take)

@@ -1,4 +1,4 @@
--- The stages of a run: what each step does to the state after some bytes.
+-- A run after some bytes: what each read, and each line that is performed, makes of it.
 use Rattle.std.proofs.Common.{◌≡◌, ◌≢◌, ℕ, true, false, ◌+◌, List, [], ◌∷◌, ◌++◌, Option, Some, eqb, length, take, refl, inl, inr, sym, ap, ◌∙◌, subst}
 use Rattle.std.proofs.Common.{append_assoc, append-nil, arith, length-append}
 use Rattle.std.specs.Io.KnownBytes.{IsAtEnd, Keeps}
@@ -261,10 +261,10 @@ IsAfter-flushed held holds later read progress same after =
     record { lines = HasCounted-flushed held holds later (ended_lines read) progress.performer same after.lines; line = after.line }
 
 -- flushing the texts of these lines, which are all that were completely read, fails
-pub Breaks-flush : (l : Limits) (held left holds later : Option (List ℕ)) (read : List ℕ) (ls : List (List ℕ)) (performer : Performer)
-    → AreWholeLines left read (ls ++ []) → limits performer.session ≡ l → Keeps holds later → HasCounted held ls performer holds
-    → (fault : RunFault) → fault ≡ WriteFault performer.written → Gets held later (MakesPassage (Breaks l fault) left read)
-Breaks-flush l held left holds later read ls performer whole limits_are same was fault is =
+pub Breaks-flush : {l : Limits} {held holds : Option (List ℕ)} {ls : List (List ℕ)} {performer : Performer} {fault : RunFault}
+    (left later : Option (List ℕ)) (read : List ℕ) → HasCounted held ls performer holds → AreWholeLines left read (ls ++ [])
+    → limits performer.session ≡ l → Keeps holds later → fault ≡ WriteFault performer.written → Gets held later (MakesPassage (Breaks l fault) left read)
+Breaks-flush {l} {held} {holds} {ls} left later read was whole limits_are same is =
     let done = was.done in
     let performed : Perform l start ls (answer_with (done.text ++ []) done.last) =
     rw (append-nil done.text) (subst (λ m. Perform m start ls (answer_with done.text done.last)) limits_are done.performed) in
