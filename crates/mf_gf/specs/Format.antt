@@ -22,14 +22,16 @@ boc1 = 68
 abbrev pub eoc : ℕ
 eoc = 69
 
--- skip0 goes to the next row; skip1 first skips as many rows as its parameter of one byte says; skip2 follows it, with two bytes
+-- skip0 goes to the left end of the box in the next row, where white is painted next; skip1 first skips as many rows as its parameter of
+-- one byte says; skip2 follows it, with two bytes
 abbrev pub skip0 : ℕ
 skip0 = 70
 
 abbrev pub skip1 : ℕ
 skip1 = 71
 
--- new_row_0 goes to the left end of the next row; the others follow it, up to new_row_164
+-- new_row_0 goes to the left end of the box in the next row, where black is painted next; the others follow it, up to new_row_164, and
+-- go as many columns further to the right as their offset says
 abbrev pub new_row_0 : ℕ
 new_row_0 = 74
 
@@ -60,7 +62,8 @@ post_post = 249
 abbrev pub id_byte : ℕ
 id_byte = 131
 
--- the byte at the end of a file, and how many of them there are at most
+-- the padding byte, with which a file ends, and how many of them METAFONT writes at most (mf.web); the format allows any number from
+-- four on
 abbrev pub padding_byte : ℕ
 padding_byte = 223
 

@@ -1,6 +1,6 @@
 -- The characters of a finished file, as a reader finds them. The last bytes give the place of post. Each locator after the numbers
--- of post gives the place of the last character with its code. Each character gives the place of the one before it as p (The
--- METAFONTbook, Appendix G; gftype.web).
+-- of post gives the place of the last character with its code. Each character gives, as p, the place of the one before it with the
+-- same code (The METAFONTbook, Appendix G; gftype.web).
 use Rattle.std.specs.Prelude.{◌≡◌, ◌<◌, ◌≤◌, ◌+◌, ◌*◌, ◌==◌, ◌&&◌, ◌↔◌, ℕ, zero, suc, ℤ, pos, negsuc, All, AllPairs, Any, List, [], ◌∷◌}
 use Rattle.std.specs.Prelude.{length, take, drop, reverse, filter, slice_index, Option, None, Some, option_map, if◌then◌else◌}
 use Rattle.std.specs.Option.{option_and_then}
@@ -12,13 +12,16 @@ use Rattle.mf_gf.specs.Pixels.{IsPixelSet}
 
 -- ---- the reader
 
--- the four bytes before the identification byte (131), after which there is only padding (223); this list has the last byte first
+-- the number in the four bytes before the identification byte (131), after which there is only padding (223); this list has the last
+-- byte first. The reader does not look whether post_post (249) comes before them, nor whether there are four bytes of padding or more,
+-- as the format requires
 unfoldable pub post_place_back : List ℕ → Option ℕ
 post_place_back [] = None
 post_place_back (b ∷ bytes) =
     if b == 223 then post_place_back bytes else (if b == 131 then Some (unsigned_at 0 (reverse (take word_size bytes))) else None)
 
--- the place of post (248): the end of a file gives it, and post has it as its p
+-- the place of post (248): the end of a file gives it, and post has it as its p. In the format p is the place after the last eoc, and
+-- specials may come between it and post; where they do, this reader finds nothing
 abbrev pub post_place : List ℕ → Option ℕ
 post_place file =
     option_and_then (λ place. if slice_index file place == 248 && unsigned_at (place + 1) file == place then Some place else None)

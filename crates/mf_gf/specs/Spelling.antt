@@ -37,7 +37,9 @@ unfoldable pub lengths : ℤ → List Run → List ℕ
 lengths x [] = []
 lengths x (r ∷ rs) = distance r.x x ∷ r.len ∷ lengths (r.x +ℤ pos r.len) rs
 
--- the lengths of white and black stretches of row y of the pixels at which f is not 0, where `left` is the left end of their box
+-- the lengths of white and black stretches of row y of the pixels at which f is not 0, where `left` is the left end of their box. It
+-- relies on f having one weight at all of them: a run has one weight, so two weights side by side would be two black stretches, with a
+-- white one of 0 pixels between
 abbrev pub row_lengths : ℤ → (ℤ → ℤ → ℤ) → ℤ → List ℕ
 row_lengths left f y = lengths left (row_runs f y least_coordinate)
 
