@@ -9,7 +9,8 @@ use Rattle.std.proofs.lemmas.List.Elements.{All-head, All-tail}
 use mathlib.Core.List.{reverse-cons}
 use Rattle.mf_rows.specs.Dots.{Dot}
 use Rattle.mf_gf.specs.Boxes.{box_of_pixels}
-use Rattle.mf_gf.specs.Files.{Character, FileSoFar, Shipment, last_shipment, last_place, shipments, spell_after, with_character, with_characters}
+use Rattle.mf_gf.specs.Files.{Character, FileSoFar, Shipment, last_shipment, last_place, shipment_after, shipments, spell_after}
+use Rattle.mf_gf.specs.Files.{with_character, with_characters}
 use Rattle.mf_gf.specs.Format as gf
 use Rattle.mf_gf.specs.Numbers.{IsWord, code_count, greatest_word}
 use Rattle.mf_gf.specs.Painting.{head_of, pixels_of_character}
@@ -20,7 +21,6 @@ use Rattle.mf_gf.proofs.BoxesInRange.{box_in_range}
 use Rattle.mf_gf.proofs.BoxOfDots.{head-begin, paint-begin}
 use Rattle.mf_gf.proofs.DrawnRows.{pixels_in-rows}
 use Rattle.mf_gf.proofs.LocatorsRead.{split}
-use Rattle.mf_gf.proofs.Shipped.{shipment_after}
 
 -- ---- one character
 

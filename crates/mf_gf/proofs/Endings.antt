@@ -15,13 +15,13 @@ use Rattle.mf_gf.proofs.Writing.{Writes, write_both, write_same}
 pub holds_beyond : (s : Spelling) (text other : List ℕ) → s.room < length text → s.room < length other → Holds s text → Holds s other
 holds_beyond s text other long other_long held = grind (arith, ints)
 
-module _ (before opened placed named after : Spelling) (place written : ℕ) where
+module _ {before opened placed named after : Spelling} (place written : ℕ) where
   pub holds_ending : Writes before opened (gf.post_post ∷ []) → Writes opened placed (word (pos place)) → Writes placed named (gf.id_byte ∷ [])
       → Writes named after (take (padding (place + written + gf.ending_size)) (replicate gf.most_padding gf.padding_byte))
       → after.room ≡ before.room → written ≡ before.length
       → (text : List ℕ) → Holds before text → Holds after (text ++ ending place (place + length text))
   holds_ending opens places names pads room counts text held =
-      let padded = write_same _ _ _ _ (take-replicate (padding (place + written + gf.ending_size)) gf.most_padding gf.padding_byte (omega arith)) pads in
+      let padded = write_same (take-replicate (padding (place + written + gf.ending_size)) gf.most_padding gf.padding_byte (omega arith)) pads in
       let all = write_both (write_both (write_both opens places) names) padded text held in
       ⊎_elim
       (λ long. holds_beyond after (text ++ ending place (place + written)) (text ++ ending place (place + length text))

@@ -5,14 +5,14 @@ use Rattle.std.proofs.lemmas.Int.{ints}
 use Rattle.std.proofs.Math.Seq.{drop-append_seam, take-append_seam}
 use Rattle.mf_gf.specs.declared.file.FontWords.{FontWords}
 use Rattle.mf_gf.specs.Files.{Character, FileSoFar, box_of_all, bytes_so_far, file_of}
-use Rattle.mf_gf.specs.Files.{last_place, post_text, preamble, shipments, with_character, with_characters}
+use Rattle.mf_gf.specs.Files.{last_place, post_text, preamble, shipment_after, shipments, with_character, with_characters}
 use Rattle.mf_gf.specs.FontNumbers.{IsBeforePost, comment_of, post_of, read_post}
 use Rattle.mf_gf.specs.Numbers.{greatest_word}
 use Rattle.mf_gf.specs.Pointers.{AreShippable}
 use Rattle.mf_gf.specs.Spelling.{pointer, spell}
 use Rattle.mf_gf.proofs.CharactersRead.{AllStand, StandsAt, is_at, pointer_fits, stand_from, stands_before}
 use Rattle.mf_gf.proofs.PostFound.{post_place-file}
-use Rattle.mf_gf.proofs.Shipped.{bytes_after_post, bytes_so_far-more, file-begins, file_of-parts, shipment_after, shipments-more}
+use Rattle.mf_gf.proofs.Shipped.{bytes_after_post, bytes_so_far-more, file-begins, file_of-parts, shipments-more}
 
 -- ---- the comment
 

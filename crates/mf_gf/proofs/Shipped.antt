@@ -1,13 +1,13 @@
 -- The characters of a file, with one more at the end.
-use Rattle.std.proofs.Common.{◌≡◌, ◌<◌, ◌≤◌, ◌↔◌, ℕ, ℤ, List, [], ◌∷◌, ◌++◌, Option, Some, length, refl, ap, ◌∙◌, append_assoc, length-append, arith}
+use Rattle.std.proofs.Common.{◌≡◌, ◌≤◌, ◌↔◌, ℕ, ℤ, List, [], ◌∷◌, ◌++◌, Option, Some, length, refl, ap, ◌∙◌, append_assoc, length-append, arith}
 use Rattle.std.proofs.lemmas.Int.{ints}
 use Rattle.mf_rows.specs.Dots.{Dot}
 use Rattle.mf_gf.specs.declared.file.FontWords.{FontWords}
 use Rattle.mf_gf.specs.declared.file.GfFile.{GfFile}
 use Rattle.mf_gf.specs.Boxes.{box_of_pixels, join, widen}
-use Rattle.mf_gf.specs.Files.{Character, FileSoFar, Shipment, box_of_all, bytes_so_far, ending, file_of, file_so_far}
-use Rattle.mf_gf.specs.Files.{last_place, locator_of, locators_from, post_text, shipments, spell_after, tail_of, with_character, with_characters}
-use Rattle.mf_gf.specs.Keeping.{HasLastLocators, IsAppended, Keeps, bounds_of}
+use Rattle.mf_gf.specs.Files.{Character, FileSoFar, Shipment, box_of_all, bytes_so_far, ending, file_of, file_so_far, last_place}
+use Rattle.mf_gf.specs.Files.{locator_of, locators_from, post_text, shipment_after, shipments, spell_after, tail_of, with_character, with_characters}
+use Rattle.mf_gf.specs.Keeping.{HasLastLocators, HasNoRoomFor, IsAppended, IsFullWith, Keeps, bounds_of}
 use Rattle.mf_gf.specs.Numbers.{code_count}
 use Rattle.mf_gf.specs.Spelling.{pointer, spell}
 use Rattle.mf_gf.proofs.BlackBoxes.{join-assoc}
@@ -25,10 +25,6 @@ with_characters-more f (b ∷ cs) c = with_characters-more (with_character f b) 
 pub bytes_so_far-more : (comment : List ℕ) (cs : List Character) (c : Character)
     → bytes_so_far comment (cs ++ c ∷ []) ≡ bytes_so_far comment cs ++ spell_after (file_so_far comment cs) c
 bytes_so_far-more comment cs c = ap (λ (f : FileSoFar). f.bytes) (with_characters-more _ cs c)
-
--- the shipment of a character after these bytes
-abbrev pub shipment_after : List ℕ → Character → Shipment
-shipment_after bytes c = record { character = c; place = length bytes }
 
 pub shipments-more : (comment : List ℕ) (cs : List Character) (c : Character)
     → shipments comment (cs ++ c ∷ []) ≡ shipment_after (bytes_so_far comment cs) c ∷ shipments comment cs
@@ -53,8 +49,8 @@ keeps-more before after comment cs c appended widened keeps = grind (arith, ints
 -- where one more character is too long for a file, so are its bytes after those that the file has
 pub too_long_with : {P : Type 0} (file : GfFile) (c : Character) (earlier : Option ℕ)
     → ((shipped : List Shipment) → HasLastLocators file.locators shipped → earlier ≡ last_place c.code shipped)
-    → (file.max_bytes < length (file.bytes.items ++ spell c.code (pointer earlier) c.black)) ↔ P
-    → (comment : List ℕ) (cs : List Character) → Keeps file comment cs → (file.max_bytes < length (bytes_so_far comment (cs ++ c ∷ []))) ↔ P
+    → HasNoRoomFor file (spell c.code (pointer earlier) c.black) ↔ P
+    → (comment : List ℕ) (cs : List Character) → Keeps file comment cs → IsFullWith file comment cs c ↔ P
 too_long_with file c earlier last fits comment cs keeps = grind (arith, ints, bytes_so_far-more, last (shipments comment cs) keeps.locators)
 
 -- the bytes of a file up to its ending

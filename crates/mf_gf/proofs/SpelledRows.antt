@@ -1,7 +1,6 @@
 -- Rows that are spelled one after another.
 use Rattle.std.proofs.Common.{◌≡◌, ℕ, zero, suc, ◌+◌, ℤ, pos, ◌+ℤ◌, List, [], ◌∷◌, ◌++◌, Option, None, Some, IfSome, ◌≤ℤ◌, ◌<ℤ◌, ◌-ℤ◌, refl, sym, subst, ap, ◌∙◌, arith, append_assoc, length, ◌≤◌}
 use Rattle.std.specs.List.{flat_map}
-use Rattle.std.proofs.lemmas.Bool.{cond-true, le-leb}
 use Rattle.std.proofs.lemmas.Int.{ints}
 use Rattle.std.proofs.lemmas.List.{append-nil}
 use Rattle.mf_geom.specs.Coordinates.{IsCoordinate, field_size, last_in_field, least_coordinate}
@@ -11,8 +10,6 @@ use Rattle.mf_rows.specs.declared.run.Run.{Run}
 use Rattle.mf_rows.specs.Order.{IsRun}
 use Rattle.mf_rows.specs.BlackRows.{black_in, row_in, row_runs, runs_in}
 use Rattle.mf_gf.specs.declared.spelling.Spelling.{Spelling}
-use Rattle.mf_gf.specs.Format as gf
-use Rattle.mf_gf.specs.Numbers.{greatest_halfword}
 use Rattle.mf_gf.specs.Rows.{blank_after_rows, repeated, rows_between}
 use Rattle.mf_gf.specs.Spelling.{blank_after, distance, lengths, paint, row_lengths, row_start, rows_text}
 use Rattle.mf_gf.specs.Spellings.{HasPart, Holds, IsPart}
@@ -36,8 +33,8 @@ part_before s t start end before part after bytes writes room has = record {
 }
 
 -- bytes that were just written
-pub just_written : (s t : Spelling) (before part : List ℕ) → Holds s before → Writes s t part → t.room ≡ s.room → HasPart t s.length t.length before part []
-just_written s t before part holds writes room = record {
+pub just_written : {s t : Spelling} {before part : List ℕ} → Holds s before → Writes s t part → t.room ≡ s.room → HasPart t s.length t.length before part []
+just_written {s} {t} {before} {part} holds writes room = record {
   held = subst (Holds t) (sym (append-nil (before ++ part))) (writes before holds);
   from = λ short. holds.counted (subst (λ n. length before ≤ n) room short);
   to = (writes before holds).counted;
@@ -49,88 +46,71 @@ pub record AreRepeated (s t : Spelling) (offset start end n : ℕ) : Type 0 wher
   pub rows : (before part after : List ℕ) → HasPart s start end before part after
       → HasPart t start end before part (after ++ repeated n (row_start (Some 0) offset ++ part))
 
-module _ (s t : Spelling) (offset start end : ℕ) where
-  abbrev pub row : List ℕ → List ℕ
+pub none_repeated : (s : Spelling) (offset start end : ℕ) → AreRepeated s s offset start end 0
+unfolding repeated
+none_repeated s offset start end = record {
+  room = refl;
+  rows = λ before part after has. subst (HasPart s start end before part) (sym (append-nil after)) has;
+}
+
+module _ {s t u : Spelling} {offset start end n : ℕ} (so_far : AreRepeated s t offset start end n)
+    (writes : Writes t u (row_start (Some 0) offset)) (same : u.room ≡ t.room) where
+  abbrev row : List ℕ → List ℕ
   row part = row_start (Some 0) offset ++ part
 
-  pub none_repeated : AreRepeated s s offset start end 0
-  unfolding repeated
-  none_repeated = record { room = refl; rows = λ before part after has. subst (HasPart s start end before part) (sym (append-nil after)) has }
+  begun : (before part after : List ℕ) → HasPart s start end before part after
+      → HasPart u start end before part (after ++ repeated n (row part) ++ row_start (Some 0) offset)
+  begun before part after has = part_before t u start end before part _ _ writes same (so_far.rows before part after has)
 
-  module _ (n : ℕ) (so_far : AreRepeated s t offset start end n) (u : Spelling) (writes : Writes t u (row_start (Some 0) offset)) (same : u.room ≡ t.room) where
-    begun : (before part after : List ℕ) → HasPart s start end before part after
-        → HasPart u start end before part (after ++ repeated n (row part) ++ row_start (Some 0) offset)
-    begun before part after has = part_before t u start end before part _ _ writes same (so_far.rows before part after has)
+  pub next_part : IsPart s start end → IsPart u start end
+  next_part part = (_, _, _, begun _ _ _ part.3)
 
-    pub next_part : IsPart s start end → IsPart u start end
-    next_part part = (_, _, _, begun _ _ _ part.3)
-
-    pub one_more_repeated : (v : Spelling) → ((before part after : List ℕ) → HasPart u start end before part after → HasPart v start end before part (after ++ part))
-        → v.room ≡ u.room → AreRepeated s v offset start end (n + 1)
-    one_more_repeated v repeats room = record {
-      room = room ∙ same ∙ so_far.room;
-      rows = λ before part after has.
-          let more : n + 1 ≡ suc n = omega arith in
-          let rows : after ++ repeated n (row part) ++ row_start (Some 0) offset ++ part ≡ after ++ repeated (suc n) (row part) =
-          append_assoc (after ++ repeated n (row part)) (row_start (Some 0) offset) part
-          ∙ append_assoc after (repeated n (row part)) (row part) ∙ ap (λ more. after ++ more) (repeated-more n (row part)) in
-          rw more (subst (HasPart v start end before part) rows (repeats _ _ _ (begun before part after has)));
-    }
+  pub one_more_repeated : {v : Spelling} → ((before part after : List ℕ) → HasPart u start end before part after → HasPart v start end before part (after ++ part))
+      → v.room ≡ u.room → AreRepeated s v offset start end (n + 1)
+  one_more_repeated {v} repeats room = record {
+    room = room ∙ same ∙ so_far.room;
+    rows = λ before part after has.
+        let more : n + 1 ≡ suc n = omega arith in
+        let rows : after ++ repeated n (row part) ++ row_start (Some 0) offset ++ part ≡ after ++ repeated (suc n) (row part) =
+        append_assoc (after ++ repeated n (row part)) (row_start (Some 0) offset) part
+        ∙ append_assoc after (repeated n (row part)) (row part) ∙ ap (λ more. after ++ more) (repeated-more n (row part)) in
+        rw more (subst (HasPart v start end before part) rows (repeats _ _ _ (begun before part after has)));
+  }
 
 -- ---- a row
-
--- there are fewer blank rows than a skip can go over
-pub few_blank : (blank : Option ℕ) (y : ℤ) → least_coordinate ≤ℤ y → IfSome blank (λ n. pos n ≤ℤ (last_in_field -ℤ y)) → IfSome blank (λ n. n ≤ greatest_halfword)
-few_blank None y low few = tt
-few_blank (Some n) y low few = omega (arith, ints, few, low)
-
--- two short stretches have a byte each
-pub both_short : (white black : ℕ) → white ≤ gf.most_painted → black ≤ gf.most_painted → white ∷ black ∷ [] ≡ paint white ++ paint black
-unfolding paint
-both_short white black first second = grind (arith, cond-true, le-leb)
 
 -- the runs that were passed are spelled
 pub record ArePut (s t : Spelling) (before after : BlackRows) (from column : ℤ) : Type 0 where
   pub written : List ℕ
   pub writes : Writes s t written
-  pub rest : written ++ flat_map paint (lengths column (runs_in after)) ≡ flat_map paint (lengths from (runs_in before))
+  pub whole : written ++ flat_map paint (lengths column (runs_in after)) ≡ flat_map paint (lengths from (runs_in before))
   pub room : t.room ≡ s.room
   pub row : row_in after ≡ row_in before
   pub black : black_in after ≡ black_in before
   pub in_range : IsCoordinate column
 
-module _ (s t : Spelling) (before after : BlackRows) (from column : ℤ) where
-  pub none_put : IsCoordinate from → ArePut s s before before from from
-  none_put in_range = record {
-    written = [];
-    writes = λ text holds. subst (Holds s) (sym (append-nil text)) holds;
-    rest = refl;
-    room = refl;
-    row = refl;
-    black = refl;
-    in_range = in_range;
-  }
+module _ {s t : Spelling} {before after : BlackRows} {from column : ℤ} (so_far : ArePut s t before after from column) where
+  pub one_more_put : {u : Spelling} (next : BlackRows) (r : Run) → runs_in after ≡ r ∷ runs_in next → row_in next ≡ row_in after → black_in next ≡ black_in after
+      → IsRun r → Writes t u (paint (distance r.x column) ++ paint r.len) → u.room ≡ t.room → ArePut s u before next from (r.x +ℤ pos r.len)
+  unfolding lengths
+  one_more_put next r first row black run puts room =
+      let stretches = paint (distance r.x column) ++ paint r.len in
+      record {
+        written = so_far.written ++ stretches;
+        writes = write_both so_far.writes puts;
+        whole = append_assoc so_far.written stretches _ ∙ ap (λ more. so_far.written ++ more) (append_assoc (paint (distance r.x column)) (paint r.len) _)
+            ∙ ap (λ rs. so_far.written ++ flat_map paint (lengths column rs)) (sym first) ∙ so_far.whole;
+        room = room ∙ so_far.room;
+        row = row ∙ so_far.row;
+        black = black ∙ so_far.black;
+        in_range = record { least = omega (arith, ints, run.left); greatest = run.right };
+      }
 
-  module _ (so_far : ArePut s t before after from column) where
-    pub one_more_put : (u : Spelling) (next : BlackRows) (r : Run) → runs_in after ≡ r ∷ runs_in next → row_in next ≡ row_in after → black_in next ≡ black_in after
-        → IsRun r → Writes t u (paint (distance r.x column) ++ paint r.len) → u.room ≡ t.room → ArePut s u before next from (r.x +ℤ pos r.len)
-    unfolding lengths
-    one_more_put u next r first row black run puts room =
-        let stretch = paint (distance r.x column) ++ paint r.len in
-        record {
-          written = so_far.written ++ stretch;
-          writes = write_both so_far.writes puts;
-          rest = append_assoc so_far.written stretch _ ∙ ap (λ more. so_far.written ++ more) (append_assoc (paint (distance r.x column)) (paint r.len) _)
-              ∙ ap (λ rs. so_far.written ++ flat_map paint (lengths column rs)) (sym first) ∙ so_far.rest;
-          room = room ∙ so_far.room;
-          row = row ∙ so_far.row;
-          black = black ∙ so_far.black;
-          in_range = record { least = omega (arith, ints, run.left); greatest = run.right };
-        }
-
-    pub all_put : runs_in after ≡ [] → Writes s t (flat_map paint (lengths from (runs_in before)))
-    unfolding lengths
-    all_put none = write_same _ _ _ _ (sym (append-nil so_far.written) ∙ ap (λ rs. so_far.written ++ flat_map paint (lengths column rs)) (sym none) ∙ so_far.rest) so_far.writes
+  pub all_put : runs_in after ≡ [] → Writes s t (flat_map paint (lengths from (runs_in before)))
+  unfolding lengths
+  all_put none =
+      let all = sym (append-nil so_far.written) ∙ ap (λ rs. so_far.written ++ flat_map paint (lengths column rs)) (sym none) ∙ so_far.whole in
+      write_same all so_far.writes
 
 -- ---- all rows
 
@@ -142,7 +122,7 @@ rows_left y = rows_between y least_coordinate
 pub record AreSpelled (s t : Spelling) (left : ℤ) (black : ℤ → ℤ → ℤ) (rows : BlackRows) (blank : Option ℕ) : Type 0 where
   pub written : List ℕ
   pub writes : Writes s t written
-  pub rest : written ++ rows_text (row_lengths left black) (row_in rows) (rows_left (row_in rows)) blank
+  pub whole : written ++ rows_text (row_lengths left black) (row_in rows) (rows_left (row_in rows)) blank
       ≡ rows_text (row_lengths left black) last_in_field field_size None
   pub room : t.room ≡ s.room
   pub is_black : black_in rows ≡ black
@@ -176,7 +156,7 @@ none_spelled {s} {left} {black} {rows} is_black row runs =
     record {
       written = [];
       writes = λ text holds. subst (Holds s) (sym (append-nil text)) holds;
-      rest = rw (row, all) refl;
+      whole = rw (row, all) refl;
       room = refl;
       is_black = is_black;
       row = record { least = omega (arith, ints, row); greatest = omega (arith, ints, row) };
@@ -184,32 +164,32 @@ none_spelled {s} {left} {black} {rows} is_black row runs =
       few = tt;
     }
 
-module _ (s t u : Spelling) (left : ℤ) (black : ℤ → ℤ → ℤ) (rows : BlackRows) (blank : Option ℕ) where
+module _ {s t u : Spelling} {left : ℤ} {black : ℤ → ℤ → ℤ} {rows : BlackRows} {blank : Option ℕ}
+    (so_far : AreSpelled s t left black rows blank) (bottom : ℤ) (order : bottom ≤ℤ row_in rows)
+    (writes : Writes t u (rows_text (row_lengths left black) (row_in rows) (rows_between (row_in rows) bottom) blank)) where
   abbrev own : ℤ → List ℕ
   own = row_lengths left black
 
-  module _ (so_far : AreSpelled s t left black rows blank) (bottom : ℤ) (order : bottom ≤ℤ row_in rows)
-      (writes : Writes t u (rows_text own (row_in rows) (rows_between (row_in rows) bottom) blank)) where
-    pub more_spelled : (next : BlackRows) → least_coordinate <ℤ bottom → row_in next ≡ bottom -ℤ pos 1 → black_in next ≡ black
-        → runs_in next ≡ row_runs black (row_in next) least_coordinate → u.room ≡ t.room
-        → AreSpelled s u left black next (blank_after_rows own (row_in rows) (rows_between (row_in rows) bottom) blank)
-    more_spelled next low row is_black runs room =
-        let y = row_in rows in
-        let m = rows_between y bottom in
-        let all : m + rows_left (row_in next) ≡ rows_left y = omega (arith, ints, row, low, order) in
-        let below : y -ℤ pos m ≡ row_in next = omega (arith, ints, row, order) in
-        let parts = rows_after own y m (rows_left (row_in next)) blank in
-        let few = few_after own y m blank so_far.row.greatest so_far.few in
-        record {
-          written = so_far.written ++ rows_text own y m blank;
-          writes = write_both so_far.writes writes;
-          rest = append_assoc so_far.written _ _ ∙ ap (λ more. so_far.written ++ more) (sym (rw (all, below) at parts)) ∙ so_far.rest;
-          room = room ∙ so_far.room;
-          is_black = is_black;
-          row = record { least = omega (arith, ints, row, low); greatest = omega (arith, ints, row, order, so_far.row.greatest) };
-          runs = runs;
-          few = rw below at few;
-        }
+  pub more_spelled : (next : BlackRows) → least_coordinate <ℤ bottom → row_in next ≡ bottom -ℤ pos 1 → black_in next ≡ black
+      → runs_in next ≡ row_runs black (row_in next) least_coordinate → u.room ≡ t.room
+      → AreSpelled s u left black next (blank_after_rows own (row_in rows) (rows_between (row_in rows) bottom) blank)
+  more_spelled next low row is_black runs room =
+      let y = row_in rows in
+      let m = rows_between y bottom in
+      let all : m + rows_left (row_in next) ≡ rows_left y = omega (arith, ints, row, low, order) in
+      let below : y -ℤ pos m ≡ row_in next = omega (arith, ints, row, order) in
+      let parts = rows_after own y m (rows_left (row_in next)) blank in
+      let few = few_after own y m blank so_far.row.greatest so_far.few in
+      record {
+        written = so_far.written ++ rows_text own y m blank;
+        writes = write_both so_far.writes writes;
+        whole = append_assoc so_far.written _ _ ∙ ap (λ more. so_far.written ++ more) (sym (rw (all, below) at parts)) ∙ so_far.whole;
+        room = room ∙ so_far.room;
+        is_black = is_black;
+        row = record { least = omega (arith, ints, row, low); greatest = omega (arith, ints, row, order, so_far.row.greatest) };
+        runs = runs;
+        few = rw below at few;
+      }
 
-    pub all_spelled : bottom ≡ least_coordinate → Writes s u (rows_text own last_in_field field_size None)
-    all_spelled low = write_same _ _ _ _ so_far.rest (write_both so_far.writes (rw low at writes))
+  pub all_spelled : bottom ≡ least_coordinate → Writes s u (rows_text own last_in_field field_size None)
+  all_spelled low = write_same so_far.whole (write_both so_far.writes (rw low at writes))

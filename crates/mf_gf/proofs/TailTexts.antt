@@ -11,24 +11,24 @@ use Rattle.mf_gf.specs.declared.file.GfFile.{GfFile}
 use Rattle.mf_gf.specs.declared.finished.GfBytes.{GfBytes}
 use Rattle.mf_gf.specs.declared.spelling.Spelling.{Spelling}
 use Rattle.mf_gf.specs.Files.{Character, box_of_all, ending, file_of, post_text, tail_of}
-use Rattle.mf_gf.specs.Keeping.{IsRefusedAs, IsSameFile, Keeps, bounds_of, table_text}
+use Rattle.mf_gf.specs.Keeping.{HasNoRoomFor, IsRefusedAs, IsSameFile, Keeps, bounds_of, tail_after}
 use Rattle.mf_gf.specs.Spellings.{Holds}
 use Rattle.mf_gf.proofs.LocatorTexts.{table_text-is}
 
-pub holds_tail : (s : Spelling) (words : FontWords) (b : CharacterBox) (place : ℕ) (bytes locators : List ℕ) → place ≡ length bytes
+pub holds_tail : {s : Spelling} (words : FontWords) (b : CharacterBox) {place : ℕ} (bytes locators : List ℕ) → place ≡ length bytes
     → Holds s (post_text words b place ++ locators ++ ending place (place + length (post_text words b place ++ locators)))
     → Holds s (tail_of words b bytes locators)
 unfolding tail_of
-holds_tail s words b place bytes locators is held =
+holds_tail {s} words b {place} bytes locators is held =
     let numbers = post_text words b (length bytes) in
     subst (λ n. Holds s (numbers ++ locators ++ ending (length bytes) n))
     (sym (ap length (append_assoc bytes numbers locators) ∙ length-append bytes (numbers ++ locators)))
     (subst (λ (at : ℕ). Holds s (post_text words b at ++ locators ++ ending at (at + length (post_text words b at ++ locators)))) is held)
 
 -- there is no room for the tail exactly where there is none for the complete file
-pub too_long_after : {P : Type 0} (room max_bytes : ℕ) (before text : List ℕ) → room + length before ≡ max_bytes
-    → (room < length text) ↔ P → (max_bytes < length (before ++ text)) ↔ P
-too_long_after room max_bytes before text is fits = grind (arith, ints, length-append)
+pub too_long_after : {P : Type 0} (file : GfFile) (room : ℕ) (text : List ℕ) → room + length file.bytes.items ≡ file.max_bytes
+    → (room < length text) ↔ P → HasNoRoomFor file text ↔ P
+too_long_after file room text is fits = grind (arith, ints, length-append)
 
 box_of_all-some : (cs : List Character) (b : CharacterBox) → bounds_of cs ≡ Some b → box_of_all cs ≡ b
 box_of_all-some [] b is = absurd (cc)
@@ -37,7 +37,7 @@ box_of_all-some (c ∷ cs) b is = cc
 -- the complete file is what was kept of it, and its tail
 pub kept_file : (file : GfFile) (words : FontWords) (b : CharacterBox) (comment : List ℕ) (cs : List Character)
     → file.bounds ≡ Some b → Keeps file comment cs
-    → file_of words comment cs ≡ file.bytes.items ++ tail_of words b file.bytes.items (table_text file.locators)
+    → file_of words comment cs ≡ file.bytes.items ++ tail_after file words b
 unfolding file_of
 kept_file file words b comment cs some keeps = grind (arith, ints, box_of_all-some, table_text-is)
 

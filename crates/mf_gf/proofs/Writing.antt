@@ -15,9 +15,9 @@ pub write_both : {before middle after : Spelling} {first second : List ℕ} → 
 write_both {before} {middle} {after} {first} {second} writes_first writes_second text held =
     subst (Holds after) (append_assoc text first second) (writes_second (text ++ first) (writes_first text held))
 
-pub write_same : (before after : Spelling) (bytes same : List ℕ) → bytes ≡ same → Writes before after bytes → Writes before after same
-write_same before after bytes same is writes = subst (Writes before after) is writes
+pub write_same : {before after : Spelling} {bytes same : List ℕ} → bytes ≡ same → Writes before after bytes → Writes before after same
+write_same {before} {after} is writes = subst (Writes before after) is writes
 
 -- a signed number, as it is passed to a call
-pub write_word : (before after : Spelling) (z : ℤ) → FitsSigned w32 z → Writes before after (word (to_z w32 (of_z w32 z))) → Writes before after (word z)
-write_word before after z fits writes = write_same before after _ _ (ap word (to_z-of_z w32 z fits)) writes
+pub write_word : {before after : Spelling} (z : ℤ) → FitsSigned w32 z → Writes before after (word (to_z w32 (of_z w32 z))) → Writes before after (word z)
+write_word z fits writes = write_same (ap word (to_z-of_z w32 z fits)) writes

@@ -41,6 +41,10 @@ last_shipment code shipped = find (λ (s : Shipment). s.character.code == code) 
 abbrev pub last_place : ℕ → List Shipment → Option ℕ
 last_place code shipped = option_map (λ (s : Shipment). s.place) (last_shipment code shipped)
 
+-- the shipment of a character after these bytes
+abbrev pub shipment_after : List ℕ → Character → Shipment
+shipment_after bytes c = record { character = c; place = length bytes }
+
 -- a file so far: its bytes, and the characters shipped, the last one first
 pub record FileSoFar : Type 0 where
   pub bytes : List ℕ
@@ -52,7 +56,7 @@ spell_after f c = spell c.code (pointer (last_place c.code f.shipped)) c.black
 
 -- the file with one more character
 abbrev pub with_character : FileSoFar → Character → FileSoFar
-with_character f c = record { bytes = f.bytes ++ spell_after f c; shipped = record { character = c; place = length f.bytes } ∷ f.shipped }
+with_character f c = record { bytes = f.bytes ++ spell_after f c; shipped = shipment_after f.bytes c ∷ f.shipped }
 
 -- the file with these characters more, in the order shipped
 unfoldable pub with_characters : FileSoFar → List Character → FileSoFar

@@ -61,3 +61,7 @@ pub record IsLeastAround (characters : List Character) (b : CharacterBox) : Type
   pub right : Any (λ (c : Character). (box_of_character c).max_m ≡ b.max_m) characters
   pub bottom : Any (λ (c : Character). (box_of_character c).min_n ≡ b.min_n) characters
   pub top : Any (λ (c : Character). (box_of_character c).max_n ≡ b.max_n) characters
+
+-- post has the least box around the boxes of these characters
+abbrev pub HasLeastBox : List ℕ → List Character → Type 0
+HasLeastBox file characters = HasPost file (λ post. IsLeastAround characters post.box)

@@ -3,11 +3,12 @@ use Rattle.std.specs.Prelude.{◌≡◌, ◌<◌, ◌+◌, ℕ, ℤ, List, [], �
 use Rattle.mf_rows.specs.Dots.{Dot}
 use Rattle.mf_gf.specs.declared.boxes.CharacterBox.{CharacterBox}
 use Rattle.mf_gf.specs.declared.fault.GfFault.{GfFault}
+use Rattle.mf_gf.specs.declared.file.FontWords.{FontWords}
 use Rattle.mf_gf.specs.declared.file.GfFile.{GfFile}
 use Rattle.mf_gf.specs.declared.finished.GfBytes.{GfBytes}
 use Rattle.mf_gf.specs.declared.locator.Locator.{Locator}
 use Rattle.mf_gf.specs.declared.locators.Locators.{Locators}
-use Rattle.mf_gf.specs.Files.{Character, Shipment, box_of_all, bytes_so_far, last_locator, locator_if, locator_of, shipments}
+use Rattle.mf_gf.specs.Files.{Character, Shipment, box_of_all, bytes_so_far, last_locator, locator_if, locator_of, shipments, tail_of}
 use Rattle.mf_gf.specs.Numbers.{code_count}
 use Rattle.mf_gf.specs.Pixels.{black}
 
@@ -39,6 +40,18 @@ pub record Keeps (file : GfFile) (comment : List ℕ) (characters : List Charact
 abbrev pub max_bytes_of : GfFile → ℕ
 max_bytes_of file = file.max_bytes
 
+-- a file has no room for these bytes after those that it has
+abbrev pub HasNoRoomFor : GfFile → List ℕ → Type 0
+HasNoRoomFor file bytes = file.max_bytes < length (file.bytes.items ++ bytes)
+
+-- a file of this comment and these characters has no room for one more character, even without the end of the file
+abbrev pub IsFullWith : GfFile → List ℕ → List Character → Character → Type 0
+IsFullWith file comment characters c = max_bytes_of file < length (bytes_so_far comment (characters ++ c ∷ []))
+
+-- what comes after the characters in the file that is finished with these numbers and this box
+abbrev pub tail_after : GfFile → FontWords → CharacterBox → List ℕ
+tail_after file words b = tail_of words b file.bytes.items (table_text file.locators)
+
 -- a file is unchanged
 pub record IsSameFile (before after : GfFile) : Type 0 where
   pub bytes : after.bytes.items ≡ before.bytes.items
@@ -47,7 +60,7 @@ pub record IsSameFile (before after : GfFile) : Type 0 where
   pub bounds : after.bounds ≡ before.bounds
   pub max_bytes : after.max_bytes ≡ before.max_bytes
 
--- a character with these bytes was appended to a file
+-- a character with these bytes was appended to a file; this says nothing of the box of all characters, which takes its box
 pub record IsAppended (before after : GfFile) (l : Locator) (spelled : List ℕ) : Type 0 where
   pub bytes : after.bytes.items ≡ before.bytes.items ++ spelled
   pub locators : (s : Shipment) (shipped : List Shipment) → locator_of s ≡ l → HasLastLocators before.locators shipped

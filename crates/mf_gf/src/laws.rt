@@ -2,14 +2,15 @@
 //! the contract of a function names it.
 ghost use Rattle.std.specs.Prelude.{◌≡◌, ◌↔◌, ◌<◌, ◌≤◌, ◌<ℤ◌, ◌∷◌, [], ◌++◌, length, ℕ, ℤ, pos, List, Some};
 ghost use Rattle.mf_gf.specs.Boxes.{box_of_pixels, join, pixel_box};
-ghost use Rattle.mf_gf.specs.Files.{Character, IsPadded, IsShortDx, box_of_all, bytes_so_far, file_of, last_place, shipments, short_dx};
+ghost use Rattle.mf_gf.specs.Files.{Character, IsPadded, IsShortDx, box_of_all, bytes_so_far, file_of, file_so_far};
+ghost use Rattle.mf_gf.specs.Files.{shipment_after, shipments, short_dx, spell_after};
 ghost use Rattle.mf_gf.specs.declared.file.FontWords.{FontWords};
-ghost use Rattle.mf_gf.specs.FontNumbers.{HasPost, IsBeforePost, IsLeastAround, comment_of};
+ghost use Rattle.mf_gf.specs.FontNumbers.{HasLeastBox, HasPost, IsBeforePost, comment_of};
 ghost use Rattle.mf_gf.specs.Numbers.{IsWord, code_count};
 ghost use Rattle.mf_gf.specs.Painting.{head_of, pixels_of_character};
 ghost use Rattle.mf_gf.specs.Pixels.{IsPixelSet, black};
 ghost use Rattle.mf_gf.specs.Pointers.{AreShippable, IsReadBack, post_place};
-ghost use Rattle.mf_gf.specs.Spelling.{pointer, spell};
+ghost use Rattle.mf_gf.specs.Spelling.{spell};
 ghost use Rattle.mf_rows.specs.Bounds.{IsLeastBox};
 ghost use Rattle.mf_rows.specs.Dots.{Dot, IsPicture, weight_at};
 
@@ -56,12 +57,10 @@ pub fn one_character_more()
         × (file_of words comment cs ≡ bytes_so_far comment cs ++ rest) }
     ensures bytes { (comment : List ℕ) (cs : List Character) (c : Character)
         → bytes_so_far comment (cs ++ c ∷ [])
-        ≡ bytes_so_far comment cs
-        ++ spell c.code (pointer (last_place c.code (shipments comment cs))) c.black }
+        ≡ bytes_so_far comment cs ++ spell_after (file_so_far comment cs) c }
     ensures place { (comment : List ℕ) (cs : List Character) (c : Character)
         → shipments comment (cs ++ c ∷ [])
-        ≡ record { character = c; place = length (bytes_so_far comment cs) }
-        ∷ shipments comment cs }
+        ≡ shipment_after (bytes_so_far comment cs) c ∷ shipments comment cs }
     ensures bounds { (b : Character) (cs : List Character) (c : Character)
         → box_of_all (b ∷ cs ++ c ∷ []) ≡ join (box_of_all (b ∷ cs)) (box_of_pixels c.black) }
 {}
@@ -100,7 +99,7 @@ pub fn numbers_are_read_back()
         → HasPost (file_of words comment cs) (λ post. post.words.vppp ≡ words.vppp) }
     ensures bounds { (words : FontWords) (comment : List ℕ) (c : Character) (cs : List Character)
         → AreShippable comment (c ∷ cs)
-        → HasPost (file_of words comment (c ∷ cs)) (λ post. IsLeastAround (c ∷ cs) post.box) }
+        → HasLeastBox (file_of words comment (c ∷ cs)) (c ∷ cs) }
 {}
 
 /// The length of a finished file is a multiple of 4, and the file ends with the identification byte and four to seven bytes 223.

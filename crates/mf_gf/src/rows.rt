@@ -1,5 +1,5 @@
 //! The rows of a character: the commands that paint its stretches of black pixels.
-ghost use Rattle.std.specs.Prelude.{◌≡◌, ◌≤◌, ◌≤ℤ◌, ◌-ℤ◌, ◌++◌, [], IfSome, List, Some, ℕ, flat_map, pos, suc};
+ghost use Rattle.std.specs.Prelude.{◌≡◌, ◌≤◌, ◌≤ℤ◌, ◌-ℤ◌, ◌++◌, [], IfSome, List, Some, ℕ, flat_map, pos};
 ghost use Rattle.mf_geom.specs.Coordinates.{IsCoordinate, field_size, last_in_field, least_coordinate};
 ghost use Rattle.mf_geom.specs.Field.{IsColumnOrRow};
 ghost use Rattle.mf_gf.specs.Numbers.{greatest_halfword};

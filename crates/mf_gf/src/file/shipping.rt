@@ -3,8 +3,8 @@ ghost use Rattle.std.specs.Prelude.{◌≡◌, ◌⊎◌, ◌<◌, ◌≤◌, �
 ghost use Rattle.mf_gf.specs.Boxes.{box_of_pixels, widen};
 ghost use Rattle.mf_gf.specs.Spelling as spelling;
 ghost use Rattle.mf_gf.specs.Spelling.{pointer};
-ghost use Rattle.mf_gf.specs.Files.{Character, bytes_so_far, preamble};
-ghost use Rattle.mf_gf.specs.Keeping.{IsAppended, IsSameFile, Keeps, character, max_bytes_of};
+ghost use Rattle.mf_gf.specs.Files.{Character, preamble};
+ghost use Rattle.mf_gf.specs.Keeping.{HasNoRoomFor, IsAppended, IsFullWith, IsSameFile, Keeps, character, max_bytes_of};
 ghost use Rattle.mf_gf.specs.Numbers.{greatest_byte, greatest_word};
 ghost use Rattle.mf_gf.specs.Pixels.{black};
 ghost use Rattle.mf_rows.specs.Dots.{IsPicture};
@@ -92,8 +92,7 @@ impl GfFile {
         ensures max_bytes { max_bytes_of self.new ≡ max_bytes_of self.old }
         ensures too_long { (comment : List ℕ) (characters : List Character)
             → Keeps self.old comment characters
-            → (max_bytes_of self.old < length
-            (bytes_so_far comment (characters ++ character code dx width picture.now ∷ [])))
+            → IsFullWith self.old comment characters (character code dx width picture.now)
             ↔ (result ≡ Err GfFault.FileTooLong) }
         ensures fault { IfErr result (λ fault.
             (fault ≡ GfFault.FileTooLong) ⊎ (fault ≡ GfFault.OutOfMemory)) }
@@ -124,8 +123,8 @@ impl GfFile {
         requires lawful { IsPicture picture.now }
         ensures bytes { IfOk result (λ bytes.
             bytes.items ≡ spelling.spell code (pointer earlier) (black picture.now)) }
-        ensures too_long { (self.now.max_bytes < length
-            (self.now.bytes.items ++ spelling.spell code (pointer earlier) (black picture.now)))
+        ensures too_long { HasNoRoomFor self.now
+            (spelling.spell code (pointer earlier) (black picture.now))
             ↔ (result ≡ Err GfFault.FileTooLong) }
         ensures fault { IfErr result (λ fault.
             (fault ≡ GfFault.FileTooLong) ⊎ (fault ≡ GfFault.OutOfMemory)) }

@@ -1,7 +1,7 @@
 //! The postamble, which ends a file: post with its numbers, the locators and the ending.
-ghost use Rattle.std.specs.Prelude.{◌≡◌, ◌⊎◌, ◌<◌, ◌≤◌, ◌↔◌, ◌+◌, ◌++◌, [], Err, IfErr, IfOk, List, None, Ok, ℕ, length};
-ghost use Rattle.mf_gf.specs.Files.{Character, IsLongFile, ending, file_if_any, file_of, post_text, tail_of};
-ghost use Rattle.mf_gf.specs.Keeping.{IsRefusedAs, IsSameFile, Keeps, max_bytes_of, table_text};
+ghost use Rattle.std.specs.Prelude.{◌≡◌, ◌⊎◌, ◌≤◌, ◌↔◌, ◌+◌, ◌++◌, [], Err, IfErr, IfOk, List, None, Ok, ℕ, length};
+ghost use Rattle.mf_gf.specs.Files.{Character, IsLongFile, ending, file_if_any, file_of, post_text};
+ghost use Rattle.mf_gf.specs.Keeping.{HasNoRoomFor, IsRefusedAs, IsSameFile, Keeps, max_bytes_of, tail_after};
 ghost use Rattle.mf_gf.specs.Spellings.{Holds};
 
 use super::{FontWords, GF_ID, GfFile};
@@ -36,8 +36,8 @@ impl GfFile {
             → Keeps self comment characters
             → (characters ≡ []) ↔ IsRefusedAs GfFault.NoCharacters result }
         ensures too_long { (comment : List ℕ) (characters : List Character)
-            → Keeps self comment characters → (characters ≡ [] → ⊥)
-            → (max_bytes_of self < length (file_of words comment characters))
+            → Keeps self comment characters
+            → IsLongFile (max_bytes_of self) words comment characters
             ↔ IsRefusedAs GfFault.FileTooLong result }
         ensures fault { IfErr result (λ refused.
             (refused.1 ≡ GfFault.NoCharacters) ⊎ (refused.1 ≡ GfFault.FileTooLong)
@@ -77,10 +77,8 @@ impl GfFile {
     /// The bytes that come after the characters.
     fn tail(&self, words: &FontWords, bounds: &CharacterBox) -> Result<Vec<u8>, GfFault>
         ensures bytes { IfOk result (λ tail.
-            tail.items
-            ≡ tail_of words.now bounds.now self.now.bytes.items (table_text self.now.locators)) }
-        ensures too_long { (self.now.max_bytes < length
-            (self.now.bytes.items ++ tail_of words.now bounds.now self.now.bytes.items (table_text self.now.locators)))
+            tail.items ≡ tail_after self.now words.now bounds.now) }
+        ensures too_long { HasNoRoomFor self.now (tail_after self.now words.now bounds.now)
             ↔ (result ≡ Err GfFault.FileTooLong) }
         ensures fault { IfErr result (λ fault.
             (fault ≡ GfFault.FileTooLong) ⊎ (fault ≡ GfFault.OutOfMemory)) }

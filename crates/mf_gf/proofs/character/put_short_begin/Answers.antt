@@ -18,4 +18,4 @@ returns-clause-held c =
     let right : to_z w32 (of_z w32 b.max_m) ≡ b.max_m = omega (arith, ints) in
     let height : to_z w32 (of_z w32 (to_z w32 (of_z w32 b.max_n) -ℤ to_z w32 (of_z w32 b.min_n))) ≡ b.max_n -ℤ b.min_n = omega (arith, ints) in
     let top : to_z w32 (of_z w32 b.max_n) ≡ b.max_n = omega (arith, ints) in
-    write_same _ _ _ _ (let same : short_begin c.args.code b ≡ short_begin c.args.code b = refl in rw (width, right, height, top) same) c.put.ensures.held
+    write_same (let same : short_begin c.args.code b ≡ short_begin c.args.code b = refl in rw (width, right, height, top) same) c.put.ensures.held

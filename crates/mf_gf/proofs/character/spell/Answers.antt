@@ -27,4 +27,4 @@ returns-clause-held c =
     let left : to_z w32 (of_z w32 c.args.bounds.now.min_m) ≡ c.args.bounds.now.min_m = omega (arith, ints, box.columns.0) in
     let rows = rw left at c.spell_rows.ensures.held in
     let all = write_both (write_both c.put_begin.ensures.held rows) c.put_byte.ensures.held in
-    write_same _ _ _ _ (rw (c.requires.bounds, pixels_text_black _ _ c.requires.lawful) refl) all
+    write_same (rw (c.requires.bounds, pixels_text_black _ _ c.requires.lawful) refl) all

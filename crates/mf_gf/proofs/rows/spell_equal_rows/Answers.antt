@@ -1,17 +1,29 @@
-use Rattle.std.proofs.Common.{rules, ◌+◌, ◌≡◌, ℕ, List, [], ◌∷◌, ◌++◌, pos, ◌+ℤ◌, ◌-ℤ◌, to_z, of_z, w32, sym, ap, ◌∙◌, append_assoc, arith}
+use Rattle.std.proofs.Common.{rules, ◌+◌, ◌≡◌, ◌≤◌, ◌≤ℤ◌, ℕ, ℤ, Option, None, Some, IfSome, List, [], ◌∷◌, ◌++◌, pos, ◌+ℤ◌, ◌-ℤ◌, to_z, of_z, w32, sym, ap, ◌∙◌, append_assoc, arith}
 use Rattle.std.specs.Int.RustNames.{unsigned_abs}
 use Rattle.std.specs.List.{flat_map}
 use Rattle.std.proofs.lemmas.Int.{ints}
 use Rattle.std.proofs.lemmas.List.{append-nil}
+use Rattle.mf_geom.specs.Coordinates.{last_in_field, least_coordinate}
 use Rattle.mf_rows.specs.RowEdges.{AreSameRows}
 use Rattle.mf_rows.specs.BlackRows.{black_in, row_in, runs_in}
+use Rattle.mf_gf.specs.Numbers.{greatest_halfword}
 use Rattle.mf_gf.specs.Rows.{rows_between}
 use Rattle.mf_gf.specs.Spelling.{distance, lengths, paint, row_lengths, row_start}
 use Rattle.mf_gf.proofs.EqualRows.{passed_blank, counted_blank, passed_rows, counted_rows}
-use Rattle.mf_gf.proofs.SpelledRows.{few_blank, just_written}
+use Rattle.mf_gf.proofs.SpelledRows.{just_written}
 use Rattle.mf_gf.proofs.Writing.{write_both}
 use Rattle.mf_gf.proofs.rows.spell_equal_rows.Goals as goal
 use Rattle.mf_gf.proofs.rows.spell_equal_rows.Goals.{After-pass_equal_rows, After-pass_equal_rows-2}
+
+-- ---- the blank rows above
+
+-- there are fewer blank rows than a skip can go over
+few_blank : (blank : Option ℕ) (y : ℤ) → least_coordinate ≤ℤ y → IfSome blank (λ n. pos n ≤ℤ (last_in_field -ℤ y)) → IfSome blank (λ n. n ≤ greatest_halfword)
+few_blank None y low few = tt
+few_blank (Some n) y low few = omega (arith, ints, few, low)
+
+pub start_row-requires-clause-blank : goal.start_row-requires-clause-blank
+start_row-requires-clause-blank c = few_blank _ _ c.requires.row.least c.requires.blank
 
 -- ---- a blank row
 
@@ -34,9 +46,6 @@ returns-in_default-clause-blank c =
     omega (arith, ints, rw c.in_default.ensures.row at c.pass_equal_rows.ensures.count) in
     rw (counted_blank c.args.left _ _ _ (same after) (none after) c.args.blank, count) (search rules)
 
-pub start_row-requires-clause-blank : goal.start_row-requires-clause-blank
-start_row-requires-clause-blank c = few_blank _ _ c.requires.row.least c.requires.blank
-
 -- ---- a black row
 
 pub repeat_row-requires-clause-part : goal.repeat_row-requires-clause-part
@@ -45,7 +54,7 @@ repeat_row-requires-clause-part c =
       _,
       _,
       _,
-      just_written _ _ _ _ (c.start_row.ensures.held _ c.requires.spelling.1) (write_both c.paint.ensures.held c.put_runs.ensures.held)
+      just_written (c.start_row.ensures.held _ c.requires.spelling.1) (write_both c.paint.ensures.held c.put_runs.ensures.held)
           (c.put_runs.ensures.room ∙ c.paint.ensures.room),
     )
 
@@ -79,6 +88,6 @@ returns-clause-held c =
     let goes_on = write_both c.paint.ensures.held (rw end at c.put_runs.ensures.held) in
     rw (passed_rows c.args.left _ _ _ (alike after) _ _ (is after) c.args.blank, count)
     (λ text holds.
-    let part = just_written _ _ _ others (begins text holds) goes_on (c.put_runs.ensures.room ∙ c.paint.ensures.room) in
+    let part = just_written {part = others} (begins text holds) goes_on (c.put_runs.ensures.room ∙ c.paint.ensures.room) in
     let rows = rw offset at (c.repeat_row.ensures.rows (text ++ start) others [] (rw (c.length-start.ensures, c.length-end.ensures) part)) in
     rw (append_assoc text start others, append_assoc text (start ++ others)) at rows.held)

@@ -28,7 +28,7 @@ returns-then-not-next_row-clause-held c =
     let so_far = c.loop-rows.invariant in
     let left : to_z w32 (of_z w32 c.args.left) ≡ c.args.left = omega (arith, ints) in
     let puts = rw so_far.is_black at c.spell_equal_rows-blank.ensures.held in
-    rw left at (all_spelled _ _ _ _ _ _ _ so_far _ c.spell_equal_rows-blank.ensures.rows.order puts (c.next_row.ensures.last c.if-not-next_row.true))
+    rw left at (all_spelled so_far _ c.spell_equal_rows-blank.ensures.rows.order puts (c.next_row.ensures.last c.if-not-next_row.true))
 
 pub loop-rows-preserved : goal.loop-rows-preserved
 loop-rows-preserved c =
@@ -39,4 +39,4 @@ loop-rows-preserved c =
     let next = c.next_row.ensures in
     let yes = c.if-not-next_row.false in
     let black = next.black ∙ passed.black ∙ so_far.is_black in
-    rw (passed.blank, so_far.is_black) (more_spelled _ _ _ _ _ _ _ so_far _ passed.rows.order puts _ (next.within yes) (next.row yes) black (rw black at (next.runs yes)) passed.room)
+    rw (passed.blank, so_far.is_black) (more_spelled so_far _ passed.rows.order puts _ (next.within yes) (next.row yes) black (rw black at (next.runs yes)) passed.room)
