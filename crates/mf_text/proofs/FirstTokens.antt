@@ -29,8 +29,8 @@ module _ (old : Tokens) (column : ℕ) (text : List ℕ) (same : remaining_token
   abbrev onward : Ahead
   onward = record { tokens = tokens_from (column + bytes) (drop bytes text); past = column + bytes }
 
-  onward_is : (new : Tokens) (n : ℕ) → n ≡ bytes → new.rest.now ≡ drop n text → new.column ≡ column + n → onward ≡ ahead new
-  onward_is new n is rest column_is = rw (column_is, rest, is) refl
+  onward_is : (new : Tokens) (n : ℕ) → n ≡ bytes → new.unread.now ≡ drop n text → new.column ≡ column + n → onward ≡ ahead new
+  onward_is new n is unread column_is = rw (column_is, unread, is) refl
 
   -- a value that the token at the front has, or lacks
   module _ {A : Type 0} (f : Token → Option A) (none : f Unknown ≡ None) where
@@ -41,19 +41,19 @@ module _ (old : Tokens) (column : ℕ) (text : List ℕ) (same : remaining_token
     pub takes_no_value : f (first_token text).token ≡ None → TakesValue f old old None
     takes_no_value is = (value_at None is (first column text clear), refl)
 
-    pub takes_value : (a : A) (new : Tokens) (n : ℕ) → Finds f text (Some (a, n)) → new.rest.now ≡ drop n text → new.column ≡ column + n
+    pub takes_value : (a : A) (new : Tokens) (n : ℕ) → Finds f text (Some (a, n)) → new.unread.now ≡ drop n text → new.column ≡ column + n
         → TakesValue f old new (Some a)
-    takes_value a new n (found, size, _) rest column_is =
-        value_at (Some a) found (first column text clear) ∙ ap (λ after. Some (a, after)) (onward_is new n size rest column_is)
+    takes_value a new n (found, size, _) unread column_is =
+        value_at (Some a) found (first column text clear) ∙ ap (λ after. Some (a, after)) (onward_is new n size unread column_is)
 
   -- a token that is at the front
   module _ (u : Token) (none : this_in u Unknown ≡ None) where
-    pub takes_token : (new : Tokens) (n : ℕ) → FindsToken u text (Some n) → new.rest.now ≡ drop n text → new.column ≡ column + n → TakesToken u old new true
+    pub takes_token : (new : Tokens) (n : ℕ) → FindsToken u text (Some n) → new.unread.now ≡ drop n text → new.column ≡ column + n → TakesToken u old new true
     takes_token = takes_value (this_in u) none tt
 
-    pub leaves_fewer : (new : Tokens) (n : ℕ) → FindsToken u text (Some n) → new.rest.now ≡ drop n text → new.column ≡ column + n
+    pub leaves_fewer : (new : Tokens) (n : ℕ) → FindsToken u text (Some n) → new.unread.now ≡ drop n text → new.column ≡ column + n
         → length (remaining_tokens new) < length (remaining_tokens old)
-    leaves_fewer new n found rest column_is = next_value_fewer (this_in u) tt (remaining_tokens old) (ahead new) (takes_token new n found rest column_is)
+    leaves_fewer new n found unread column_is = next_value_fewer (this_in u) tt (remaining_tokens old) (ahead new) (takes_token new n found unread column_is)
 
 -- what the search needs where a given token is taken, or is not there
 pub ruleset takes_this = (takes_no_value, takes_token, from_or, from_or_none)

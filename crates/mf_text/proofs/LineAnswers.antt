@@ -29,8 +29,8 @@ of_value value fault is = rw is.is ((λ e. cc), λ bytes bad. bad)
 
 pub of_values : (m : Meaning) (fault : TextFault) → Refuses m fault → IsOfValues fault
 of_values (Is made) fault is = absurd is
-of_values (If value rest) fault (inl is) = of_value value fault is
-of_values (If value rest) fault (inr is) = of_values rest fault is.1
+of_values (If value after) fault (inl is) = of_value value fault is
+of_values (If value after) fault (inr is) = of_values after fault is.1
 of_values (Turns name angle) fault is = of_value (Angle angle) fault is
 
 -- ---- the answer

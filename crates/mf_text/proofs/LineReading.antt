@@ -38,10 +38,10 @@ goes_on_or_not (Some r) [] = inl (rest_ends r)
 goes_on_or_not (Some r) (t ∷ ts) = goes_on_or_not (step r t) ts
 
 is_line_prefix : (ts : List Token) → CanGoOn (Some line) ts → IsLinePrefix ts
-is_line_prefix ts on = record { rest = on.0; line = record { tree = on.1.0; spelled = read_is_line (ts ++ on.0) on.1.0 on.1.1 } }
+is_line_prefix ts on = record { further = on.0; line = record { tree = on.1.0; spelled = read_is_line (ts ++ on.0) on.1.0 on.1.1 } }
 
 prefix_goes_on : (ts : List Token) → IsLinePrefix ts → CanGoOn (Some line) ts
-prefix_goes_on ts prefix = (prefix.rest, (prefix.line.tree, line_is_read (ts ++ prefix.rest) prefix.line.tree prefix.line.spelled))
+prefix_goes_on ts prefix = (prefix.further, (prefix.line.tree, line_is_read (ts ++ prefix.further) prefix.line.tree prefix.line.spelled))
 
 pub line_prefix_or_not : (ts : List Token) → IsLinePrefix ts ⊎ (IsLinePrefix ts → ⊥)
 line_prefix_or_not ts =
@@ -110,9 +110,9 @@ minus_ends : (k column past : ℕ) (bytes : List ℕ) (ps : List PlacedToken) �
     → (ahead_after (suc k) ps past).past - 1 ≡ column_of (ahead_after k ps past).tokens (ahead_after k ps past).past
 minus_ends k column past bytes [] cut is = absurd (let no = is in cc)
 minus_ends zero column past bytes (p ∷ ps) (cut, later) is =
-    let one = mark_length mark.Minus cut.text cut.rest (subst (λ t. IsTokenText t cut.text cut.rest) is cut.token) in
+    let one = mark_length mark.Minus cut.text cut.further (subst (λ t. IsTokenText t cut.text cut.further) is cut.token) in
     omega (arith, cut.after_is, one)
-minus_ends (suc k) column past bytes (p ∷ ps) (cut, later) is = minus_ends k p.after p.after cut.rest ps later is
+minus_ends (suc k) column past bytes (p ∷ ps) (cut, later) is = minus_ends k p.after p.after cut.further ps later is
 
 module _ (bytes : List ℕ) (column : ℕ) (found : Stops line 1 (tokens bytes) column) where
   abbrev ahead : Ahead

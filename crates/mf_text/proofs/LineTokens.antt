@@ -18,9 +18,9 @@ pub record TakesSome (n : ℕ) (t : SizedToken) : Type 0 where
 pub first_takes_some : (b : ℕ) (bs : List ℕ) → TakesSome (suc (length bs)) (first_token (b ∷ bs))
 first_takes_some b bs = by_front (front (b ∷ bs)) where
   by_front : Front (b ∷ bs) → TakesSome (suc (length bs)) (first_token (b ∷ bs))
-  by_front (Text t text rest parts is) =
-      subst (TakesSome (suc (length bs))) (sym (ap first_token parts ∙ text_first t text rest is))
-      (record { some = (begins t text rest is).some; within = omega (arith, ap length parts, length-append text rest) })
+  by_front (Text t text further parts is) =
+      subst (TakesSome (suc (length bs))) (sym (ap first_token parts ∙ text_first t text further is))
+      (record { some = (begins t text further is).some; within = omega (arith, ap length parts, length-append text further) })
   by_front (Other no_letter no_digit none) =
       subst (TakesSome (suc (length bs))) (sym (unknown_first (b ∷ bs) no_letter no_digit none)) (omega arith)
 

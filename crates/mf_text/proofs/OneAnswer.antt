@@ -27,7 +27,7 @@ same_angle one other same = absurd (omega (arith, ints))
 
 one_command : (m : Meaning) (one other : Command) → Means m one → Means m other → one ≡ other
 one_command (Is made) one other p q = cc
-one_command (If value rest) one other p q = one_command rest one other p.1 q.1
+one_command (If value after) one other p q = one_command after one other p.1 q.1
 one_command (Turns name angle) one other p q = p.2 ∙ ap (command.Quarter name) (same_angle p.0 q.0 (p.1 ∙ sym q.1)) ∙ sym q.2
 
 one_fault : (value : Value) (one other : TextFault) → IsUnlawful value one → IsUnlawful value other → one ≡ other
@@ -36,16 +36,16 @@ one_fault value one other p q = p.is ∙ sym q.is
 
 one_refusal : (m : Meaning) (one other : TextFault) → Refuses m one → Refuses m other → one ≡ other
 one_refusal (Is made) one other p q = absurd p
-one_refusal (If value rest) one other (inl p) (inl q) = one_fault value one other p q
-one_refusal (If value rest) one other (inl p) (inr q) = absurd (p.unlawful q.0)
-one_refusal (If value rest) one other (inr p) (inl q) = absurd (q.unlawful p.0)
-one_refusal (If value rest) one other (inr p) (inr q) = one_refusal rest one other p.1 q.1
+one_refusal (If value after) one other (inl p) (inl q) = one_fault value one other p q
+one_refusal (If value after) one other (inl p) (inr q) = absurd (p.unlawful q.0)
+one_refusal (If value after) one other (inr p) (inl q) = absurd (q.unlawful p.0)
+one_refusal (If value after) one other (inr p) (inr q) = one_refusal after one other p.1 q.1
 one_refusal (Turns name angle) one other p q = one_fault (Angle angle) one other p q
 
 not_both : (m : Meaning) (given : Command) (fault : TextFault) → Means m given → Refuses m fault → ⊥
 not_both (Is made) given fault p q = q
-not_both (If value rest) given fault p (inl q) = q.unlawful p.0
-not_both (If value rest) given fault p (inr q) = not_both rest given fault p.1 q.1
+not_both (If value after) given fault p (inl q) = q.unlawful p.0
+not_both (If value after) given fault p (inr q) = not_both after given fault p.1 q.1
 not_both (Turns name angle) given fault p q = q.unlawful (p.0, p.1)
 
 -- ---- where tokens go wrong
@@ -74,7 +74,7 @@ wrong_is_no_line ahead column wrong line = not_wrong (without_columns ahead.toke
   not_wrong ts k wrong line =
       elim (cases_lt k (length ts)) [
         | inl inner ↦ wrong.wrong inner
-            (record { rest = drop (suc k) ts; line = record { tree = line.tree; spelled = take-append-drop (suc k) ts ∙ line.spelled } })
+            (record { further = drop (suc k) ts; line = record { tree = line.tree; spelled = take-append-drop (suc k) ts ∙ line.spelled } })
         | inr outer ↦ let within = wrong.within in wrong.unended (omega arith) line
       ]
 

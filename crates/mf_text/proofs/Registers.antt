@@ -33,7 +33,7 @@ token_letter t bs is = tt
 all_letters : (column : ℕ) (bytes : List ℕ) (ps : List PlacedToken) → AreTokens column bytes ps → AreLetters (without_columns ps)
 all_letters column bytes [] cut = tt
 all_letters column bytes (p ∷ ps) (cut, later) =
-    (token_letter p.token (cut.text ++ cut.rest) (has_text_of p.token cut.text cut.rest cut.token), all_letters p.after cut.rest ps later)
+    (token_letter p.token (cut.text ++ cut.further) (has_text_of p.token cut.text cut.further cut.token), all_letters p.after cut.further ps later)
 
 -- ---- the names of a form whose letters have numbers below 26
 
@@ -56,12 +56,12 @@ is_signed_source Minus source all = is_source source all.1.0
 -- the registers that the command of a meaning names are letters
 abbrev AreNamed : Meaning → Type 0
 AreNamed (Is made) = HasNames made
-AreNamed (If value rest) = AreNamed rest
+AreNamed (If value after) = AreNamed after
 AreNamed (Turns name angle) = IsName name
 
 names_of_meaning : (m : Meaning) (given : Command) → AreNamed m → Means m given → HasNames given
 names_of_meaning (Is made) given all p = rw p all
-names_of_meaning (If value rest) given all p = names_of_meaning rest given all p.1
+names_of_meaning (If value after) given all p = names_of_meaning after given all p.1
 names_of_meaning (Turns name angle) given all p = rw p.2 all
 
 form_names : (form : Form) → AreLetters (spell_form form) → AreNamed (meaning form)

@@ -209,7 +209,7 @@ line_to l = form_to l.form l.ended
 
 -- where they must be this rest, these tokens and some others are read as a line
 abbrev pub CanGoOn : Option Rest → List Token → Type 0
-CanGoOn r ts = (rest : List Token) × ((tree : Line) × (reads r (ts ++ rest) ≡ Some tree))
+CanGoOn r ts = (further : List Token) × ((tree : Line) × (reads r (ts ++ further) ≡ Some tree))
 
 -- some token is of a kind
 some_value : (k : Kind) → (t : Token) × ((a : Of k) × (value k t ≡ Some a))

@@ -89,10 +89,10 @@ lawful_or_not (Angle angle) = or_refused (Angle angle) faults.BadTurn refl (turn
 abbrev MeansSomething : Meaning → Type 0
 MeansSomething m = ((given : Command) × Means m given) ⊎ ((fault : TextFault) × Refuses m fault)
 
-if_means_something : (value : Value) (rest : Meaning) → IsChecked value → MeansSomething rest → MeansSomething (If value rest)
-if_means_something value rest (inl lawful) (inl (given, is)) = inl (given, (lawful, is))
-if_means_something value rest (inl lawful) (inr (fault, is)) = inr (fault, inr (lawful, is))
-if_means_something value rest (inr (fault, is)) later = inr (fault, inl is)
+if_means_something : (value : Value) (after : Meaning) → IsChecked value → MeansSomething after → MeansSomething (If value after)
+if_means_something value after (inl lawful) (inl (given, is)) = inl (given, (lawful, is))
+if_means_something value after (inl lawful) (inr (fault, is)) = inr (fault, inr (lawful, is))
+if_means_something value after (inr (fault, is)) later = inr (fault, inl is)
 
 turn_means_something : (name : Name) (angle : ℤ) → IsChecked (Angle angle) → MeansSomething (Turns name angle)
 turn_means_something name angle (inl (quarter, is)) = inl (command.Quarter name quarter, (quarter, is, refl))
@@ -100,7 +100,7 @@ turn_means_something name angle (inr refused) = inr refused
 
 means_something : (m : Meaning) → MeansSomething m
 means_something (Is made) = inl (made, refl)
-means_something (If value rest) = if_means_something value rest (lawful_or_not value) (means_something rest)
+means_something (If value after) = if_means_something value after (lawful_or_not value) (means_something after)
 means_something (Turns name angle) = turn_means_something name angle (lawful_or_not (Angle angle))
 
 -- ---- lines have an answer

@@ -102,13 +102,13 @@ pub record IsUnlawful (value : Value) (refused : TextFault) : Type 0 where
 -- all checks of the meaning pass, and this is its command
 abbrev pub Means : Meaning → Command → Type 0
 Means (Is made) given = given ≡ made
-Means (If value rest) given = IsLawfulValue value × Means rest given
+Means (If value after) given = IsLawfulValue value × Means after given
 Means (Turns name angle) given = (quarter : TurnCount) × (degrees quarter ≡ angle) × (given ≡ command.Quarter name quarter)
 
 -- this is the refusal of the first value of the meaning that is not lawful
 abbrev pub Refuses : Meaning → TextFault → Type 0
 Refuses (Is made) refused = ⊥
-Refuses (If value rest) refused = IsUnlawful value refused ⊎ (IsLawfulValue value × Refuses rest refused)
+Refuses (If value after) refused = IsUnlawful value refused ⊎ (IsLawfulValue value × Refuses after refused)
 Refuses (Turns name angle) refused = IsUnlawful (Angle angle) refused
 
 -- the form may be answered with `OutOfMemory`: it is that of a contour of no more points than a cycle may have

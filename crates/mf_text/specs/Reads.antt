@@ -14,7 +14,7 @@ use Rattle.mf_text.specs.Tokens.{tokens_from}
 
 -- the tokens of a line that remain to be read
 abbrev pub remaining_tokens : Tokens → List PlacedToken
-remaining_tokens t = tokens_from t.column t.rest.now
+remaining_tokens t = tokens_from t.column t.unread.now
 
 -- what is ahead of the reader: the tokens that remain, and the column one past the token before them
 abbrev pub ahead : Tokens → Ahead
@@ -57,8 +57,8 @@ then_value this other after None = from other after
 abbrev pub PassesPhrase : {A : Type 0} → ((A → Rest) → Rest) → Tokens → Tokens → Result A SyntaxFault → Type 0
 PassesPhrase {A} phrase before after result = (next : A → Rest) → from (phrase next) (ahead before) ≡ then_from next (ahead after) result
 
--- a path has these points: they are counted, up to one more than a cycle may have; where they are no more than a cycle may
--- have and no allocation failed, they are kept
+-- a path has these points. The number of its corners is theirs where it is at most what a cycle may have; a greater number says only
+-- that they are more than that. Where they are not, and no allocation failed, they are kept
 pub record HasPoints (path : paths.Path) (points : List Point) : Type 0 where
   pub few : path.corners ≤ most_points → path.corners ≡ length points
   pub many : most_points < path.corners → most_points < length points

@@ -12,7 +12,8 @@ unfoldable pub use Rattle.mf_text.specs.Ints.{int_of, is_code, where_true}
 pub use Rattle.mf_text.specs.Token.{Ahead, Token, PlacedToken, name_in, this_in, value_in}
 use Rattle.mf_text.specs.Token as token
 
--- a kind of tokens: this token, names, or the numbers of ints or of codes, which are negative where this is true
+-- a kind of tokens: this token; names; numbers of at most nine digits; or those numbers of which the int is a code. Where the flag of a
+-- kind of numbers is true, `-` came before the number, and so belongs to its int
 pub data Kind : Type 0 where
   This : Token → Kind
   Names : Kind
@@ -181,15 +182,16 @@ ends r = None
 
 -- ---- a line, or the column at which it goes wrong
 
--- the token is the number of a code after its `-`
+-- the token is a number, be it a code or not, where the number of a code may come after its `-`
 abbrev pub is_code_number : Rest → Token → Bool
 is_code_number (CodeNumber next) (token.Number n) = true
 is_code_number (Or u this other) t = is_code_number other t
 is_code_number (OrTake k next other) t = is_code_number other t
 is_code_number r t = false
 
--- what the tokens give where they must be this rest: a line, or the column at which they go wrong; the token before them ends before
--- column `past`. A token that may not come is reported at its own column, but a number after `code -` at the `-`, which is the byte before column `past`
+-- what the tokens give where they must be this rest: a line, or the column at which they go wrong. The byte before column `past` is the
+-- last one of the token before them. An end that comes too early is reported at `past`, and a token that may not come at its own column,
+-- but a number after `code` and `-` at the `-`
 unfoldable pub follow : Result Rest ℕ → ℕ → List PlacedToken → Result Line ℕ
 follow (Err column) past ps = Err column
 follow (Ok rest) past [] = ok_or (ends rest) past

@@ -14,8 +14,8 @@ pub record IsLine (ts : List Token) : Type 0 where
 
 -- the tokens are a prefix of some line of the grammar
 pub record IsLinePrefix (ts : List Token) : Type 0 where
-  pub rest : List Token
-  pub line : IsLine (ts ++ rest)
+  pub further : List Token
+  pub line : IsLine (ts ++ further)
 
 -- the tokens go wrong at place k, counted from 0: those before it are a prefix of some line, and those up to and including it of none;
 -- or at their end, where they are a prefix of some line but no line themselves

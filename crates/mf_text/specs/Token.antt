@@ -32,7 +32,7 @@ pub record PlacedToken : Type 0 where
   pub column : ℕ
   pub after : ℕ
 
--- no further value where a token is this one, and none at all where it is another
+-- that a token is this one: a value that says no more than that, or none where the token is another
 abbrev pub this_in : Token → Token → Option (Unit {0})
 this_in u t = if is_token t u then Some tt else None
 

@@ -95,12 +95,12 @@ abbrev pub is_letter : List ℕ → Bool
 is_letter (b ∷ []) = nat_le letter_a b && nat_le b letter_z
 is_letter bs = false
 
--- the token whose text is this longest row of letters: a letter by its number, 0 for `a`, a word, or else a token that no command has
+-- the token whose text is this longest sequence of letters: a letter by its number, 0 for `a`, a word, or else a token that no command has
 unfoldable pub word_token : List ℕ → Token
 word_token letters =
     if is_letter letters then token.Letter (get_or letters 0 0 - letter_a) else option_map_or token.Word (word_among words letters) token.Unknown
 
--- the token whose text is this longest row of digits: a number, which has at most nine of them, or else a token that no command has
+-- the token whose text is this longest sequence of digits: a number, which has at most nine of them, or else a token that no command has
 unfoldable pub number_token : List ℕ → Token
 number_token digits = if nat_le (length digits) most_digits then token.Number (digits_value 10 digits) else token.Unknown
 

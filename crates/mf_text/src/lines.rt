@@ -137,7 +137,8 @@ fn cull(tokens: &mut Tokens<'_>) -> Result<Command, TextFault>
 
 /// The line after `cull`, a name and `keeping`.
 fn keep(tokens: &mut Tokens<'_>, name: Name) -> Result<Command, TextFault>
-    ensures { AnswersLine (from (rests.range_then_end (CullKeeping name)) (ahead tokens.old)) result }
+    ensures { AnswersLine (from (rests.range_then_end (CullKeeping name)) (ahead tokens.old))
+        result }
 {
     let range = tokens.pair()?;
     let weight = tokens.weight()?;
@@ -147,7 +148,8 @@ fn keep(tokens: &mut Tokens<'_>, name: Name) -> Result<Command, TextFault>
 
 /// The line after `cull`, a name and `dropping`.
 fn drop_range(tokens: &mut Tokens<'_>, name: Name) -> Result<Command, TextFault>
-    ensures { AnswersLine (from (rests.range_then_end (CullDropping name)) (ahead tokens.old)) result }
+    ensures { AnswersLine (from (rests.range_then_end (CullDropping name)) (ahead tokens.old))
+        result }
 {
     let range = tokens.pair()?;
     let weight = tokens.weight()?;
@@ -268,7 +270,8 @@ fn scale_or_turn(tokens: &mut Tokens<'_>, name: Name) -> Result<Command, TextFau
 
 /// The line after a name, `:=`, the same name and `scaled`.
 fn scale_both(tokens: &mut Tokens<'_>, name: Name) -> Result<Command, TextFault>
-    ensures { AnswersLine (from (rests.int_then_end (λ n. Move name (Scaled n))) (ahead tokens.old))
+    ensures { AnswersLine
+        (from (rests.int_then_end (λ n. Move name (Scaled n))) (ahead tokens.old))
         result }
 {
     let factor = tokens.int()?;
@@ -278,7 +281,8 @@ fn scale_both(tokens: &mut Tokens<'_>, name: Name) -> Result<Command, TextFault>
 
 /// The line after a name, `:=`, the same name and `xscaled`.
 fn scale_columns(tokens: &mut Tokens<'_>, name: Name) -> Result<Command, TextFault>
-    ensures { AnswersLine (from (rests.int_then_end (λ n. Move name (XScaled n))) (ahead tokens.old))
+    ensures { AnswersLine
+        (from (rests.int_then_end (λ n. Move name (XScaled n))) (ahead tokens.old))
         result }
 {
     let factor = tokens.int()?;
@@ -288,7 +292,8 @@ fn scale_columns(tokens: &mut Tokens<'_>, name: Name) -> Result<Command, TextFau
 
 /// The line after a name, `:=`, the same name and `yscaled`.
 fn scale_rows(tokens: &mut Tokens<'_>, name: Name) -> Result<Command, TextFault>
-    ensures { AnswersLine (from (rests.int_then_end (λ n. Move name (YScaled n))) (ahead tokens.old))
+    ensures { AnswersLine
+        (from (rests.int_then_end (λ n. Move name (YScaled n))) (ahead tokens.old))
         result }
 {
     let factor = tokens.int()?;
@@ -298,7 +303,8 @@ fn scale_rows(tokens: &mut Tokens<'_>, name: Name) -> Result<Command, TextFault>
 
 /// The line after a name, `:=`, the same name and `rotated`.
 fn turn(tokens: &mut Tokens<'_>, name: Name) -> Result<Command, TextFault>
-    ensures { AnswersLine (from (rests.int_then_end (λ n. Move name (Rotated n))) (ahead tokens.old))
+    ensures { AnswersLine
+        (from (rests.int_then_end (λ n. Move name (Rotated n))) (ahead tokens.old))
         result }
 {
     let angle = tokens.int()?;

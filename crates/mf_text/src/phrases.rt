@@ -214,21 +214,21 @@ impl Tokens<'_> {
     }
 
     /// Passes a path, and keeps its points. Where there is no memory for one of them, it still passes the rest of the path, so
-    /// that `OutOfMemory` never comes instead of `Syntax`. In a function of its own, the place in the line stays in registers.
+    /// that `OutOfMemory` never comes instead of `Syntax`. In a function of its own, `Tokens` stays in the processor's registers.
     #[inline(never)]
     pub fn path(&mut self, alloc: Global) -> Result<Path, SyntaxFault>
         ensures { PassesPath self.old self.new result }
     {
-        let mut rest = *self;
-        rest.pass_mark(Mark::Open)?;
+        let mut tokens = *self;
+        tokens.pass_mark(Mark::Open)?;
         let mut path = Path::new(alloc);
         'corners: loop {
-            path.push(rest.rest_of_corner()?.value());
-            if !rest.takes_mark(Mark::Open) {
+            path.push(tokens.rest_of_corner()?.value());
+            if !tokens.takes_mark(Mark::Open) {
                 break;
             }
         }
-        *self = rest;
+        *self = tokens;
         self.pass_word(Word::Cycle)?;
         Ok(path)
     }

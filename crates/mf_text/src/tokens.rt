@@ -16,11 +16,11 @@ use front::{blanks_at, letter_at, mark_at, number_at, word_at};
 /// they fit 32 bits.
 #[derive(Clone, Copy)]
 pub struct Tokens<'a> {
-    /// The bytes that are left.
-    pub(crate) rest: &'a [u8],
+    /// The bytes that are not read yet.
+    pub(crate) unread: &'a [u8],
     /// The column of the first of these bytes, from 1.
     pub(crate) column: u32,
-    ghost short: { length rest.now + column < 2 ^ 32 },
+    ghost short: { length unread.now + column < 2 ^ 32 },
     ghost counted: { 0 < column },
 }
 
@@ -38,7 +38,7 @@ impl<'a> Tokens<'a> {
         ensures column { result.column ≡ 1 }
     {
         Tokens {
-            rest: line,
+            unread: line,
             column: 1,
         }
     }
@@ -48,11 +48,11 @@ impl<'a> Tokens<'a> {
     #[tactic(auto, using(crate::proofs::LineTokens::tokens_at_blank))]
     fn skip_blanks(&mut self)
         ensures same { remaining_tokens self.new ≡ remaining_tokens self.old }
-        ensures clear { IsClear self.new.rest.now }
+        ensures clear { IsClear self.new.unread.now }
     {
-        while let [b' ' | b'\t', after @ ..] = self.rest {
+        while let [b' ' | b'\t', after @ ..] = self.unread {
             *self = Tokens {
-                rest: after,
+                unread: after,
                 column: self.column + 1,
             };
         }
@@ -63,22 +63,22 @@ impl<'a> Tokens<'a> {
     #[inline(always)]
     fn skip_rare_blanks(&mut self)
         ensures same { remaining_tokens self.new ≡ remaining_tokens self.old }
-        ensures clear { IsClear self.new.rest.now }
+        ensures clear { IsClear self.new.unread.now }
     {
-        if let [b' ' | b'\t', ..] = self.rest {
-            *self = self.after(blanks_at(self.rest));
+        if let [b' ' | b'\t', ..] = self.unread {
+            *self = self.after(blanks_at(self.unread));
         }
     }
 
     /// What is left after this many bytes. Requires that many to be left.
     #[inline(always)]
     fn after(self, bytes: usize) -> Tokens<'a>
-        requires { bytes ≤ length self.rest.now }
-        ensures rest { result.rest.now ≡ drop bytes self.entry.rest.now }
+        requires { bytes ≤ length self.unread.now }
+        ensures unread { result.unread.now ≡ drop bytes self.entry.unread.now }
         ensures column { result.column ≡ self.entry.column + bytes }
     {
         Tokens {
-            rest: &self.rest[bytes..],
+            unread: &self.unread[bytes..],
             column: self.column + bytes as u32,
         }
     }
@@ -94,7 +94,7 @@ impl<'a> Tokens<'a> {
     {
         let mut start = *self;
         start.skip_blanks();
-        match word_at(word, start.rest) {
+        match word_at(word, start.unread) {
             Some(bytes) => {
                 *self = start.after(bytes);
                 true
@@ -118,7 +118,7 @@ impl<'a> Tokens<'a> {
     {
         let mut start = *self;
         start.skip_rare_blanks();
-        match mark_at(mark, start.rest) {
+        match mark_at(mark, start.unread) {
             Some(bytes) => {
                 *self = start.after(bytes);
                 true
@@ -135,7 +135,7 @@ impl<'a> Tokens<'a> {
     {
         let mut start = *self;
         start.skip_blanks();
-        let (letter, bytes) = letter_at(start.rest)?;
+        let (letter, bytes) = letter_at(start.unread)?;
         *self = start.after(bytes);
         Some(letter)
     }
@@ -148,7 +148,7 @@ impl<'a> Tokens<'a> {
     {
         let mut start = *self;
         start.skip_rare_blanks();
-        let (value, bytes) = number_at(start.rest)?;
+        let (value, bytes) = number_at(start.unread)?;
         *self = start.after(bytes);
         Some(value)
     }
@@ -168,13 +168,13 @@ impl<'a> Tokens<'a> {
     #[inline(always)]
     #[tactic(auto, using(crate::proofs::LineTokens::tokens_at_end, crate::proofs::LineTokens::tokens_at_comment, crate::proofs::LineTokens::tokens_at_token))]
     fn is_at_end(&self) -> bool
-        requires { IsClear self.now.rest.now }
+        requires { IsClear self.now.unread.now }
         ensures ended { result ≡ true → remaining_tokens self.now ≡ [] }
         ensures more { result ≡ false → remaining_tokens self.now ≢ [] }
         ensures column { result ≡ false → (past : ℕ)
             → column_of (remaining_tokens self.now) past ≡ self.now.column }
     {
-        match self.rest {
+        match self.unread {
             [] => true,
             [byte, ..] => *byte == b'%',
         }
@@ -186,12 +186,12 @@ impl<'a> Tokens<'a> {
     pub fn fault(self) -> SyntaxFault
         ensures { result.column ≡ column_of (remaining_tokens self.entry) self.entry.column }
     {
-        fault_at(self.rest, self.column)
+        fault_at(self.unread, self.column)
     }
 }
 
 /// The fault of a line that cannot go on where these bytes are left, the first of which has this column. It takes no `Tokens`:
-/// the reader would have to keep them in memory for a call, and not in registers.
+/// the reader would have to keep them in memory for a call, and not in the processor's registers.
 #[cold]
 #[inline(never)]
 fn fault_at(text: &[u8], column: u32) -> SyntaxFault
@@ -199,7 +199,10 @@ fn fault_at(text: &[u8], column: u32) -> SyntaxFault
     requires counted { 0 < column }
     ensures { result.column ≡ column_of (tokens_from column text.now) column }
 {
-    let mut start = Tokens { rest: text, column };
+    let mut start = Tokens {
+        unread: text,
+        column,
+    };
     start.skip_blanks();
     if start.is_at_end() {
         return SyntaxFault { column };

@@ -23,7 +23,7 @@ ends-all is_so zero (suc from) all touch = absurd (omega (arith, touch))
 ends-all is_so (suc size) (suc from) [] touch = refl
 ends-all is_so (suc size) (suc from) (x ∷ all) touch =
     and_assoc (is_so x) (list_all is_so (take size all)) (list_all is_so (drop from all))
-    ∙ ap (λ rest. is_so x && rest) (ends-all is_so size from all (omega (arith, touch)))
+    ∙ ap (λ others. is_so x && others) (ends-all is_so size from all (omega (arith, touch)))
 
 pub returns : goal.returns
 returns g = grind (arith, ints, take_rest g.args.line.now (length g.args.line.now - g.args.size), ends-all)

@@ -4,7 +4,7 @@ use Rattle.mf_text.proofs.Reading.{IsInPath}
 use Rattle.mf_text.proofs.tokens.Tokens.path.Given as goal
 
 abbrev pub invariant-corners : goal.invariant-corners
-invariant-corners l = IsInPath l.fn.self l.rest l.path
+invariant-corners l = IsInPath l.fn.self l.tokens l.path
 
 abbrev pub decreases-corners : goal.decreases-corners
-decreases-corners l = length (remaining_tokens l.rest)
+decreases-corners l = length (remaining_tokens l.tokens)

@@ -6,4 +6,4 @@ abbrev pub invariant-loop-self : goal.invariant-loop-self
 invariant-loop-self l = remaining_tokens l.self ≡ remaining_tokens l.fn.self
 
 abbrev pub decreases-loop-self : goal.decreases-loop-self
-decreases-loop-self l = length l.self.rest.now
+decreases-loop-self l = length l.self.unread.now
