@@ -1,30 +1,19 @@
 -- Walks over the weights of a picture.
-use Rattle.std.proofs.Common.{◌≡◌, ℕ, zero, suc, ◌<◌, ℤ, pos, ◌+ℤ◌, ◌-ℤ◌, ◌≤ℤ◌, ◌<ℤ◌, Option, None, Some}
-use Rattle.std.proofs.Common.{MatchOption, List, [], ◌∷◌, length, refl, sym, subst, arith}
+use Rattle.std.proofs.Common.{◌≡◌, ℕ, zero, suc, ◌<◌, ℤ, pos, ◌+ℤ◌, ◌-ℤ◌, ◌≤ℤ◌, Option, None, Some}
+use Rattle.std.proofs.Common.{MatchOption, List, [], ◌∷◌, length, refl, subst, arith}
 use Rattle.std.specs.List.{flat_map}
 use Rattle.std.proofs.lemmas.Int.{ints}
-use Rattle.std.proofs.lemmas.List.Elements.{All-nil}
 use Rattle.mf_rows.specs.declared.bounds.Box4.{Box4}
 use Rattle.mf_rows.specs.declared.run.Run.{Run}
 use Rattle.mf_rows.specs.Boxes.{IsBoxOfField}
 use Rattle.mf_rows.specs.Dots.{Dot, IsPicture, place, weight_at}
 use Rattle.mf_rows.specs.Order.{AreRuns, IsRun}
 use Rattle.mf_rows.specs.Runs.{dots_of, runs_of, with_next}
-use Rattle.mf_rows.proofs.RunDots.{IsOnRun, before_equal_dots-end, runs-rest}
-use Rattle.mf_rows.proofs.RunDots.{weight_at-on_run, weight_at-off_run, weight_at-append_after}
+use Rattle.mf_rows.proofs.RunDots.{before_equal_dots-end, runs-rest, weight_at-append_after}
 use Rattle.mf_rows.proofs.RunsLemmas.{dots_of-runs_of, with_next-some}
 use Rattle.mf_rows.proofs.PassedRuns.{ordered_runs_of}
 use Rattle.mf_text_show.specs.Grid.{shown_at, shown_row}
 use Rattle.mf_text_show.specs.RunsAhead.{AreSameFrom}
-
--- ---- the weight that a run gives to a pixel
-
-pub weight_on : (r : Run) (x y : ℤ) → IsRun r → IsOnRun r x y → r.weight ≡ weight_at (dots_of r) x y
-weight_on r x y run on = sym (weight_at-on_run [] r x y (record { run = run; before = All-nil (λ d. place d.x d.y <ℤ place r.x r.y) }) on)
-
-pub weight_off : (r : Run) (x y : ℤ) → (IsOnRun r x y → ⊥) → pos 0 ≡ weight_at (dots_of r) x y
-unfolding weight_at
-weight_off r x y off = sym (weight_at-off_run [] r x y off)
 
 -- ---- the runs ahead
 
@@ -62,10 +51,10 @@ next_taken : (o : Option Run) (rs others : List Run) → MatchOption o ((rs ≡ 
 next_taken None rs others none = none.0
 next_taken (Some r) rs others first = first
 
-pub one_more_passed : (low : ℤ) (ds : List Dot) (o p : Option Run) (r : Run) (rs others : List Run) → o ≡ Some r
+pub one_more_passed : {low : ℤ} {ds : List Dot} {o : Option Run} {r : Run} (p : Option Run) (rs others : List Run) → o ≡ Some r
     → place (r.x +ℤ pos r.len) r.y ≤ℤ low → MatchOption p ((rs ≡ []) × (others ≡ [])) (λ s. rs ≡ s ∷ others)
     → AreAhead low ds (with_next o rs) → AreAhead low ds (with_next p others)
-one_more_passed low ds o p r rs others some end next so_far =
+one_more_passed {low} {ds} {o} {r} p rs others some end next so_far =
     let all = subst (AreAhead low ds) (with_next-some o r rs some) so_far in
     grind (arith, ints, ahead_later, runs-rest r rs all.order, same_after r rs low end, next_taken)
 
@@ -76,36 +65,36 @@ fewer_ahead o p r rs others some next = rw (← next_taken p rs others next, wit
 -- ---- pixels in reading order
 
 -- the pixel from which runs are ahead has the weight that these give to it
-pub weight_ahead : (x y : ℤ) (ds : List Dot) (rs : List Run) → AreAhead (place x y) ds rs → weight_at (flat_map dots_of rs) x y ≡ weight_at ds x y
-weight_ahead x y ds rs so_far = so_far.same.same x y (omega (arith, ints))
+pub weight_ahead : (x y : ℤ) {ds : List Dot} {rs : List Run} → AreAhead (place x y) ds rs → weight_at (flat_map dots_of rs) x y ≡ weight_at ds x y
+weight_ahead x y so_far = so_far.same.same x y (omega (arith, ints))
 
 -- so has each of n pixels of its row
-pub row_ahead : (show : ℤ → ℕ) (ds es : List Dot) (y x : ℤ) (n : ℕ) → AreSameFrom (place x y) ds es
+pub row_ahead : (show : ℤ → ℕ) {ds es : List Dot} (y x : ℤ) (n : ℕ) → AreSameFrom (place x y) ds es
     → shown_row (shown_at show es y) x n ≡ shown_row (shown_at show ds y) x n
 unfolding shown_row place
-row_ahead show ds es y x zero same = refl
-row_ahead show ds es y x (suc n) same =
+row_ahead show y x zero same = refl
+row_ahead show {ds} {es} y x (suc n) same =
     let weight : weight_at es x y ≡ weight_at ds x y = same.same x y (omega (arith, ints)) in
-    let others = row_ahead show ds es y (x +ℤ pos 1) n (record { same = λ u v from. same.same u v (omega (arith, ints)) }) in
-    rw (weight, others) refl
+    let right : AreSameFrom (place (x +ℤ pos 1) y) ds es = record { same = λ u v from. same.same u v (omega (arith, ints)) } in
+    rw (weight, row_ahead show y (x +ℤ pos 1) n right) refl
 
-pub ahead_right : (x y : ℤ) (ds : List Dot) (rs others : List Run) → AreRuns others
+pub ahead_right : (x y : ℤ) {ds : List Dot} {rs others : List Run} → AreRuns others
     → AreSameFrom (place x y) (flat_map dots_of rs) (flat_map dots_of others) → AreAhead (place x y) ds rs → AreAhead (place (x +ℤ pos 1) y) ds others
 unfolding place
-ahead_right x y ds rs others = ahead_later (place x y) (place x y) (place (x +ℤ pos 1) y) ds rs others (omega (arith, ints)) (omega (arith, ints))
+ahead_right x y {ds} {rs} {others} = ahead_later (place x y) (place x y) (place (x +ℤ pos 1) y) ds rs others (omega (arith, ints)) (omega (arith, ints))
 
-pub ahead_below : (b : Box4) (y : ℤ) (ds : List Dot) (rs others : List Run) → IsBoxOfField b → AreRuns others
+pub ahead_below : {b : Box4} (y : ℤ) {ds : List Dot} {rs others : List Run} → IsBoxOfField b → AreRuns others
     → AreSameFrom (place (b.max_x +ℤ pos 1) y) (flat_map dots_of rs) (flat_map dots_of others) → AreAhead (place b.min_x y) ds rs
     → AreAhead (place b.min_x (y -ℤ pos 1)) ds others
 unfolding place
-ahead_below b y ds rs others box =
+ahead_below {b} y {ds} {rs} {others} box =
     ahead_later (place b.min_x y) (place (b.max_x +ℤ pos 1) y) (place b.min_x (y -ℤ pos 1)) ds rs others
     (omega (arith, ints)) (omega (arith, ints, box.left, box.right))
 
 -- ---- the weight of the pixel (x, y), where no run is ahead
 
-pub weight_of_none : (x y : ℤ) (all : List Run) (o : Option Run) (rs : List Run) → o ≡ None
-    → AreSameFrom (place x y) (flat_map dots_of all) (flat_map dots_of (with_next o rs)) → pos 0 ≡ weight_at (flat_map dots_of all) x y
+pub weight_of_none : (x y : ℤ) {ds : List Dot} {o : Option Run} (rs : List Run) → o ≡ None
+    → AreSameFrom (place x y) ds (flat_map dots_of (with_next o rs)) → pos 0 ≡ weight_at ds x y
 unfolding weight_at
-weight_of_none x y all None rs none so_far = so_far.same x y (omega (arith, ints))
-weight_of_none x y all (Some r) rs none so_far = absurd cc
+weight_of_none x y {o = None} rs none so_far = so_far.same x y (omega (arith, ints))
+weight_of_none x y {o = Some r} rs none so_far = absurd cc

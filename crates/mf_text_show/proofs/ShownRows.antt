@@ -37,10 +37,10 @@ pub record IsRowSoFar (r : ShownRow) (x : ℤ) (text : List ℕ) : Type 0 where
 pub row_none : (r : ShownRow) → r.first ≤ℤ r.last → IsRowSoFar r r.first r.old
 row_none r columns = record { left = omega (arith, ints); right = omega (arith, ints); row = refl }
 
-pub row_more : (r : ShownRow) (x : ℤ) (text new : List ℕ) (k : ℕ) → x ≤ℤ r.last → new ≡ text ++ k ∷ [] → k ≡ r.show x
+pub row_more : {r : ShownRow} {x : ℤ} {text new : List ℕ} {k : ℕ} → x ≤ℤ r.last → new ≡ text ++ k ∷ [] → k ≡ r.show x
     → IsRowSoFar r x text → IsRowSoFar r (x +ℤ pos 1) new
 unfolding shown_row
-row_more r x text new k column pushed shown so_far = record {
+row_more {r} {x} {text} {new} column pushed shown so_far = record {
   left = omega (arith, ints, so_far.left);
   right = omega (arith, ints);
   row = piece_more text (r.show x ∷ []) _ _ new _ (rw shown at pushed) (ap (shown_row r.show x) (extent-next x r.last column)) so_far.row;
@@ -72,11 +72,11 @@ pub record IsBoxSoFar (s : ShownBox) (y : ℤ) (text : List ℕ) : Type 0 where
 pub box_none : (s : ShownBox) (y : ℤ) (text : List ℕ) → IsBoxOfField s.bounds → y ≡ s.bounds.max_y → text ≡ s.head → IsBoxSoFar s y text
 box_none s y text box start begun = record { bottom = omega (arith, ints, box.rows); top = omega (arith, ints); rows = rw (start, begun) refl }
 
-pub box_more : (s : ShownBox) (y : ℤ) (text new : List ℕ) → s.bounds.min_y ≤ℤ y
+pub box_more : {s : ShownBox} {y : ℤ} {text new : List ℕ} → s.bounds.min_y ≤ℤ y
     → new ≡ text ++ shown_row (s.show y) s.bounds.min_x (extent s.bounds.min_x s.bounds.max_x) ++ s.end
     → IsBoxSoFar s y text → IsBoxSoFar s (y -ℤ pos 1) new
 unfolding shown_rows
-box_more s y text new row pushed so_far = grind (arith, ints, piece_more, append_assoc, extent-lower)
+box_more row pushed so_far = grind (arith, ints, piece_more, append_assoc, extent-lower)
 
 pub box_all : (s : ShownBox) (y : ℤ) (text : List ℕ) → y +ℤ pos 1 ≡ s.bounds.min_y → IsBoxSoFar s y text
     → text ≡ s.head ++ shown_box s.show s.end s.bounds

@@ -1,5 +1,5 @@
 -- The lines of a picture's runs, written one after another.
-use Rattle.std.proofs.Common.{◌≡◌, ℕ, List, [], ◌∷◌, ◌++◌, length, refl, sym, ap, ◌∙◌, length-append, arith}
+use Rattle.std.proofs.Common.{◌≡◌, ℕ, List, [], ◌∷◌, ◌++◌, refl, sym, ap}
 use Rattle.std.specs.List.{All, flat_map}
 use Rattle.std.proofs.lemmas.List.Elements.{All-head, All-rest, All-same}
 use Rattle.mf_rows.specs.declared.run.Run.{Run}
@@ -7,7 +7,6 @@ use Rattle.mf_rows.specs.Dots.{Dot, IsPicture}
 use Rattle.mf_rows.specs.Order.{IsRun}
 use Rattle.mf_rows.specs.Runs.{runs_of}
 use Rattle.mf_rows.proofs.PassedRuns.{runs_are_lawful}
-use Rattle.mf_text_show.specs.RunText.{run_line, run_text}
 use Rattle.mf_text_show.proofs.Pieces.{piece_more, pieces_all}
 
 -- with the texts of the last runs, rs, the text so far is whole
@@ -15,33 +14,19 @@ pub record AreWritten (line : Run → List ℕ) (whole : List ℕ) (rs : List Ru
   pub runs : All IsRun rs
   pub lines : text ++ flat_map line rs ≡ whole
 
-pub none_written : (line : Run → List ℕ) (ds : List Dot) (rs : List Run) (old : List ℕ) → IsPicture ds → rs ≡ runs_of ds
+pub none_written : (line : Run → List ℕ) {ds : List Dot} {rs : List Run} {old : List ℕ} → IsPicture ds → rs ≡ runs_of ds
     → AreWritten line (old ++ flat_map line (runs_of ds)) rs old
-none_written line ds rs old picture all = record { runs = runs_are_lawful ds rs picture all; lines = rw all refl }
+none_written line {ds} {rs} picture all = record { runs = runs_are_lawful ds rs picture all; lines = rw all refl }
 
 pub first_is_lawful : (rs : List Run) (r : Run) (others : List Run) → rs ≡ r ∷ others → All IsRun rs → IsRun r
 first_is_lawful rs r others first runs = All-head IsRun r others (All-same IsRun (r ∷ others) rs (sym first) runs)
 
-pub one_more_written : (line : Run → List ℕ) (whole : List ℕ) (rs : List Run) (r : Run) (others : List Run) (text new : List ℕ) → rs ≡ r ∷ others
+pub one_more_written : (line : Run → List ℕ) {whole : List ℕ} {rs : List Run} {r : Run} {others : List Run} {text new : List ℕ} → rs ≡ r ∷ others
     → new ≡ text ++ line r → AreWritten line whole rs text → AreWritten line whole others new
-one_more_written line whole rs r others text new first written so_far = record {
+one_more_written line {whole} {rs} {r} {others} {text} {new} first written so_far = record {
   runs = All-rest IsRun r others rs first so_far.runs;
   lines = piece_more text (line r) _ _ new whole written (ap (flat_map line) first) so_far.lines;
 }
 
-pub all_written : (line : Run → List ℕ) (whole : List ℕ) (rs : List Run) (text : List ℕ) → rs ≡ [] → AreWritten line whole rs text → text ≡ whole
-all_written line whole rs text none so_far = pieces_all text _ whole (ap (flat_map line) none) so_far.lines
-
--- ---- the run text
-
--- a line is not empty, so the text is empty only where there is no run
-pub some_written : (rs : List Run) → flat_map run_line rs ≡ [] → rs ≡ []
-some_written [] empty = refl
-some_written (r ∷ rs) empty = absurd (omega (arith, simp length-append at (ap length empty)))
-
-run_text-some : (rs : List Run) (ds : List Dot) → runs_of ds ≡ rs → (rs ≡ [] → ⊥) → run_text ds ≡ flat_map run_line (runs_of ds)
-run_text-some [] ds same some = absurd (some refl)
-run_text-some (r ∷ rs) ds same some = rw same refl
-
-pub lines_text : (ds : List Dot) (text : List ℕ) → text ≡ flat_map run_line (runs_of ds) → (text ≡ [] → ⊥) → text ≡ run_text ds
-lines_text ds text lines some = lines ∙ sym (run_text-some (runs_of ds) ds refl (λ blank. some (lines ∙ ap (λ all. flat_map run_line all) blank)))
+pub all_written : {line : Run → List ℕ} {whole : List ℕ} {rs : List Run} {text : List ℕ} → rs ≡ [] → AreWritten line whole rs text → text ≡ whole
+all_written {line} {whole} {text = text} none so_far = pieces_all text _ whole (ap (flat_map line) none) so_far.lines

@@ -1,6 +1,6 @@
 -- The grid text of a picture: one character for each pixel of its least box, rows in order from the top.
-use Rattle.std.specs.Prelude.{ℕ, zero, suc, ◌+◌, ℤ, pos, ◌+ℤ◌, ◌-ℤ◌, int_lt, if◌then◌else◌}
-use Rattle.std.specs.Prelude.{List, [], ◌∷◌, ◌++◌, codes, Option, None, Some, MatchOption}
+use Rattle.std.specs.Prelude.{ℕ, zero, suc, ◌+◌, ◌*◌, ℤ, pos, ◌+ℤ◌, ◌-ℤ◌, int_lt, if◌then◌else◌}
+use Rattle.std.specs.Prelude.{List, [], ◌∷◌, ◌++◌, get_or, codes, Option, None, Some, MatchOption}
 use Rattle.std.specs.Int.RustNames.{unsigned_abs}
 use Rattle.std.specs.Ordering.{int_eq}
 use Rattle.mf_rows.specs.declared.bounds.Box4.{Box4}
@@ -39,7 +39,7 @@ grid_character w =
     else (if int_lt w (pos 0 -ℤ pos greatest_digit) then minus_sign
     else (if int_lt (pos 0) w then digit_zero + unsigned_abs w else before_a + unsigned_abs w)))
 
--- the number that shows the pixel in row y and column x, as `show` shows its weight
+-- the number with which `show` shows the weight of the pixel of a picture in row y and column x
 abbrev pub shown_at : (ℤ → ℕ) → List Dot → ℤ → ℤ → ℕ
 shown_at show ds y x = show (weight_at ds x y)
 
@@ -68,6 +68,10 @@ row_text ds y x n = shown_row (shown_at grid_character ds y) x n
 -- the lines of all rows of a box
 abbrev pub box_text : List Dot → Box4 → List ℕ
 box_text ds b = shown_box (shown_at grid_character ds) (codes "\n") b
+
+-- byte i of line j of the text of a box, both counted from 0: a line has a byte for each column, and then the line feed
+abbrev pub byte_in_line : List Dot → Box4 → ℕ → ℕ → ℕ
+byte_in_line ds b j i = get_or (box_text ds b) (j * (extent b.min_x b.max_x + 1) + i) 0
 
 -- the grid text of a picture with this least box, or `blank` where it has none
 abbrev pub grid_text_in : List Dot → Option Box4 → List ℕ

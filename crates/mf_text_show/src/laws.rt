@@ -1,11 +1,11 @@
 //! Laws of the texts of pictures. Each is the contract of a function that does nothing, because the toolchain proves a statement
 //! only where the contract of a function names it.
-ghost use Rattle.std.specs.Prelude.{◌≡◌, ◌<◌, ◌+◌, ◌*◌, ℕ, pos, ◌+ℤ◌, ◌-ℤ◌, List, [], ◌∷◌, None, Some, codes, get_or, length};
+ghost use Rattle.std.specs.Prelude.{◌≡◌, ◌<◌, ◌+◌, ◌*◌, ℕ, pos, ◌+ℤ◌, ◌-ℤ◌, List, [], ◌∷◌, None, Some, codes, length};
 ghost use Rattle.mf_rows.specs.declared.bounds.Box4.{Box4};
 ghost use Rattle.mf_rows.specs.Bounds.{IsLeastBox};
 ghost use Rattle.mf_rows.specs.Dots.{Dot, weight_at};
 ghost use Rattle.mf_rows.specs.Boxes.{box_of, box_of_dots, extent};
-ghost use Rattle.mf_text_show.specs.Grid.{box_text, grid_character, grid_text, line_feed};
+ghost use Rattle.mf_text_show.specs.Grid.{box_text, byte_in_line, grid_character, grid_text, line_feed};
 
 /// The box of a picture that is computed from its dots, for grids, images and frames, is its least box, and there is no other least
 /// box. The blank picture has none.
@@ -28,11 +28,10 @@ pub fn grid_is_of_the_least_box()
 pub fn grid_has_each_pixel()
     ensures pixels { (ds : List Dot) (b : Box4) (i j : ℕ) → i < extent b.min_x b.max_x
         → j < extent b.min_y b.max_y
-        → get_or (box_text ds b) (j * (extent b.min_x b.max_x + 1) + i) 0
+        → byte_in_line ds b j i
         ≡ grid_character (weight_at ds (b.min_x +ℤ pos i) (b.max_y -ℤ pos j)) }
     ensures line_feeds { (ds : List Dot) (b : Box4) (j : ℕ) → j < extent b.min_y b.max_y
-        → get_or (box_text ds b) (j * (extent b.min_x b.max_x + 1) + extent b.min_x b.max_x) 0
-        ≡ line_feed }
+        → byte_in_line ds b j (extent b.min_x b.max_x) ≡ line_feed }
     ensures whole { (ds : List Dot) (b : Box4)
         → length (box_text ds b) ≡ extent b.min_y b.max_y * (extent b.min_x b.max_x + 1) }
 {}

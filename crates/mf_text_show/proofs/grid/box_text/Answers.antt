@@ -35,10 +35,10 @@ loop-y-preserved c =
     let row : to_z w32 (of_z w32 (to_z w32 c.loop-y.y-bits -ℤ pos 1)) ≡ to_z w32 c.loop-y.y-bits -ℤ pos 1 = omega (arith, ints, so_far.0.top) in
     let left : to_z w32 (of_z w32 bounds.min_x) ≡ bounds.min_x = omega (arith, ints) in
     let right : to_z w32 (of_z w32 bounds.max_x) ≡ bounds.max_x = omega (arith, ints) in
-    let line = row_ahead grid_character _ _ _ _ (extent bounds.min_x bounds.max_x) so_far.1.same in
+    let line = row_ahead grid_character _ _ (extent bounds.min_x bounds.max_x) so_far.1.same in
     let pushed = rw (row, left, right) at c.in_ok-push_row.ensures.text in
     let later = rw (right, row) at c.in_ok-push_row.ensures.later in
-    rw row (box_more _ _ _ _ inside (rw line at pushed) so_far.0, ahead_below _ _ _ _ _ box c.in_ok-push_row.ensures.order later so_far.1)
+    rw row (box_more inside (rw line at pushed) so_far.0, ahead_below _ box c.in_ok-push_row.ensures.order later so_far.1)
 
 pub returns : goal.returns
 returns c =

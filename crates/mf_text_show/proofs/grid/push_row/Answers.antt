@@ -12,10 +12,10 @@ loop-x-preserved c =
     let column : x ≤ℤ to_z w32 (of_z w32 c.args.last) = omega (arith, ints, c.loop-x-test.true) in
     let next : to_z w32 (of_z w32 (x +ℤ pos 1)) ≡ x +ℤ pos 1 = omega (arith, ints) in
     let weight : to_z w32 (of_z w32 c.weight.result) ≡ c.weight.result = omega (arith, ints) in
-    let shown = c.grid_character.ensures ∙ ap grid_character (weight ∙ c.weight.ensures.weight ∙ weight_ahead _ _ _ _ so_far.1) in
+    let shown = c.grid_character.ensures ∙ ap grid_character (weight ∙ c.weight.ensures.weight ∙ weight_ahead _ _ so_far.1) in
     rw next (
-      row_more _ _ _ _ _ column c.in_ok-push.ensures.items shown so_far.0,
-      ahead_right _ _ _ _ _ c.weight.ensures.order c.weight.ensures.later so_far.1,
+      row_more column c.in_ok-push.ensures.items shown so_far.0,
+      ahead_right _ _ c.weight.ensures.order c.weight.ensures.later so_far.1,
     )
 
 pub returns-clause-text : goal.returns-clause-text

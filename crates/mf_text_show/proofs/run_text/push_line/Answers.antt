@@ -11,5 +11,5 @@ returns c =
     let first : to_z w32 (of_z w32 r.x) ≡ r.x = omega (arith, ints) in
     let row : to_z w32 (of_z w32 r.y) ≡ r.y = omega (arith, ints) in
     let weight : to_z w32 (of_z w32 r.weight) ≡ r.weight = omega (arith, ints) in
-    IfOk-equal _ _ _ _ c.push_number-4.ensures
+    IfOk-equal c.push_number-4.result _ _ _ c.push_number-4.ensures
     (rw (c.in_ok-push_number-3.ensures, c.in_ok-push_number-2.ensures, c.in_ok-push_number.ensures, last, first, row, weight) (simp append_assoc))

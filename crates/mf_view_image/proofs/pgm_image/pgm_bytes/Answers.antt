@@ -19,7 +19,7 @@ loop-y-preserved c =
     let left : to_z w32 (of_z w32 bounds.min_x) ≡ bounds.min_x = omega (arith, ints) in
     let right : to_z w32 (of_z w32 bounds.max_x) ≡ bounds.max_x = omega (arith, ints) in
     let pushed = rw (row, left, right) at c.in_ok-push_row.ensures ∙ sym (append-nil _) in
-    rw row (box_more _ _ _ _ inside pushed so_far)
+    rw row (box_more inside pushed so_far)
 
 pub returns : goal.returns
 unfolding pgm_bytes

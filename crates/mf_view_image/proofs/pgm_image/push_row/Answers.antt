@@ -14,7 +14,7 @@ loop-x-preserved c =
     let next : to_z w32 (of_z w32 (x +ℤ pos 1)) ≡ x +ℤ pos 1 = omega (arith, ints) in
     let weight : to_z w32 (of_z w32 c.weight.result) ≡ c.weight.result = omega (arith, ints) in
     let shown = c.gray_value.ensures ∙ ap gray_value (weight ∙ c.weight.ensures.weight) in
-    rw next (row_more _ _ _ _ _ column c.in_ok-push.ensures.items shown c.loop-x.invariant)
+    rw next (row_more column c.in_ok-push.ensures.items shown c.loop-x.invariant)
 
 pub returns : goal.returns
 returns c =

@@ -11,4 +11,4 @@ returns-in-Some-clause-weight c = grind (arith, ints, to_z-of_z, weight_at-befor
 
 pub returns-in-None-clause-weight : goal.returns-in-None-clause-weight
 returns-in-None-clause-weight c =
-    rw (to_z-of_z w32 c.args.x c.ranges.x, to_z-of_z w32 c.args.y c.ranges.y) at (weight_of_none _ _ _ _ _ c.in-None.is c.pass.ensures.later)
+    rw (to_z-of_z w32 c.args.x c.ranges.x, to_z-of_z w32 c.args.y c.ranges.y) at (weight_of_none _ _ _ c.in-None.is c.pass.ensures.later)
