@@ -1,5 +1,5 @@
 -- What is learnt and what is looked at, where both come from prefixes of one history.
-use Rattle.std.proofs.Common.{◌≡◌, ◌≤◌, ◌∙◌, true, List, ◌++◌, length, Result, Ok, Err, MatchResult, inl, inr, refl, ap, sym, subst, arith}
+use Rattle.std.proofs.Common.{◌≡◌, ◌≤◌, ◌∙◌, true, List, ◌++◌, length, inl, inr, refl, ap, sym, subst, arith}
 use Rattle.std.proofs.lemmas.Bool.{cases_lt}
 use Rattle.std.proofs.lemmas.List.{append-nil}
 use mathlib.Core.List.{IsPrefix}
@@ -62,12 +62,6 @@ Extends-look v x w looks learnt =
     let known = (looks.knows v.identified).prefix in
     let before = prefix-trans v.looked.seen.log _ (lines_of x) (prefix_from v.looked.seen.log _ v.kept) known in
     extends_both v (version_list x) (published_prefix v.looked.seen.log (lines_of x) x.notice.lawful before) learnt
-
--- two facts of what a call answers, as one
-pub both_hold : {X Y : Type 0} (P P' : X → Type 0) (Q Q' : Y → Type 0) (r : Result X Y) → MatchResult r P Q → MatchResult r P' Q'
-    → MatchResult r (λ x. P x × P' x) (λ y. Q y × Q' y)
-both_hold P P' Q Q' (Ok x) one other = (one, other)
-both_hold P P' Q Q' (Err y) one other = (one, other)
 
 seen_list-same : (before after : Viewer) → SeesTheSame before after → seen_list after ≡ seen_list before
 seen_list-same before after same = ap (λ M. longer M (learnt_list after)) same.looked ∙ ap (longer (looked_at_list before)) same.learnt

@@ -7,11 +7,11 @@ use Rattle.mf_live.specs.Entries.{Entry}
 abbrev pub labels : List Entry → List ℕ
 labels L = map (λ (e : Entry). e.label) L
 
--- a place among labels is a cut: it is at an end, or the labels on its two sides differ
+-- a list is cut between two publishes after n of these labels: at one of its ends, or where the labels before and after differ
 abbrev pub IsCutAmong : List ℕ → ℕ → Type 0
 IsCutAmong ns n = (n ≡ 0) ⊎ ((n ≡ length ns) ⊎ ((0 < n) × (n < length ns) × (get_or ns (n - 1) 0 ≢ get_or ns n 0)))
 
--- no publish has entries on both sides of the place n
+-- no publish has entries both among the first n and after them
 abbrev pub IsCut : List Entry → ℕ → Type 0
 IsCut L n = IsCutAmong (labels L) n
 

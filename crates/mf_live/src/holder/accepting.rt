@@ -89,7 +89,8 @@ impl Holder {
         ensures turning { (fault : CycleFault)
             → op_fault (picture_at (accepted_list self.old)) op.now ≡ Some (OpFault.Cycle fault)
             → result ≡ Err (OpFault.Cycle fault) }
-        ensures out_of_field { op_fault (picture_at (accepted_list self.old)) op.now ≡ Some OpFault.OutOfField
+        ensures out_of_field { op_fault (picture_at (accepted_list self.old)) op.now
+            ≡ Some OpFault.OutOfField
             → result ≡ Err OpFault.OutOfField }
         ensures clears { op.now ≡ Clear → IsOk result }
     {

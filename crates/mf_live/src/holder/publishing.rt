@@ -28,8 +28,8 @@ pub(crate) fn show<R: Wait>(rt: &R, swap: &mut Swap, version: Version)
         &mut swap.desk,
         (rt, version),
         |desk, (rt, version)|
-            requires { TurnsAt EachSeatKnows desk.place.id (view desk.place) desk.shown.value version
-                IsShow }
+            requires { TurnsAt EachSeatKnows desk.place.id (view desk.place)
+                desk.shown.value version IsShow }
             ensures shown { result.0.shown.value ≡ version }
             ensures view { view result.0.place ≡ view_knowing (knowledge_of version) }
         {

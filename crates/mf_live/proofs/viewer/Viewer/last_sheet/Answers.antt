@@ -10,7 +10,7 @@ use Rattle.mf_live.proofs.Looking.{HasLearnt-same, published-ends, whole-closed}
 use Rattle.mf_live.proofs.viewer.Viewer.last_sheet.Goals.{After-learn}
 use Rattle.mf_live.proofs.viewer.Viewer.last_sheet.Goals as goal
 
-module _ (first second after : Viewer) (told : List Entry) (learns : HasLearnt first told second) (closed : is_closed told ≡ true) where
+module _ {first second : Viewer} {told : List Entry} (after : Viewer) (learns : HasLearnt first told second) (closed : is_closed told ≡ true) where
   -- a viewer that has learnt of the end, and then looked, has looked at the complete list
   looks_at_last : HasLooked second after → HasLookedLast first told after
   looks_at_last look =
@@ -33,20 +33,20 @@ returns-clause-sheet c =
     let learns = learns (goal.at.returns-clause-sheet c).After-learn in
     MatchResult-weaker c.sheet.result c.sheet.ensures.taken (λ sheet taken. (
       taken.identity ∙ c.sheet.ensures.identity ∙ c.learn.ensures.identity,
-      taken.list ∙ (looks_at_last _ _ _ _ learns c.requires.closed taken.look).1.looked,
+      taken.list ∙ (looks_at_last _ learns c.requires.closed taken.look).1.looked,
     )) (λ _ _. tt)
 
 pub returns-clause-extends : goal.returns-clause-extends
 returns-clause-extends c =
     let learns = learns (goal.at.returns-clause-extends c).After-learn in
-    MatchResult-weaker c.sheet.result c.sheet.ensures.taken (λ sheet taken. (looks_at_last _ _ _ _ learns c.requires.closed taken.look).0) (λ _ _. tt)
+    MatchResult-weaker c.sheet.result c.sheet.ensures.taken (λ sheet taken. (looks_at_last _ learns c.requires.closed taken.look).0) (λ _ _. tt)
 
 pub returns-clause-not_taken : goal.returns-clause-not_taken
 returns-clause-not_taken c =
     let learns = learns (goal.at.returns-clause-not_taken c).After-learn in
-    MatchResult-weaker c.sheet.result c.sheet.ensures.taken (λ _ _. tt) (not_taken _ _ _ _ learns c.requires.closed)
+    MatchResult-weaker c.sheet.result c.sheet.ensures.taken (λ _ _. tt) (not_taken _ learns c.requires.closed)
 
 pub returns-clause-looked : goal.returns-clause-looked
 returns-clause-looked c =
     let learns = learns (goal.at.returns-clause-looked c).After-learn in
-    MatchResult-weaker c.sheet.result c.sheet.ensures.taken (λ sheet taken. (looks_at_last _ _ _ _ learns c.requires.closed taken.look).1) (λ _ _. tt)
+    MatchResult-weaker c.sheet.result c.sheet.ensures.taken (λ sheet taken. (looks_at_last _ learns c.requires.closed taken.look).1) (λ _ _. tt)
