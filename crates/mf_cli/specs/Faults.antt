@@ -27,9 +27,10 @@ abbrev pub TellsOfProgram : ℕ → Option (List ℕ) → ProgramFault → Strea
 TellsOfProgram viewers file (Run fault) s = Passes s (TellsOfRun settings viewers fault) ⊎ LosesFile viewers file fault s
 TellsOfProgram viewers file NoCharacters s = IsSome file × GetsOutput viewers None s
 
--- with these words the program ended with some fault, which has this status, whose message was got, and which tells what was written
+-- with these words the program ended with some fault, which has this status, whose message was got, and which tells what was read and
+-- written
 pub record ReportsFault (words : List (List ℕ)) (status : ℕ) (IsGot : List ℕ → Type 0) (s : Streams) : Type 0 where
   pub fault : ProgramFault
   pub status_is : status_of fault ≡ status
   pub message : IsGot (message_of fault)
-  pub told : TellsOfProgram (viewers_in words) (gf_in words) fault s
+  pub tells : TellsOfProgram (viewers_in words) (gf_in words) fault s

@@ -1,5 +1,5 @@
 -- The messages and the exit statuses of the program.
-use Rattle.std.specs.Prelude.{ℕ, List, ◌++◌, codes, if◌then◌else◌}
+use Rattle.std.specs.Prelude.{◌≡◌, ◌⊎◌, ℕ, List, ◌++◌, codes, if◌then◌else◌}
 use Rattle.mf_cli.specs.declared.fault.ProgramFault.{ProgramFault}
 use Rattle.mf_cli.specs.declared.fault.ProgramFault.TheVariants.{Run, NoCharacters}
 use Rattle.mf_desk.specs.Names.{is_of_stream, run_fault_text}
@@ -17,3 +17,7 @@ message_of NoCharacters = codes "mfpic: NoCharacters\n"
 abbrev pub status_of : ProgramFault → ℕ
 status_of (Run fault) = if is_of_stream fault then 3 else 4
 status_of NoCharacters = 3
+
+-- the status is one of those after a fault
+abbrev pub IsFaultStatus : ℕ → Type 0
+IsFaultStatus status = (status ≡ 3) ⊎ (status ≡ 4)

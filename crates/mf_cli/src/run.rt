@@ -5,7 +5,7 @@ ghost use Rattle.mf_base.specs.Messages.{GetsFront};
 ghost use Rattle.mf_cli_options.specs.Values.{texts_of};
 ghost use Rattle.mf_cli.specs.CommandLine.{IsCommandLine, gf_in, greatest_viewers, viewers_in};
 ghost use Rattle.mf_cli.specs.Faults.{ReportsFault, TellsOfProgram};
-ghost use Rattle.mf_cli.specs.Messages.{message_of, status_of, usage};
+ghost use Rattle.mf_cli.specs.Messages.{IsFaultStatus, message_of, status_of, usage};
 ghost use Rattle.mf_cli.specs.Output.{EndsWell, looks, settings};
 ghost use Rattle.mf_desk.specs.Performances.{Performs, TellsOfRun, task};
 ghost use Rattle.mf_desk.specs.Streams.{Passes, streams_of};
@@ -66,17 +66,17 @@ pub fn program<S: Wait + Threads + Files, R: Read, W: Write, E: Write>(
         → GetsFront (E.contents errors.old) (E.contents errors.new) usage }
     ensures done { result ≡ DONE → EndsWell (viewers_in (texts_of words)) (gf_in (texts_of words))
         (streams_of R.remaining reader.old reader.new W.contents writer.old writer.new) }
-    ensures fault { (result ≡ STREAM_FAULT) ⊎ (result ≡ RESOURCE_FAULT)
+    ensures fault { IsFaultStatus result
         → ReportsFault (texts_of words) result
         (GetsFront (E.contents errors.old) (E.contents errors.new))
         (streams_of R.remaining reader.old reader.new W.contents writer.old writer.new) }
 {
-    let words = match read_words(alloc, words) {
-        Ok(words) => words,
+    let asked = match read_words(alloc, words) {
+        Ok(asked) => asked,
         Err(WordsFault::BadWords) => return refuse_words(errors, USAGE),
         Err(WordsFault::OutOfMemory) => return report(errors, RunFault::OutOfMemory.into()),
     };
-    match perform(rt, alloc, reader, writer, &words) {
+    match perform(rt, alloc, reader, writer, &asked) {
         Ok(()) => DONE,
         Err(fault) => report(errors, fault),
     }
@@ -89,26 +89,26 @@ fn perform<S: Wait + Threads + Files, R: Read, W: Write>(
     alloc: Global,
     reader: &mut R,
     writer: &mut W,
-    words: &Words,
+    asked: &Words,
 ) -> Result<(), ProgramFault>
-    requires { words.now.viewers ≤ greatest_viewers }
-    ensures done { OnOk result (EndsWell words.now.viewers (option_map string_bytes words.now.gf)
+    requires { asked.now.viewers ≤ greatest_viewers }
+    ensures done { OnOk result (EndsWell asked.now.viewers (option_map string_bytes asked.now.gf)
         (streams_of R.remaining reader.old reader.new W.contents writer.old writer.new)) }
     ensures fault { IfErr result (λ fault.
-        TellsOfProgram words.now.viewers (option_map string_bytes words.now.gf) fault
+        TellsOfProgram asked.now.viewers (option_map string_bytes asked.now.gf) fault
         (streams_of R.remaining reader.old reader.new W.contents writer.old writer.new)) }
 {
-    let gf = match run_script(rt, alloc, reader, writer, words.viewers) {
+    let gf = match run_script(rt, alloc, reader, writer, asked.viewers) {
         Ok(outcome) => outcome.gf,
         // Nothing more goes out after a fault of the writer, whose number counts what did.
         Err(RunFault::WriteFault(count)) => return Err(RunFault::WriteFault(count).into()),
         Err(fault) => {
-            // The fault is told, and not that this fails.
+            // The fault is reported, and not that this fails.
             let _ = writer.flush();
             return Err(fault.into());
         }
     };
-    let Some(path) = &words.gf else {
+    let Some(path) = &asked.gf else {
         return Ok(());
     };
     match gf {

@@ -58,7 +58,7 @@ is_parser _ _ = false
 abbrev pub have_parser : Text → ValueParser → List Rule → Bool
 have_parser id q rules = list_all (λ r. not (bytes_eq r.id id) || is_parser q r.parser) rules
 
--- whether the id is that of options with this parser alone, and neither empty nor one that clap keeps for options of its own
+-- whether each option with this id has this parser, and the id is neither empty nor one that clap keeps for options of its own
 abbrev pub is_option : List Rule → Text → ValueParser → Bool
 is_option rules id q = have_parser id q rules
     && (not (bytes_eq id (codes "help")) && (not (bytes_eq id (codes "version")) && not (bytes_eq id [])))

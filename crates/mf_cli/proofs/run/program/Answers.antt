@@ -8,5 +8,5 @@ returns-in-Err-OutOfMemory-clause-fault g c = λ _. record {
   fault = c.into.result;
   status_is = sym c.report.ensures.status;
   message = c.report.ensures.message;
-  told = rw c.into.ensures (inl (TellsOfRun-nothing settings _ _ _));
+  tells = rw c.into.ensures (inl (TellsOfRun-nothing settings _ _ _));
 }

@@ -16,7 +16,7 @@ pub returns-then-not-write_text : goal.returns-then-not-write_text
 returns-then-not-write_text g c =
     let (front, whole, out) = c.loop-text.invariant in
     let left = first-left c.args.texts.now c.loop-text.text-index c.loop-text-test.true in
-    front-after _ _ _ _ front _ _ (whole ∙ ap (λ rest. front ++ rest) left) out c.write_text.ensures.front
+    front-after _ _ _ front _ _ (whole ∙ ap (λ rest. front ++ rest) left) out c.write_text.ensures.front
 
 pub loop-text-preserved : goal.loop-text-preserved
 loop-text-preserved g c =
