@@ -13,6 +13,6 @@ pub IsSumTo-none : (m : ℕ) (f : ℕ → ℤ) → IsSumTo m f 0 (pos 0)
 unfolding sum_below
 IsSumTo-none m f = record { value = refl; least = omega (arith, ints); greatest = omega (arith, ints) }
 
-pub IsSumTo-more : (m : ℕ) (f : ℕ → ℤ) (n : ℕ) (t : ℤ) → IsSumTo m f n t → neg_ℤ (pos m) ≤ℤ f n → f n ≤ℤ pos m → IsSumTo m f (n + 1) (t +ℤ f n)
+pub IsSumTo-more : {m : ℕ} {f : ℕ → ℤ} {n : ℕ} {t : ℤ} → IsSumTo m f n t → neg_ℤ (pos m) ≤ℤ f n → f n ≤ℤ pos m → IsSumTo m f (n + 1) (t +ℤ f n)
 unfolding sum_below
-IsSumTo-more m f n t so_far least greatest = record { value = rw (add-one, so_far.value); least = omega (arith, ints); greatest = omega (arith, ints) }
+IsSumTo-more so_far least greatest = record { value = rw (add-one, so_far.value); least = omega (arith, ints); greatest = omega (arith, ints) }

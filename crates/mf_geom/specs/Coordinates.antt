@@ -1,4 +1,4 @@
--- The range of the coordinates of points, and the first and last places of the field (mf.web: the limits on edge structures).
+-- The range of the coordinates of points, and the first and last columns and rows of the field (mf.web: the limits on edge structures).
 use Rattle.std.specs.Prelude.{ℕ, ◌*◌, Bool, ◌&&◌, ℤ, pos, neg_ℤ, ◌-ℤ◌, ◌≤ℤ◌, int_le}
 use Rattle.std.specs.Int.RustNames.{unsigned_abs}
 

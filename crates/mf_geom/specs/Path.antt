@@ -3,7 +3,7 @@ use Rattle.std.specs.Prelude.{◌≡◌, ◌≢◌, ℕ, ◌+◌, ◌-◌, ◌==
 use Rattle.mf_geom.specs.Coordinates.{IsCoordinate}
 use Rattle.mf_geom.specs.declared.point.Point.{Point}
 
--- the point at place i
+-- the point at place i, (0, 0) where there is none
 unfoldable pub point_at : List Point → ℕ → Point
 point_at ps i = slice_index_or ps i (record { x = pos 0; y = pos 0 })
 

@@ -43,11 +43,11 @@ pub fn turning(points: &[Point]) -> i32
     requires { StaysInRange points.now }
     ensures { result ≡ turning points.now }
 {
-    let mut quarter_turns = 0;
+    let mut turns = 0;
     for vertex in 0..points.len() {
-        quarter_turns += turn(points, vertex);
+        turns += turn(points, vertex);
     }
-    quarter_turns / 4
+    turns / 4
 }
 
 /// The signed area of a closed path.

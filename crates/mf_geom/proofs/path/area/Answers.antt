@@ -13,7 +13,7 @@ loop-segment-preserved c =
     let part = shoelace_at c.args.points.now c.loop-segment.segment in
     let widened = c.from-doubled.ensures in
     let sum : to_z w64 (of_z w64 (so_far +ℤ to_z w64 (of_z w64 c.from-doubled.result))) ≡ so_far +ℤ part = omega (arith, ints) in
-    rw sum (IsSumTo-more _ _ _ _ c.loop-segment.invariant (omega (arith, ints)) (omega (arith, ints)))
+    rw sum (IsSumTo-more c.loop-segment.invariant (omega (arith, ints)) (omega (arith, ints)))
 
 pub returns : goal.returns
 unfolding area

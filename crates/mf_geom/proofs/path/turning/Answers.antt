@@ -9,10 +9,10 @@ loop-vertex-init c = IsSumTo-none _ _
 
 pub loop-vertex-preserved : goal.loop-vertex-preserved
 loop-vertex-preserved c =
-    let so_far = to_z w32 c.loop-vertex.quarter_turns-bits in
+    let so_far = to_z w32 c.loop-vertex.turns-bits in
     let turn = turn_at c.args.points.now c.loop-vertex.vertex in
-    let sum : to_z w32 (of_z w32 (so_far +ℤ to_z w32 (of_z w32 c.turn-quarter_turns.result))) ≡ so_far +ℤ turn = omega (arith, ints) in
-    rw sum (IsSumTo-more _ _ _ _ c.loop-vertex.invariant (omega (arith, ints)) (omega (arith, ints)))
+    let sum : to_z w32 (of_z w32 (so_far +ℤ to_z w32 (of_z w32 c.turn-turns.result))) ≡ so_far +ℤ turn = omega (arith, ints) in
+    rw sum (IsSumTo-more c.loop-vertex.invariant (omega (arith, ints)) (omega (arith, ints)))
 
 pub returns : goal.returns
 unfolding turning
