@@ -13,7 +13,7 @@ use Rattle.mf_geom.proofs.Areas.{sum_below-unit_step_in_field}
 use Rattle.mf_geom.proofs.Crossings.{unit_step-reached, unit_step-beyond}
 use Rattle.mf_geom.proofs.Sums.{sum_below-same, sum_below-zero, sum_below-next, sum_below-sub, sum_below-mul, sum_below-swap}
 use Rattle.mf_rows_edges.specs.Axes.{opposite}
-use Rattle.mf_rows.specs.Moves.{quarter_turn}
+use Rattle.mf_rows.specs.Moves.{turned_once}
 use borrow.Author.Differences.{up, down, product_is}
 
 -- the sum over the columns, or rows, of the field
@@ -57,7 +57,7 @@ axis_sum-none : (g : ℤ → ℤ) → ((q : ℤ) → g q ≡ pos 0) → axis_sum
 axis_sum-none g none = axis_sum-same g (λ q. pos 0) none ∙ sum_below-zero field_size
 
 axis_sum-alone : (g : ℤ → ℤ) (p : ℤ) → IsColumnOrRow p → ((q : ℤ) → q ≢ p → g q ≡ pos 0) → axis_sum g ≡ g p
-axis_sum-alone g p place others =
+axis_sum-alone g p within others =
     let k = nat_abs (p -ℤ least_coordinate) in
     let at_k : least_coordinate +ℤ pos k ≡ p = omega (arith, ints) in
     sum_below-alone field_size k (λ i. g (least_coordinate +ℤ pos i)) (omega (arith, ints))
@@ -80,9 +80,9 @@ axis_sum-opposite g =
     (λ t. sum_below field_size (λ i. g (column i t))) ∙ sum_below-downwards field_size least_coordinate last_in_field g refl
 
 -- a turn by 90 degrees maps the field to itself
-pub sum_over_field-turn : (f : ℤ → ℤ → ℤ) → sum_over_field (quarter_turn f) ≡ sum_over_field f
+pub sum_over_field-turn : (f : ℤ → ℤ → ℤ) → sum_over_field (turned_once f) ≡ sum_over_field f
 sum_over_field-turn f =
-    sum_over_field-axes (quarter_turn f)
+    sum_over_field-axes (turned_once f)
     ∙ axis_sum-swap (λ y x. f y (opposite x))
     ∙ axis_sum-opposite (λ y. axis_sum (λ x. f x y))
     ∙ sym (sum_over_field-axes f)
@@ -163,7 +163,7 @@ to_columns n source IsKept g p move kept_or_zero =
     ]
 
 -- Where the columns that leave the field have value 0, a move multiplies the sum by the number of columns to which it takes each
--- one. Both sums add the same parts, one grouped by source and the other by place.
+-- one. Both sums add the same parts, one grouped by the columns to which they go and the other by those from which they come.
 axis_sum-move : (n : ℕ) (source : ℤ → ℤ) (IsKept : ℤ → Type 0) (g : ℤ → ℤ) → IsMove n source IsKept → ((p : ℤ) → IsKept p ⊎ (g p ≡ pos 0))
     → axis_sum (λ q. g (source q)) ≡ pos n *ℤ axis_sum g
 axis_sum-move n source IsKept g move kept_or_zero =

@@ -9,12 +9,12 @@ use Rattle.std.specs.List.{All, Any, list_any}
 use Rattle.mf_geom.specs.Coordinates.{IsCoordinate, is_coordinate}
 use Rattle.mf_geom.specs.Field.{IsColumnOrRow, IsInField}
 use borrow.Author.Differences.{up, down}
-use Rattle.mf_rows.proofs.DotsLemmas.{dots_from-lawful}
+use Rattle.mf_rows.proofs.BoundsInField.{least_box_of_field}
 use Rattle.mf_rows.specs.Bounds.{IsLeastBox}
 use Rattle.mf_rows.specs.declared.bounds.Box4.{Box4}
 use Rattle.mf_rows_edges.specs.declared.stretch.Stretch.{Stretch}
-use Rattle.mf_rows.specs.Dots.{Dot, IsPicture, start_of_field}
-use Rattle.mf_rows_edges.specs.Axes.{PlaceStaysInside}
+use Rattle.mf_rows.specs.Dots.{Dot, IsPicture}
+use Rattle.mf_rows_edges.specs.Axes.{StaysInside}
 use Rattle.mf_rows.specs.Moves.{PixelsStayInside}
 use Rattle.mf_rows_edges.proofs.Sources.{mul-le}
 use Rattle.mf_ops.specs.Moves.{Factors, scale_by, shift_by, stays_inside}
@@ -24,7 +24,7 @@ use Rattle.mf_ops.specs.declared.op.Op.TheVariants.{Shift, Scale}
 is_coordinate-true : (x : ℤ) → (is_coordinate x ≡ true) ↔ IsCoordinate x
 is_coordinate-true x = (λ passes. record { least = grind (arith, ints); greatest = grind (arith, ints) }, λ point. grind (arith, ints))
 
-pub stays_inside-true : (s : Stretch) (p : ℤ) → (stays_inside s p ≡ true) ↔ PlaceStaysInside s p
+pub stays_inside-true : (s : Stretch) (p : ℤ) → (stays_inside s p ≡ true) ↔ StaysInside s p
 stays_inside-true s p = grind (arith, ints, is_coordinate-true, and_parts, and_from)
 
 -- whether a dot leaves the field where its column and its row are stretched
@@ -41,8 +41,8 @@ PixelsStayInside-none_leaves columns rows (d ∷ ds) none =
     let tests = and_parts _ _ (not-false _ parts.0) in
     let rest = PixelsStayInside-none_leaves columns rows ds parts.1 in
     record {
-      across = All-cons (λ e. PlaceStaysInside columns e.x) d ds ((stays_inside-true columns d.x).0 tests.0) rest.across;
-      up = All-cons (λ e. PlaceStaysInside rows e.y) d ds ((stays_inside-true rows d.y).0 tests.1) rest.up;
+      across = All-cons (λ e. StaysInside columns e.x) d ds ((stays_inside-true columns d.x).0 tests.0) rest.across;
+      up = All-cons (λ e. StaysInside rows e.y) d ds ((stays_inside-true rows d.y).0 tests.1) rest.up;
     }
 
 pub some_leaves : (columns rows : Stretch) (ds : List Dot) → ¬ PixelsStayInside columns rows ds → list_any (leaves_by columns rows) ds ≡ true
@@ -69,8 +69,8 @@ IsCoordinate-between (pos n) o a p b after before first last =
 IsCoordinate-between (negsuc n) o a p b after before first last =
     omega (arith, ints, mul-ge n a p after, mul-ge n p b before, last.least, first.greatest)
 
-PlaceStaysInside-between : (s : Stretch) (a p b : ℤ) → a ≤ℤ p → p ≤ℤ b → PlaceStaysInside s a → PlaceStaysInside s b → PlaceStaysInside s p
-PlaceStaysInside-between s a p b after before first last =
+StaysInside-between : (s : Stretch) (a p b : ℤ) → a ≤ℤ p → p ≤ℤ b → StaysInside s a → StaysInside s b → StaysInside s p
+StaysInside-between s a p b after before first last =
     record {
       start = IsCoordinate-between s.factor s.offset a p b after before first.start last.start;
       end = IsCoordinate-between s.factor s.offset (a +ℤ pos 1) (p +ℤ pos 1) (b +ℤ pos 1) (omega (arith, ints)) (omega (arith, ints)) first.end last.end;
@@ -82,28 +82,28 @@ at_side P f ds side all at = subst P at.4 (All-contains (λ d. P (f d)) ds at.1 
 
 -- the sides of the least box stay inside
 pub record SidesStayInside (columns rows : Stretch) (b : Box4) : Type 0 where
-  pub left : PlaceStaysInside columns b.min_x
-  pub right : PlaceStaysInside columns b.max_x
-  pub bottom : PlaceStaysInside rows b.min_y
-  pub top : PlaceStaysInside rows b.max_y
+  pub left : StaysInside columns b.min_x
+  pub right : StaysInside columns b.max_x
+  pub bottom : StaysInside rows b.min_y
+  pub top : StaysInside rows b.max_y
 
 -- where they do, the picture stays inside
 pub PixelsStayInside-from_sides : (columns rows : Stretch) (ds : List Dot) (b : Box4) → IsLeastBox ds b → SidesStayInside columns rows b
     → PixelsStayInside columns rows ds
 PixelsStayInside-from_sides columns rows ds b box sides =
     record {
-      across = λ k d lt. let within = box.within k d lt in PlaceStaysInside-between columns b.min_x _ b.max_x within.left within.right sides.left sides.right;
-      up = λ k d lt. let within = box.within k d lt in PlaceStaysInside-between rows b.min_y _ b.max_y within.bottom within.top sides.bottom sides.top;
+      across = λ k d lt. let within = box.within k d lt in StaysInside-between columns b.min_x _ b.max_x within.left within.right sides.left sides.right;
+      up = λ k d lt. let within = box.within k d lt in StaysInside-between rows b.min_y _ b.max_y within.bottom within.top sides.bottom sides.top;
     }
 
 pub sides_from_StayInside : (columns rows : Stretch) (ds : List Dot) (b : Box4) → IsLeastBox ds b → PixelsStayInside columns rows ds
     → SidesStayInside columns rows b
 sides_from_StayInside columns rows ds b box inside =
     record {
-      left = at_side (PlaceStaysInside columns) (λ d. d.x) ds b.min_x inside.across box.left;
-      right = at_side (PlaceStaysInside columns) (λ d. d.x) ds b.max_x inside.across box.right;
-      bottom = at_side (PlaceStaysInside rows) (λ d. d.y) ds b.min_y inside.up box.bottom;
-      top = at_side (PlaceStaysInside rows) (λ d. d.y) ds b.max_y inside.up box.top;
+      left = at_side (StaysInside columns) (λ d. d.x) ds b.min_x inside.across box.left;
+      right = at_side (StaysInside columns) (λ d. d.x) ds b.max_x inside.across box.right;
+      bottom = at_side (StaysInside rows) (λ d. d.y) ds b.min_y inside.up box.bottom;
+      top = at_side (StaysInside rows) (λ d. d.y) ds b.max_y inside.up box.top;
     }
 
 -- a pixel of the field has a column and a row of it
@@ -122,14 +122,12 @@ pub record AreSidesInField (b : Box4) : Type 0 where
 
 sides_in_field : (ds : List Dot) (b : Box4) → IsPicture ds → IsLeastBox ds b → AreSidesInField b
 sides_in_field ds b picture box =
-    let dots = dots_from-lawful start_of_field ds picture.dots in
-    let columns : All (λ d. IsColumnOrRow d.x) ds = λ k d lt. column_inside _ _ (dots k d lt).in_field in
-    let rows : All (λ d. IsColumnOrRow d.y) ds = λ k d lt. row_inside _ _ (dots k d lt).in_field in
+    let field = least_box_of_field ds b picture box in
     record {
-      left = at_side IsColumnOrRow (λ d. d.x) ds b.min_x columns box.left;
-      right = at_side IsColumnOrRow (λ d. d.x) ds b.max_x columns box.right;
-      bottom = at_side IsColumnOrRow (λ d. d.y) ds b.min_y rows box.bottom;
-      top = at_side IsColumnOrRow (λ d. d.y) ds b.max_y rows box.top;
+      left = record { least = field.left; greatest = omega (arith, ints, field.columns, field.right) };
+      right = record { least = omega (arith, ints, field.columns, field.left); greatest = field.right };
+      bottom = record { least = field.bottom; greatest = omega (arith, ints, field.rows, field.top) };
+      top = record { least = omega (arith, ints, field.rows, field.bottom); greatest = field.top };
     }
 
 -- so the 32-bit integers of the code represent them exactly
@@ -141,13 +139,13 @@ read_back b = record {
   max_y = to_z w32 (of_z w32 b.max_y);
 }
 
-read_back-place : (p : ℤ) → IsColumnOrRow p → to_z w32 (of_z w32 p) ≡ p
-read_back-place p place = omega (arith, ints, place.least, place.greatest)
+read_back-column : (p : ℤ) → IsColumnOrRow p → to_z w32 (of_z w32 p) ≡ p
+read_back-column p within = omega (arith, ints, within.least, within.greatest)
 
 pub IsLeastBox-read_back : (ds : List Dot) (b : Box4) → IsPicture ds → IsLeastBox ds b → IsLeastBox ds (read_back b)
 IsLeastBox-read_back ds b picture box =
     let sides = sides_in_field ds b picture box in
-    let same : read_back b ≡ b = grind (arith, ints, read_back-place) in
+    let same : read_back b ≡ b = grind (arith, ints, read_back-column) in
     subst (IsLeastBox ds) (sym same) box
 
 pub sides_read_back : (ds : List Dot) (b : Box4) → IsPicture ds → IsLeastBox ds b → AreSidesInField (read_back b)

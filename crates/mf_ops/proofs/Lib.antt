@@ -4,7 +4,7 @@ mod Leaving
 mod MovedTotals
 pub mod Operations
 mod OutOfField
-mod Places
+mod ScaleSources
 mod Scaling
 mod Sides
 mod Squares

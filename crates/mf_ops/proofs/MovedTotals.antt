@@ -8,8 +8,8 @@ use Rattle.std.proofs.lemmas.Int.{ints, unsigned_abs-mul}
 use Rattle.mf_geom.specs.Field.{IsColumnOrRow, sum_over_field}
 use Rattle.mf_rows_edges.specs.declared.stretch.Stretch.{Stretch}
 use Rattle.mf_rows.specs.Dots.{Dot, IsPicture, start_of_field, total_of, weight_at}
-use Rattle.mf_rows_edges.specs.Axes.{IsStretch, PlaceStaysInside, opposite, source_of, target_of}
-use Rattle.mf_rows.specs.Moves.{quarter_turn}
+use Rattle.mf_rows_edges.specs.Axes.{IsStretch, StaysInside, opposite, source_of, target_of}
+use Rattle.mf_rows.specs.Moves.{turned_once}
 use Rattle.mf_rows.specs.Weights.{picture_of}
 use Rattle.mf_rows.proofs.DotsLemmas.{dots_from-lawful}
 use Rattle.mf_rows.proofs.FieldTotals.{total_of-picture_of, total_of-picture}
@@ -24,13 +24,13 @@ use Rattle.mf_ops.specs.declared.quarter.TurnCount.TheVariants.{Once, Twice, Thr
 use Rattle.mf_ops.proofs.AxisSums.{IsMove, sum_over_field-move, sum_over_field-turn}
 use Rattle.mf_ops.proofs.Faults.{stays-accepted}
 use Rattle.mf_ops.proofs.Leaving.{PixelsStayInside-none_leaves, column_inside, leaves_by, row_inside}
-use Rattle.mf_ops.proofs.Places.{IsStretch-size, end-negative, opposite-opposite, scale_source-negative}
-use Rattle.mf_ops.proofs.Places.{scale_source-positive, source_of-end, source_of-start, start-negative}
+use Rattle.mf_ops.proofs.ScaleSources.{IsStretch-size, end-negative, opposite-opposite, scale_source-negative}
+use Rattle.mf_ops.proofs.ScaleSources.{scale_source-positive, source_of-end, source_of-start, start-negative}
 
 sum_over_field-turn_by : (q : TurnCount) (f : ℤ → ℤ → ℤ) → sum_over_field (turn_by q f) ≡ sum_over_field f
 sum_over_field-turn_by Once f = sum_over_field-turn f
-sum_over_field-turn_by Twice f = sum_over_field-turn (quarter_turn f) ∙ sum_over_field-turn f
-sum_over_field-turn_by Thrice f = sum_over_field-turn (quarter_turn (quarter_turn f)) ∙ sum_over_field-turn (quarter_turn f) ∙ sum_over_field-turn f
+sum_over_field-turn_by Twice f = sum_over_field-turn (turned_once f) ∙ sum_over_field-turn f
+sum_over_field-turn_by Thrice f = sum_over_field-turn (turned_once (turned_once f)) ∙ sum_over_field-turn (turned_once f) ∙ sum_over_field-turn f
 
 pub total_of-turn : (ds : List Dot) (q : TurnCount) → IsPicture ds → total_of (next_picture ds (ops.Quarter q)) ≡ total_of ds
 unfolding next_picture
@@ -39,7 +39,7 @@ total_of-turn ds q picture =
 
 -- a column, or row, of the field that a stretch takes to a part of the field
 abbrev Stays : Stretch → ℤ → Type 0
-Stays s p = IsColumnOrRow p × PlaceStaysInside s p
+Stays s p = IsColumnOrRow p × StaysInside s p
 
 shift_move : (d : ℤ) → IsMove 1 (λ q. q -ℤ d) (Stays (shift_by d))
 shift_move d = record {

@@ -16,10 +16,10 @@ use Rattle.mf_geom.specs.Winding.{contour, winding}
 use Rattle.mf_rows.specs.declared.sign.Sign.{Sign}
 use Rattle.mf_rows.specs.declared.sign.Sign.TheVariants.{Plus, Minus}
 use Rattle.mf_rows.specs.Dots.{Dot, IsDot, IsPicture, start_of_field, weight_at}
-use Rattle.mf_rows_edges.specs.Axes.{opposite, PlaceStaysInside}
+use Rattle.mf_rows_edges.specs.Axes.{opposite, StaysInside}
 use Rattle.mf_rows.proofs.DotsLemmas.{IsAt, weight_at-dot, dots_from-lawful, weight_at-outside}
 use Rattle.mf_ops.specs.Cull.{IsLawfulCull, culled_weight}
-use Rattle.mf_rows.specs.Moves.{quarter_turn}
+use Rattle.mf_rows.specs.Moves.{turned_once}
 use Rattle.mf_ops.specs.Moves.{Factors, AreFactors, IsFactor, scale_by, scale_source, shift_by, stays_inside, turn_by}
 use Rattle.mf_ops.specs.Step.{step_at, leaves, op_fault, LiesOutside, TurnsLawfully}
 use Rattle.mf_ops.specs.declared.cull.CullRule.{CullRule}
@@ -32,7 +32,7 @@ use Rattle.mf_ops.specs.declared.quarter.TurnCount.{TurnCount}
 use Rattle.mf_ops.specs.declared.quarter.TurnCount.TheVariants.{Once, Twice, Thrice}
 use Rattle.mf_ops.proofs.Faults.{leaves-refused, op_fault-leaves}
 use Rattle.mf_ops.proofs.Leaving.{column_inside, row_inside, stays_inside-true}
-use Rattle.mf_ops.proofs.Places.{HasPlace, scale_source-covered, scale_source-only, HasPlace-first, HasPlace-last}
+use Rattle.mf_ops.proofs.ScaleSources.{ScalesOnto, scale_source-covered, scale_source-only, ScalesOnto-first, ScalesOnto-last}
 
 -- where the weight is not 0 there is a dot
 list_any-at : (test : Dot → Bool) (ds : List Dot) (x y : ℤ) → weight_at ds x y ≢ pos 0 → ((d : Dot) → IsAt d x y → test d ≡ true) → list_any test ds ≡ true
@@ -76,8 +76,8 @@ stays-inside : (d p : ℤ) → IsColumnOrRow (p +ℤ d) → stays_inside (shift_
 stays-inside d p inside = grind (arith, ints, stays_inside-true)
 
 -- where column p stays inside, so do all columns of its part of the axis
-place_inside : (f p q : ℤ) → HasPlace f p q → stays_inside (scale_by f) p ≡ true → IsColumnOrRow q
-place_inside f p q has stays =
+scaled_inside : (f p q : ℤ) → ScalesOnto f p q → stays_inside (scale_by f) p ≡ true → IsColumnOrRow q
+scaled_inside f p q has stays =
     let ends = (stays_inside-true (scale_by f) p).0 stays in
     let start = ends.start in
     let end = ends.end in
@@ -86,7 +86,7 @@ place_inside f p q has stays =
 -- where it does not, the first or the last column of its part lies outside
 record HasOutside (f p : ℤ) : Type 0 where
   pub q : ℤ
-  pub has : HasPlace f p q
+  pub has : ScalesOnto f p q
   pub outside : IsColumnOrRow q → ⊥
 
 some_outside : (f p : ℤ) → IsFactor f → stays_inside (scale_by f) p ≡ false → HasOutside f p
@@ -94,12 +94,12 @@ some_outside f p factor leaves =
     let low = int_min (p *ℤ f) ((p +ℤ pos 1) *ℤ f) in
     let high = int_max (p *ℤ f) ((p +ℤ pos 1) *ℤ f) in
     by_lt_z low least_coordinate
-    (λ lt. record { q = low; has = HasPlace-first f p factor; outside = λ inside. let least = inside.least in omega (arith, ints) })
+    (λ lt. record { q = low; has = ScalesOnto-first f p factor; outside = λ inside. let least = inside.least in omega (arith, ints) })
     (λ least.
     by_lt_z greatest_coordinate high
-    (λ lt. record { q = high -ℤ pos 1; has = HasPlace-last f p factor; outside = λ inside. let greatest = inside.greatest in omega (arith, ints) })
+    (λ lt. record { q = high -ℤ pos 1; has = ScalesOnto-last f p factor; outside = λ inside. let greatest = inside.greatest in omega (arith, ints) })
     (λ greatest.
-    let ends : PlaceStaysInside (scale_by f) p = grind (arith, ints, clamps) in
+    let ends : StaysInside (scale_by f) p = grind (arith, ints, clamps) in
     absurd (both_ways (stays_inside (scale_by f) p) leaves ((stays_inside-true (scale_by f) p).1 ends))))
 
 -- ---- shifts
@@ -129,7 +129,7 @@ shift-outside ds dx dy at =
 -- ---- scales
 
 -- a pixel whose column and row lie in the parts of a dot's column and row gets the weight of that dot
-scaled_weight : (ds : List Dot) (s : Factors) (d : Dot) (x y : ℤ) → AreFactors s → HasPlace s.x d.x x → HasPlace s.y d.y y
+scaled_weight : (ds : List Dot) (s : Factors) (d : Dot) (x y : ℤ) → AreFactors s → ScalesOnto s.x d.x x → ScalesOnto s.y d.y y
     → weight_at ds d.x d.y ≢ pos 0 → step_at ds (Scale s) x y ≢ pos 0
 scaled_weight ds s d x y factors column row nonzero =
     rw (scale_source-only s.x d.x x factors.columns column, scale_source-only s.y d.y y factors.rows row) nonzero
@@ -147,7 +147,7 @@ scale-refused ds s picture factors refused =
             x = out.q;
             y = first_y;
             outside = λ field. out.outside (column_inside out.q first_y field);
-            nonzero = scaled_weight ds s d out.q first_y factors out.has (HasPlace-first s.y d.y factors.rows) found.1.nonzero;
+            nonzero = scaled_weight ds s d out.q first_y factors out.has (ScalesOnto-first s.y d.y factors.rows) found.1.nonzero;
           }
       | inr up ↦
           let out = some_outside s.y d.y factors.rows up in
@@ -155,7 +155,7 @@ scale-refused ds s picture factors refused =
             x = first_x;
             y = out.q;
             outside = λ field. out.outside (row_inside first_x out.q field);
-            nonzero = scaled_weight ds s d first_x out.q factors (HasPlace-first s.x d.x factors.columns) out.has found.1.nonzero;
+            nonzero = scaled_weight ds s d first_x out.q factors (ScalesOnto-first s.x d.x factors.columns) out.has found.1.nonzero;
           }
     ]
 
@@ -164,13 +164,13 @@ scale-outside ds s factors at =
     refused_at ds (Scale s) (scale_source s.x at.x) (scale_source s.y at.y) (record { none = refl }) at.nonzero (λ d here.
     not_from_false (stays_inside (scale_by s.x) d.x && stays_inside (scale_by s.y) d.y) (false_from_ne_true _ (λ stays.
     let tests = and_parts (stays_inside (scale_by s.x) d.x) (stays_inside (scale_by s.y) d.y) stays in
-    let column : HasPlace s.x d.x at.x = rw here.column (scale_source-covered s.x at.x factors.columns) in
-    let row : HasPlace s.y d.y at.y = rw here.row (scale_source-covered s.y at.y factors.rows) in
-    at.outside (in_field at.x at.y (place_inside s.x d.x at.x column tests.0) (place_inside s.y d.y at.y row tests.1)))))
+    let column : ScalesOnto s.x d.x at.x = rw here.column (scale_source-covered s.x at.x factors.columns) in
+    let row : ScalesOnto s.y d.y at.y = rw here.row (scale_source-covered s.y at.y factors.rows) in
+    at.outside (in_field at.x at.y (scaled_inside s.x d.x at.x column tests.0) (scaled_inside s.y d.y at.y row tests.1)))))
 
 -- ---- turns
 
--- where the turned place of a pixel lies in the field, so does the pixel
+-- where a pixel lies in the field after a turn, so does the pixel
 turn_in_field : (x y : ℤ) → IsInField y (opposite x) → IsInField x y
 turn_in_field x y field = in_field x y (grind (arith, ints, row_inside y (opposite x) field)) (column_inside y (opposite x) field)
 
@@ -178,14 +178,14 @@ turn_in_field x y field = in_field x y (grind (arith, ints, row_inside y (opposi
 ZeroOutside : (ℤ → ℤ → ℤ) → Type 0
 ZeroOutside f = (x y : ℤ) → (IsInField x y → ⊥) → f x y ≡ pos 0
 
-turn_outside : (f : ℤ → ℤ → ℤ) → ZeroOutside f → ZeroOutside (quarter_turn f)
+turn_outside : (f : ℤ → ℤ → ℤ) → ZeroOutside f → ZeroOutside (turned_once f)
 unfolding ZeroOutside
 turn_outside f zero x y outside = zero y (opposite x) (λ field. outside (turn_in_field x y field))
 
 turn_by-outside : (q : TurnCount) (f : ℤ → ℤ → ℤ) → ZeroOutside f → ZeroOutside (turn_by q f)
 turn_by-outside Once f zero = turn_outside f zero
-turn_by-outside Twice f zero = turn_outside (quarter_turn f) (turn_outside f zero)
-turn_by-outside Thrice f zero = turn_outside (quarter_turn (quarter_turn f)) (turn_outside (quarter_turn f) (turn_outside f zero))
+turn_by-outside Twice f zero = turn_outside (turned_once f) (turn_outside f zero)
+turn_by-outside Thrice f zero = turn_outside (turned_once (turned_once f)) (turn_outside (turned_once f) (turn_outside f zero))
 
 pub turn-inside : (ds : List Dot) (q : TurnCount) → IsPicture ds → LiesOutside (step_at ds (ops.Quarter q)) → ⊥
 unfolding ZeroOutside

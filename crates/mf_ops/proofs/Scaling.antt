@@ -6,14 +6,14 @@ use Rattle.std.specs.List.{All}
 use Rattle.mf_geom.specs.Coordinates.{least_coordinate, greatest_coordinate, last_in_field}
 use Rattle.mf_rows_edges.specs.declared.stretch.Stretch.{Stretch}
 use Rattle.mf_rows.specs.Dots.{Dot, IsPicture, weight_at}
-use Rattle.mf_rows_edges.specs.Axes.{IsStretch, PlaceStaysInside, opposite, source_of}
+use Rattle.mf_rows_edges.specs.Axes.{IsStretch, StaysInside, opposite, source_of}
 use Rattle.mf_rows.specs.Moves.{PixelsStayInside, moved_columns, moved_rows}
 use Rattle.mf_rows.specs.Sums.{HasWeights}
 use Rattle.mf_rows.proofs.DotsLemmas.{dots_from-lawful, weight_at-dot}
 use Rattle.mf_rows_edges.proofs.Sources.{source_of-reached, source_of-from}
 use Rattle.mf_ops.specs.Moves.{Factors, IsFactor, on_side, reflection, scale_by, scale_source}
 use Rattle.mf_ops.specs.Step.{step_at}
-use Rattle.mf_ops.proofs.Places.{IsStretch-size, by_size, end-negative, opposite-opposite, start-negative}
+use Rattle.mf_ops.proofs.ScaleSources.{IsStretch-size, by_size, end-negative, opposite-opposite, start-negative}
 use Rattle.mf_ops.specs.declared.op.Op.TheVariants.{Scale}
 use mir.Syntax.{w32}
 use mir.Val.{to_z, of_z}
@@ -36,7 +36,7 @@ stretches_made {z} {f} {n} {signed} {sized} is_factor value signed_made size siz
 pub IsStretch-made : {f a : ℤ} {signed sized : Stretch} → AreMade f a signed sized → IsStretch sized
 IsStretch-made {f} {a} {signed} {sized} made = rw made.sized_is (IsStretch-size f made.factor)
 
--- the source of a place of the field is in the field
+-- the source of a column, or row, of the field is in the field
 source_of-least : (f q : ℤ) → IsFactor f → least_coordinate ≤ℤ q → least_coordinate ≤ℤ source_of (by_size f) q
 source_of-least f q is_factor least =
     let stretch = IsStretch-size f is_factor in
@@ -53,18 +53,18 @@ source_of-greatest f q is_factor greatest =
     absurd (omega (arith, ints)))
     (λ within. within)
 
-pub HasWeights-scale : (ds middle new : List Dot) (s : Factors) (a b : ℤ) (columns rows sized_columns sized_rows : Stretch)
+pub HasWeights-scale : (ds : List Dot) {middle new : List Dot} (s : Factors) {a b : ℤ} {columns rows sized_columns sized_rows : Stretch}
     → AreMade s.x a columns sized_columns → AreMade s.y b rows sized_rows
     → HasWeights (reflection (int_lt a (pos 0)) (int_lt b (pos 0)) (weight_at ds)) middle
     → HasWeights (moved_rows (source_of sized_rows) (moved_columns (source_of sized_columns) (weight_at middle))) new → HasWeights (step_at ds (Scale s)) new
 unfolding scale_source
-HasWeights-scale ds middle new s a b columns rows sized_columns sized_rows x y reflected stretched =
+HasWeights-scale ds {middle} {new} s {a} {b} {columns} {rows} {sized_columns} {sized_rows} x y reflected stretched =
     grind (arith, ints, by_size, source_of-least, source_of-greatest)
 
 -- the ends of a column, or row, change places when it goes to the other side of 0
-PlaceStaysInside-size : (f p : ℤ) → PlaceStaysInside (scale_by f) (on_side (int_lt f (pos 0)) p) → PlaceStaysInside (by_size f) p
-PlaceStaysInside-size (pos n) p inside = subst (PlaceStaysInside (scale_by (pos n))) (cond-false _ (opposite p) p (grind (arith, ints))) inside
-PlaceStaysInside-size (negsuc n) p inside = grind (arith, ints, opposite-opposite, end-negative, start-negative)
+StaysInside-size : (f p : ℤ) → StaysInside (scale_by f) (on_side (int_lt f (pos 0)) p) → StaysInside (by_size f) p
+StaysInside-size (pos n) p inside = subst (StaysInside (scale_by (pos n))) (cond-false _ (opposite p) p (grind (arith, ints))) inside
+StaysInside-size (negsuc n) p inside = grind (arith, ints, opposite-opposite, end-negative, start-negative)
 
 -- each dot of the reflected picture comes from a pixel of nonzero weight
 reflected_dots : (columns rows : Bool) (ds middle : List Dot) → IsPicture middle → HasWeights (reflection columns rows (weight_at ds)) middle
@@ -78,6 +78,6 @@ pub PixelsStayInside-reflected : (ds middle : List Dot) (s : Factors) → IsPict
 PixelsStayInside-reflected ds middle s picture reflected inside =
     let nonzero = reflected_dots _ _ ds middle picture reflected in
     record {
-      across = λ k d lt. PlaceStaysInside-size s.x _ (holds_at_weight (λ x y. PlaceStaysInside (scale_by s.x) x) ds _ _ inside.across (nonzero k d lt));
-      up = λ k d lt. PlaceStaysInside-size s.y _ (holds_at_weight (λ x y. PlaceStaysInside (scale_by s.y) y) ds _ _ inside.up (nonzero k d lt));
+      across = λ k d lt. StaysInside-size s.x _ (holds_at_weight (λ x y. StaysInside (scale_by s.x) x) ds _ _ inside.across (nonzero k d lt));
+      up = λ k d lt. StaysInside-size s.y _ (holds_at_weight (λ x y. StaysInside (scale_by s.y) y) ds _ _ inside.up (nonzero k d lt));
     }

@@ -16,6 +16,7 @@ use Rattle.mf_geom.specs.Winding.{contour, winding}
 use Rattle.mf_geom.proofs.Crossings.{unit_step-reached, crossings-beside}
 use Rattle.mf_geom.proofs.Products.{mul-add, mul-self}
 use Rattle.mf_rows_strips.specs.declared.corner.Corner.{Corner}
+use Rattle.mf_rows_strips.proofs.TurnsLemmas.{added_by_all-append}
 use Rattle.mf_rows.specs.Corners.{IsCorner, IsCornerWeight, AreCorners, added_by, added_by_all, with_corners_at}
 use Rattle.mf_rows.specs.Dots.{Dot, weight_at}
 use Rattle.mf_ops.specs.Sides.{HasSide}
@@ -27,11 +28,6 @@ pub record AreSides (ps : List Point) (w : ℤ) (n : ℕ) (ks : List Corner) : T
   pub few : length ks ≤ 2 * n
   pub corners : All IsCorner ks
   pub added : (x y : ℤ) → added_by_all ks x y ≡ w *ℤ sum_below n (crossing_at ps x y)
-
-added_by_all-append : (ks ls : List Corner) (x y : ℤ) → added_by_all (ks ++ ls) x y ≡ added_by_all ks x y +ℤ added_by_all ls x y
-unfolding added_by_all
-added_by_all-append [] ls x y = omega (arith, ints)
-added_by_all-append (k ∷ ks) ls x y = let rest = added_by_all-append ks ls x y in omega (arith, ints)
 
 added_by_all-reverse : (ks : List Corner) (x y : ℤ) → added_by_all (reverse ks) x y ≡ added_by_all ks x y
 unfolding added_by_all

@@ -1,5 +1,5 @@
 -- From which pixel each pixel comes when an operation moves the squares of the pixels.
-use Rattle.std.proofs.Common.{◌≡◌, ℤ, ◌-ℤ◌, arith}
+use Rattle.std.proofs.Common.{◌≡◌, ◌-ℤ◌, arith}
 use Rattle.std.proofs.lemmas.Int.{ints, clamps}
 use Rattle.mf_geom.specs.declared.point.Point.{Point}
 use Rattle.mf_rows_edges.specs.Axes.{opposite}
@@ -8,7 +8,7 @@ use Rattle.mf_ops.specs.Squares.{Covers, MovesPixels}
 use Rattle.mf_ops.specs.declared.op.Op.{Op}
 use Rattle.mf_ops.specs.declared.op.Op.TheVariants.{Shift, Scale, Quarter}
 use Rattle.mf_ops.specs.declared.quarter.TurnCount.TheVariants.{Once, Twice, Thrice}
-use Rattle.mf_ops.proofs.Places.{scale_source-covered, scale_source-only}
+use Rattle.mf_ops.proofs.ScaleSources.{scale_source-covered, scale_source-only}
 
 -- the pixel from which the pixel q comes
 abbrev pub source : Op → Point → Point

@@ -5,7 +5,7 @@ use Rattle.std.specs.Prelude.{◌≢◌, ◌&&◌, Bool, ℤ, pos, nat_abs, ◌+
 use Rattle.mf_geom.specs.Coordinates.{IsCoordinate, is_coordinate}
 use Rattle.mf_rows_edges.specs.Axes.{opposite, source_of, target_of}
 use Rattle.mf_rows_edges.specs.declared.stretch.Stretch.{Stretch}
-use Rattle.mf_rows.specs.Moves.{moved_columns, moved_rows, quarter_turn}
+use Rattle.mf_rows.specs.Moves.{moved_columns, moved_rows, turned_once}
 use Rattle.mf_ops.specs.declared.quarter.TurnCount.{TurnCount}
 use Rattle.mf_ops.specs.declared.quarter.TurnCount.TheVariants.{Once, Twice, Thrice}
 
@@ -31,7 +31,7 @@ shift_by d = record { factor = pos 1; offset = d }
 abbrev pub scale_by : ℤ → Stretch
 scale_by f = record { factor = f; offset = pos 0 }
 
--- the place p, or the opposite place on the other side of 0 where it changes sides
+-- the column, or row, p, or the opposite one on the other side of 0 where it changes sides
 abbrev pub on_side : Bool → ℤ → ℤ
 on_side changes p = if changes then opposite p else p
 
@@ -46,9 +46,9 @@ scale_source f q = on_side (int_lt f (pos 0)) (source_of (scale_by (pos (nat_abs
 
 -- the weights f after one, two or three turns by 90 degrees counterclockwise
 abbrev pub turn_by : TurnCount → (ℤ → ℤ → ℤ) → ℤ → ℤ → ℤ
-turn_by Once f = quarter_turn f
-turn_by Twice f = quarter_turn (quarter_turn f)
-turn_by Thrice f = quarter_turn (quarter_turn (quarter_turn f))
+turn_by Once f = turned_once f
+turn_by Twice f = turned_once (turned_once f)
+turn_by Thrice f = turned_once (turned_once (turned_once f))
 
 -- the angle of a turn, in degrees
 abbrev pub degrees : TurnCount → ℤ
@@ -57,6 +57,6 @@ degrees Twice = pos 180
 degrees Thrice = pos 270
 
 -- whether a stretch takes column, or row, p to a part of the field, that is, whether both of its ends keep a coordinate: the fact
--- `PlaceStaysInside` as a value, since a refusal is computed
+-- `StaysInside` as a value, since a refusal is computed
 abbrev pub stays_inside : Stretch → ℤ → Bool
 stays_inside s p = is_coordinate (target_of s p) && is_coordinate (target_of s (p +ℤ pos 1))

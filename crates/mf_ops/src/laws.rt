@@ -16,7 +16,7 @@ ghost use Rattle.mf_rows_edges.specs.LawfulWeights.{IsLawfulWeight};
 ghost use Rattle.mf_rows.specs.declared.sign.Sign.{Sign};
 ghost use Rattle.mf_rows.specs.declared.sign.Sign.TheVariants.{Minus};
 ghost use Rattle.mf_rows.specs.Dots.{Dot, IsPicture, total_of, weight_at};
-ghost use Rattle.mf_rows.specs.Moves.{quarter_turn};
+ghost use Rattle.mf_rows.specs.Moves.{turned_once};
 ghost use Rattle.mf_rows.specs.Sums.{IsUnlawfulSomewhere};
 ghost use Rattle.mf_ops.specs.Cull.{IsLawfulCull, culled_weight};
 ghost use Rattle.mf_ops.specs.Moves.{Factors, AreFactors, scale_source};
@@ -24,7 +24,6 @@ ghost use Rattle.mf_ops.specs.Operations.{AreAccepted, picture_after, revision_a
 ghost use Rattle.mf_ops.specs.Squares.{Covers, MovesPixels};
 ghost use Rattle.mf_ops.specs.Step.{step_at, next_picture, op_fault, StaysInField, TurnsLawfully, HasLawfulValues, LiesOutside};
 ghost use Rattle.mf_ops.specs.declared.op.Op.{Op};
-ghost use Rattle.mf_ops.specs.declared.cull.CullRule.{CullRule};
 ghost use Rattle.mf_ops.specs.declared.cull.CullRule.TheVariants.{Keeping, Dropping};
 ghost use Rattle.mf_ops.specs.declared.op.Op.TheVariants as ops;
 ghost use Rattle.mf_ops.specs.declared.op.Op.TheVariants.{Contour, Also, Cull, Shift, Scale, Clear};
@@ -100,7 +99,7 @@ pub fn squares_move_with_the_plane()
 /// the factor -1: column, or row, q comes from column, or row, -q - 1.
 pub fn turns_and_reflections_return()
     ensures turns { (f : ℤ → ℤ → ℤ) (x y : ℤ)
-        → quarter_turn (quarter_turn (quarter_turn (quarter_turn f))) x y ≡ f x y }
+        → turned_once (turned_once (turned_once (turned_once f))) x y ≡ f x y }
     ensures reflections { (q : ℤ) → scale_source (negsuc 0) (scale_source (negsuc 0) q) ≡ q }
     ensures reflection { (q : ℤ) → scale_source (negsuc 0) q ≡ neg_ℤ q -ℤ pos 1 }
 {}

@@ -3,7 +3,7 @@ ghost use Rattle.std.specs.Prelude.{◌≡◌, ◌↔◌, None, Some, Err, IfOk,
 ghost use Rattle.mf_geom.specs.Coordinates.{IsCoordinate};
 ghost use Rattle.mf_geom.specs.Field.{IsColumnOrRow};
 ghost use Rattle.mf_rows.specs.Dots.{IsPicture, weight_at};
-ghost use Rattle.mf_rows_edges.specs.Axes.{PlaceStaysInside, target_of};
+ghost use Rattle.mf_rows_edges.specs.Axes.{StaysInside, target_of};
 ghost use Rattle.mf_rows.specs.Moves.{PixelsStayInside};
 ghost use Rattle.mf_rows.specs.Sums.{HasWeights};
 ghost use Rattle.mf_ops.specs.Moves.{reflection, turn_by};
@@ -115,11 +115,11 @@ fn pixels_stay_inside(picture: &Picture, columns: &Stretch, rows: &Stretch) -> b
 }
 
 /// Whether both ends of a column, or row, lie in -4095..=4095 after a stretch.
-fn lies_inside(stretch: &Stretch, place: i32) -> bool
-    requires { IsColumnOrRow place }
-    ensures { IsTrue result ↔ PlaceStaysInside stretch.now place }
+fn lies_inside(stretch: &Stretch, start: i32) -> bool
+    requires { IsColumnOrRow start }
+    ensures { IsTrue result ↔ StaysInside stretch.now start }
 {
-    stays_in_range(stretch, place) && stays_in_range(stretch, place + 1)
+    stays_in_range(stretch, start) && stays_in_range(stretch, start + 1)
 }
 
 /// Whether a point stays in -4095..=4095 under a stretch.

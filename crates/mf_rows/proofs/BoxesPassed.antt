@@ -7,7 +7,7 @@ use Rattle.mf_geom.specs.Coordinates.{least_coordinate, greatest_coordinate}
 use Rattle.mf_geom.specs.Field.{IsInField}
 use Rattle.mf_rows_edges.specs.declared.edge.Edge.{Edge}
 use Rattle.mf_rows_edges.specs.LawfulWeights.{IsLawfulWeight}
-use Rattle.mf_rows_strips.specs.Rests.{AreEnds}
+use Rattle.mf_rows_strips.specs.PartEdges.{AreEnds}
 use Rattle.mf_rows_strips.specs.RowEdges.{weight_left, weights_of}
 use Rattle.mf_rows.specs.declared.bounds.Box4.{Box4}
 use Rattle.mf_rows.specs.declared.bounds.Pixels.{Pixels}

@@ -49,8 +49,8 @@ module _ {S T A : Type 0} (rest : S → List A) (others : T → List A) (eq : A 
       along ran.1 ran.2 ran.3 ran.4 s ran.5 t ran.6 ran.8 (subst (λ j. YieldsThen (YieldsFirst others) j ran.2 ran.4 ran.6) ran.7 ran.9) ran.10 ran.11
 
 -- two pictures are equal exactly where their runs are
-pub same_from_runs : (b : Bool) (ds es : List Dot) (rs ss : List Run) → rs ≡ runs_of ds → ss ≡ runs_of es → Decides b (rs ≡ ss) → Decides b (ds ≡ es)
-same_from_runs b ds es rs ss left right runs =
+pub same_from_runs : (b : Bool) {ds es : List Dot} {rs ss : List Run} → rs ≡ runs_of ds → ss ≡ runs_of es → Decides b (rs ≡ ss) → Decides b (ds ≡ es)
+same_from_runs b {ds} {es} left right runs =
     Decides-like b
     (λ same. sym (dots_of-runs_of ds) ∙ ap (flat_map dots_of) (sym left ∙ same ∙ right) ∙ dots_of-runs_of es)
     (λ same. left ∙ ap runs_of same ∙ sym right)

@@ -8,7 +8,7 @@ use Rattle.mf_rows_edges.specs.declared.edge.Edge.{Edge}
 use Rattle.mf_rows_edges.specs.LawfulWeights.{IsLawfulWeight}
 use Rattle.mf_rows_edges.specs.Merging.{IsDifference}
 use Rattle.mf_rows_strips.specs.declared.row_edges.RowEdges.{RowEdges}
-use Rattle.mf_rows_strips.specs.Rests.{IsNextEdge}
+use Rattle.mf_rows_strips.specs.PartEdges.{IsNextEdge}
 use Rattle.mf_rows_strips.specs.RowEdges.{AreSameRows, weight_left, weights_of}
 use Rattle.mf_rows.specs.declared.walk.Walk.{Walk}
 use Rattle.mf_rows.specs.Reading.{IsReading}

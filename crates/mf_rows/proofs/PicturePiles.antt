@@ -1,15 +1,15 @@
 -- The pictures of piles.
-use Rattle.std.proofs.Common.{◌≡◌, ℤ, pos, ◌+ℤ◌, ◌-ℤ◌, ◌≤ℤ◌, ◌<ℤ◌, List, [], ◌∷◌, to_z-of_z, refl, ap, sym, ◌∙◌, arith}
+use Rattle.std.proofs.Common.{◌≡◌, ℤ, pos, ◌+ℤ◌, ◌-ℤ◌, List, [], ◌∷◌, to_z-of_z, refl, ap, sym, ◌∙◌, arith}
 use Rattle.std.specs.Arc.{arc_value}
 use Rattle.std.specs.List.{All}
 use Rattle.std.specs.declared.alloc.Global.{Global}
 use Rattle.std.specs.declared.sync.Arc.{Arc}
-use Rattle.std.proofs.lemmas.Int.{ints, by_lt_z}
+use Rattle.std.proofs.lemmas.Int.{ints}
 use Rattle.std.proofs.lemmas.List.Elements.{All-head, All-tail}
 use Rattle.mf_geom.specs.Field.{IsInField}
 use Rattle.mf_rows_edges.specs.Edges.{weight_in}
 use Rattle.mf_rows_edges.specs.LawfulWeights.{IsLawfulWeight}
-use Rattle.mf_rows_edges.specs.Axes.{PlaceStaysInside}
+use Rattle.mf_rows_edges.specs.Axes.{StaysInside}
 use Rattle.mf_rows_edges.specs.declared.stretch.Stretch.{Stretch}
 use Rattle.mf_rows_edges.proofs.ReachesLemmas.{wider_reach}
 use Rattle.mf_rows_strips.specs.declared.part.Part.{Part}
@@ -116,8 +116,8 @@ corners_are p part ks made x y inside = omega (arith, ints, pile_weight p x y, m
 pub strips_inside : (columns rows : Stretch) (ds : List Dot) (part : Part) → weight_in_part part ≡ weight_at ds
     → PixelsStayInside columns rows ds → StripsStayInside columns rows (strips_in part)
 strips_inside columns rows ds part is inside = record {
-  across = λ x y some. holds_at_weight (λ x y. PlaceStaysInside columns x) ds x y inside.across (rw is at some);
-  up = λ x y some. holds_at_weight (λ x y. PlaceStaysInside rows y) ds x y inside.up (rw is at some);
+  across = λ x y some. holds_at_weight (λ x y. StaysInside columns x) ds x y inside.across (rw is at some);
+  up = λ x y some. holds_at_weight (λ x y. StaysInside rows y) ds x y inside.up (rw is at some);
 }
 
 -- what the methods of pictures use

@@ -121,10 +121,10 @@ module _ (f : ℤ → ℤ → ℤ) (y : ℤ) (below : List Dot) (none : (x : ℤ
       rw (columns_on x e (omega (arith, ints)) within, rw (own, end) at passed, append_assoc) first
 
 -- from the end of a row, the rows below it, without those that are blank
-pub dots_from-below : (f : ℤ → ℤ → ℤ) (x bottom y : ℤ) → x ≡ greatest_coordinate → AreBlankBelow f bottom y
+pub dots_from-below : {f : ℤ → ℤ → ℤ} {x bottom y : ℤ} → x ≡ greatest_coordinate → AreBlankBelow f bottom y
     → dots_from f x y ≡ dots_from f greatest_coordinate bottom
 unfolding dots_from row_of
-dots_from-below f x bottom y over rows =
+dots_from-below {f} {x} {bottom} {y} over rows =
     let k = unsigned_abs (y -ℤ bottom) in
     let n = unsigned_abs (bottom -ℤ least_coordinate) in
     let all : unsigned_abs (y -ℤ least_coordinate) ≡ k + n = omega (arith, ints, rows.low, rows.order) in

@@ -5,7 +5,7 @@ use Rattle.std.proofs.lemmas.Int.{ints, by_lt_z}
 use Rattle.std.proofs.lemmas.List.Elements.{All-nil, All-cons, All-append, All-weaker}
 use Rattle.mf_geom.specs.Coordinates.{greatest_coordinate}
 use Rattle.mf_geom.specs.Field.{IsInField}
-use Rattle.mf_rows_strips.specs.Corners.{added_by, added_by_all, AreSweptCorners, HaveFieldStripWeights, IsPlaced}
+use Rattle.mf_rows_strips.specs.Corners.{added_by, added_by_all, AreSweptCorners, HaveFieldStripWeights, IsCornerInRange}
 use Rattle.mf_rows_strips.specs.Strips.{EdgeStrip, weight_in_strips}
 use Rattle.mf_rows_strips.specs.declared.corner.Corner.{Corner}
 use Rattle.mf_rows_strips.proofs.TurnsLemmas.{added_by_all-append}
@@ -53,9 +53,9 @@ added_off r x y off =
     (λ not_below. by_lt_z r.y y (λ above. grind (arith, ints)) (λ same. absurd (off (record { row = omega (arith, ints); left = from; right = inside })))))
     (λ right. omega (arith, ints, side_by_side r.x end (r.y +ℤ pos 1) w z x y opposite from right, side_by_side r.x end r.y z w x y negated from right)))
 
-placed : (r : Run) → IsRun r → All IsPlaced (corners_of r)
+corners_in_range : (r : Run) → IsRun r → All IsCornerInRange (corners_of r)
 unfolding corners_of
-placed r run = grind (arith, ints, All-cons, All-nil)
+corners_in_range r run = grind (arith, ints, All-cons, All-nil)
 
 start_of_run : (r : Run) → IsRun r → start_of_field ≤ℤ place r.x r.y
 start_of_run r run = start_of_field-le r.x r.y (grind (arith, ints))
@@ -72,7 +72,7 @@ blank_built = sym (picture_of-from_weights [] (added_by_all []) (record { dots =
 pub none_built : AreBuilt [] start_of_field
 unfolding added_by_all
 none_built = record {
-  swept = record { places = All-nil IsPlaced; lawful = λ x y. record { least = omega (arith, ints); greatest = omega (arith, ints) }; closed = λ y. refl };
+  swept = record { in_range = All-nil IsCornerInRange; lawful = λ x y. record { least = omega (arith, ints); greatest = omega (arith, ints) }; closed = λ y. refl };
   before = rw blank_built (All-nil (λ d. place d.x d.y <ℤ start_of_field));
   least = λ p low before. low;
 }
@@ -106,7 +106,7 @@ module _ (ks : List Corner) (end : ℤ) (r : Run) (built : AreBuilt ks end) (fit
 
   swept : AreSweptCorners (ks ++ corners_of r)
   swept = record {
-    places = All-append IsPlaced ks (corners_of r) built.swept.places (placed r fits.run);
+    in_range = All-append IsCornerInRange ks (corners_of r) built.swept.in_range (corners_in_range r fits.run);
     lawful = λ x y. by_on_run r x y (λ on. rw (with_run x y on) fits.run.lawful) (λ off. rw (without_run x y off) (built.swept.lawful x y));
     closed = λ y.
         omega (arith, ints, without_run greatest_coordinate y (λ on. omega (arith, ints, on.right, fits.run.right)), built.swept.closed y);

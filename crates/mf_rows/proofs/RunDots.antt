@@ -7,7 +7,7 @@ use Rattle.std.proofs.lemmas.Int.{ints, by_lt_z}
 use Rattle.std.proofs.lemmas.List.Elements.{All-nil, All-cons, All-head, All-tail, All-weaker}
 use Rattle.mf_rows.specs.declared.run.Run.{Run}
 use Rattle.mf_rows_edges.specs.LawfulWeights.{IsLawfulWeight}
-use Rattle.mf_rows.specs.Dots.{Dot, IsPicture, AreDotsFrom, place, start_of_field, weight_at}
+use Rattle.mf_rows.specs.Dots.{Dot, AreDotsFrom, place, start_of_field, weight_at}
 use Rattle.mf_rows.specs.Order.{AreBefore, IsRun, AreRunsFrom, AreRuns, Fits}
 use Rattle.mf_rows.specs.Runs.{equal_dots, dots_of}
 use Rattle.mf_rows.proofs.DotsLemmas.{weight_at-here, weight_at-elsewhere, weight_at-after, weight_at-before, not_at, dots_from-lower, dots_from-append}
@@ -119,9 +119,6 @@ dots_from-runs low (r ∷ rs) runs =
     dots_from-append low end (dots_of r) (flat_map dots_of rs) (omega (arith, ints, runs.1))
     (dots_from-lower low (place r.x r.y) (dots_of r) runs.1 (dots_from-run r runs.0))
     (before_equal_dots-end r.y r.x r.weight r.len end (omega (arith, ints))) (dots_from-runs end rs runs.2)
-
-pub picture-runs : (rs : List Run) → AreRuns rs → IsPicture (flat_map dots_of rs)
-picture-runs rs ordered = record { dots = dots_from-runs start_of_field rs ordered.runs }
 
 -- to the left of the first run of its row a pixel has weight 0
 pub weight_at-left_of : (x y u : ℤ) (rs : List Run) → AreRunsFrom (place x y) rs → u <ℤ x → weight_at (flat_map dots_of rs) u y ≡ pos 0

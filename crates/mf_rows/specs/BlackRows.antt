@@ -12,7 +12,7 @@ use Rattle.mf_rows.specs.Weights.{row_of}
 unfoldable pub black_weights : (ℤ → ℤ → ℤ) → ℤ → ℤ → ℤ
 black_weights f x y = if int_lt (pos 0) (f x y) then pos 1 else pos 0
 
--- the maximal runs in row y of the pixels at which f is not 0, from column x on
+-- the maximal runs in row y of the pixels at which f is not 0, from column x on, which is not beyond the field
 unfoldable pub row_runs : (ℤ → ℤ → ℤ) → ℤ → ℤ → List Run
 row_runs f y x = runs_of (row_of f y x (unsigned_abs (greatest_coordinate -ℤ x)))
 

@@ -44,8 +44,9 @@ AreBounds f (Some b) = IsBoxRound f b
 unfoldable pub from_row : ℤ → (ℤ → ℤ → Bool) → ℤ → ℤ → Bool
 from_row h f x y = if int_lt y h then false else f x y
 
--- `first` and `last` are the first and the last column to the left of column x at which f is true in row y; there is none where `first` is
--- not a column of the field
+-- in row y, the columns to the left of column x at which f is true are from `first` to `last`, and it is true at these two,
+-- unless `first` is beyond the field: then there are none. `first` and `last` are to the left of x where x is the end of the
+-- field and f is false outside it; else they need not be
 pub record AreColumns (f : ℤ → ℤ → Bool) (y x first last : ℤ) : Type 0 where
   pub within : (z : ℤ) → z <ℤ x → f z y ≡ true → (first ≤ℤ z) × (z ≤ℤ last)
   pub ends : first <ℤ greatest_coordinate → (f first y ≡ true) × (f last y ≡ true)

@@ -38,7 +38,7 @@ pub record IsBoxOfField (b : Box4) : Type 0 where
   pub columns : b.min_x ≤ℤ b.max_x
   pub rows : b.min_y ≤ℤ b.max_y
 
--- the number of columns, or rows, from the first to the last, both inclusive
+-- the number of columns, or rows, from the first to the last, both inclusive, where the first is not greater than the last
 abbrev pub extent : ℤ → ℤ → ℕ
 extent first last = unsigned_abs ((last -ℤ first) +ℤ pos 1)
 

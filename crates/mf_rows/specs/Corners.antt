@@ -7,7 +7,7 @@ use Rattle.mf_rows.specs.Dots.{Dot, start_of_field, weight_at}
 use Rattle.mf_rows.specs.Order.{AreBefore}
 use Rattle.mf_rows.specs.Weights.{picture_of}
 unfoldable pub use Rattle.mf_rows_strips.specs.Corners.{added_by, added_by_all}
-pub use Rattle.mf_rows_strips.specs.Corners.{greatest_corner_weight, IsCornerWeight, IsCorner, AreCorners, IsPlaced}
+pub use Rattle.mf_rows_strips.specs.Corners.{greatest_corner_weight, IsCornerWeight, IsCorner, AreCorners, IsCornerInRange}
 
 -- the weight of the pixel (x, y) after corners are added to a picture
 unfoldable pub with_corners_at : List Dot → List Corner → ℤ → ℤ → ℤ
@@ -23,7 +23,7 @@ corners_of r =
 abbrev pub picture_of_corners : List Corner → List Dot
 picture_of_corners ks = picture_of (added_by_all ks)
 
--- corners whose picture ends before a place, and at no lower one
+-- corners whose picture ends before the place `end`, and before no earlier place from the first one of the field on
 pub record AreBuilt (ks : List Corner) (end : ℤ) : Type 0 where
   pub swept : AreSweptCorners ks
   pub before : AreBefore end (picture_of_corners ks)

@@ -28,7 +28,7 @@ pub record AreRuns (rs : List Run) : Type 0 where
 abbrev pub AreBefore : ℤ → List Dot → Type 0
 AreBefore p ds = All (λ d. place d.x d.y <ℤ p) ds
 
--- a run fits after dots where each of them comes before it
+-- a lawful run fits after dots where each of them comes before it
 pub record Fits (ds : List Dot) (r : Run) : Type 0 where
   pub run : IsRun r
   pub before : AreBefore (place r.x r.y) ds

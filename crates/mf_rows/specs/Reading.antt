@@ -4,8 +4,9 @@ use Rattle.std.proofs.Props.{props}
 use Rattle.mf_geom.specs.Coordinates.{least_coordinate, greatest_coordinate, last_in_field}
 use Rattle.mf_rows_strips.specs.RowEdges.{AreSameRows}
 
--- in row y, whose weights are those of f, weight w begins at column x, and the edges to the right of it make the weights g; the rows down to
--- row `bottom` are equal to it
+-- in row y, whose weights are those of f, column x has weight w, and the edges to the right of it add the weights g to w; the
+-- rows down to row `bottom` are equal to it. Column x is one of the field or next to it, and nothing is said of the columns to
+-- the left of it
 pub record IsReading (f : ℤ → ℤ → ℤ) (g : ℤ → ℤ) (x y w bottom : ℤ) : Type 0 where
   pub left : (least_coordinate -ℤ pos 1) ≤ℤ x
   pub right : x ≤ℤ greatest_coordinate

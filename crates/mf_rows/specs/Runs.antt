@@ -1,4 +1,4 @@
--- Runs: maximal stretches of pixels of one nonzero weight in one row.
+-- Runs: maximal sequences of pixels of one nonzero weight in one row.
 use Rattle.std.specs.Prelude.{◌≡◌, ◌≢◌, ◌<◌, ◌≤◌, ℕ, zero, suc, ◌&&◌, Bool, ℤ, pos, ◌+ℤ◌, ◌-ℤ◌, List, [], ◌∷◌, Option, None, Some, if◌then◌else◌}
 use Rattle.std.specs.Ordering.{int_eq}
 use Rattle.mf_rows.specs.declared.run.Run.{Run}

@@ -4,7 +4,7 @@ use Rattle.std.specs.Int.RustNames.{unsigned_abs}
 use Rattle.mf_geom.specs.Coordinates.{least_coordinate, greatest_coordinate}
 use Rattle.mf_geom.specs.Sum.{sum_below}
 
--- the sum of the numbers f z, where z goes from `low` up to the one before `high`
+-- the sum of the numbers f z, where z goes from `low` up to the one before `high`, which is not less than `low`
 unfoldable pub sum_from : ℤ → ℤ → (ℤ → ℤ) → ℤ
 sum_from low high f = sum_below (unsigned_abs (high -ℤ low)) (λ i. f (low +ℤ pos i))
 

@@ -4,8 +4,8 @@ use crate::walk::Walk;
 use mf_rows_strips::Pile;
 
 /// A reader of the black pixels of a picture, those of positive weight: it is in one row at a time, from the top row of the field down, and
-/// gives the stretches of black pixels of that row from left to right. Rows that are known to be equal can be passed in one step. It
-/// allocates nothing.
+/// gives the runs of black pixels of that row from left to right, each with weight 1. Rows that are known to be equal can be passed in one
+/// step. It allocates nothing.
 #[derive(Drop)]
 pub struct BlackRows<'a> {
     walk: Walk<'a>,
@@ -32,7 +32,7 @@ impl<'a> BlackRows<'a> {
         }
     }
 
-    /// The next stretch of black pixels of the row, as a run of weight 1; `None` after the last.
+    /// The next run of black pixels of the row, with weight 1; `None` after the last.
     #[inline(always)]
     pub fn next_run(&mut self) -> Option<Run>
         ensures next { runs_in self.old ≡ with_next result (runs_in self.new) }
@@ -45,7 +45,7 @@ impl<'a> BlackRows<'a> {
     }
 
     /// Passes the rows below that are known to be equal to the row, and returns how many. The reader is then in the lowest of them. Requires
-    /// that the row has no more stretches.
+    /// that the row has no more runs.
     pub fn pass_equal_rows(&mut self) -> u32
         requires { runs_in self.old ≡ [] }
         ensures count { row_in self.new ≡ row_in self.old -ℤ pos result }

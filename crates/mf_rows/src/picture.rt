@@ -1,5 +1,5 @@
 //! Pictures.
-ghost use Rattle.std.specs.Prelude.{◌≡◌, ◌≢◌, ◌≤◌, [], IsNone, IsOk, IfSome, IfOk, IfErr, OnOk, OnErr, IsTrue, ℤ, length, slice_get, ◌↔◌};
+ghost use Rattle.std.specs.Prelude.{◌≡◌, ◌≢◌, [], IsNone, IsOk, IfSome, IfOk, IfErr, OnOk, OnErr, IsTrue, ℤ, slice_get, ◌↔◌};
 
 use crate::black_rows::BlackRows;
 use crate::bounds::{Box4, Pixels};
@@ -107,7 +107,8 @@ impl Picture {
         walk.total()
     }
 
-    /// The least box of the pixels of nonzero weight, `None` where the picture is blank. It goes through equal rows that lie together only once.
+    /// The least box of the pixels of nonzero weight, `None` where the picture is blank. It goes through equal rows that lie
+    /// together only once.
     #[tactic(auto, using(crate::proofs::LeastBoxes::least_boxes))]
     pub fn bounds(&self) -> Option<Box4>
         ensures blank { IsNone result ↔ (self.now ≡ []) }
@@ -135,7 +136,7 @@ impl Picture {
         Runs::of(&self.pile)
     }
 
-    /// A reader of the stretches of black pixels, those of positive weight, which is in the top row of the field.
+    /// A reader of the runs of black pixels, those of positive weight, which is in the top row of the field.
     pub fn black_rows(&self) -> BlackRows<'_>
         ensures black { black_in result ≡ black_weights (weight_at self.now) }
         ensures row { row_in result ≡ last_in_field }

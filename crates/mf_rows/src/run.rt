@@ -44,7 +44,8 @@ impl Run {
     /// Whether all its columns lie in the field.
     fn lies_in_columns(&self) -> bool
         ensures { IsTrue result
-            ↔ ((least_coordinate ≤ℤ self.now.x) × ((self.now.x +ℤ pos self.now.len) ≤ℤ greatest_coordinate)) }
+            ↔ ((least_coordinate ≤ℤ self.now.x)
+            × ((self.now.x +ℤ pos self.now.len) ≤ℤ greatest_coordinate)) }
     {
         FIELD_START <= self.x && i64::from(self.x) + i64::from(self.len) <= i64::from(FIELD_END)
     }

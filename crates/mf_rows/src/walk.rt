@@ -53,7 +53,8 @@ impl<'a> Walk<'a> {
         }
     }
 
-    /// The least box of these pixels, `None` where there are none. Requires a walk that is at its start. It goes through equal rows that lie together only once.
+    /// The least box of these pixels, `None` where there are none. Requires a walk that is at its start. It goes through equal
+    /// rows that lie together only once.
     pub(crate) fn bounds(&mut self, pixels: Pixels) -> Option<Box4>
         requires { IsAtStart (weights_of self.old.edges) self.old }
         ensures { AreBounds (among pixels (weights_of self.old.edges)) result }
@@ -71,9 +72,10 @@ impl<'a> Walk<'a> {
     /// The least box round that of these pixels in the rows above, and those of the row and of the rows that are equal to it.
     fn widen(&mut self, bounds: Option<Box4>, pixels: Pixels) -> Option<Box4>
         requires column { self.old.x <ℤ least_coordinate }
-        requires bounds { AreBounds (from_row (self.old.y +ℤ pos 1) (among pixels (weights_of self.old.edges)))
-            bounds }
-        ensures bounds { AreBounds (from_row self.old.bottom (among pixels (weights_of self.old.edges))) result }
+        requires bounds { AreBounds
+            (from_row (self.old.y +ℤ pos 1) (among pixels (weights_of self.old.edges))) bounds }
+        ensures bounds { AreBounds
+            (from_row self.old.bottom (among pixels (weights_of self.old.edges))) result }
         ensures passed { HasPassedRow self.old self.new }
     {
         let (first, last) = self.columns(pixels);
@@ -95,8 +97,8 @@ impl<'a> Walk<'a> {
     fn columns_at_ends(&self, pixels: Pixels) -> Option<(i32, i32)>
         requires { self.now.x <ℤ least_coordinate }
         ensures { IfSome result (λ columns.
-            AreColumns (among pixels (weights_of self.now.edges)) self.now.y greatest_coordinate
-            columns.0 columns.1) }
+            AreColumns (among pixels (weights_of self.now.edges)) self.now.y
+            greatest_coordinate columns.0 columns.1) }
     {
         let (first, last) = self.edges.ends()?;
         if pixels.has(first.weight) && pixels.has(-last.weight) {
@@ -109,8 +111,8 @@ impl<'a> Walk<'a> {
     /// that no pixel of the row was passed yet.
     fn columns(&mut self, pixels: Pixels) -> (i32, i32)
         requires { self.old.x <ℤ least_coordinate }
-        ensures columns { AreColumns (among pixels (weights_of self.old.edges)) self.old.y greatest_coordinate
-            result.0 result.1 }
+        ensures columns { AreColumns (among pixels (weights_of self.old.edges)) self.old.y
+            greatest_coordinate result.0 result.1 }
         ensures passed { HasPassedRow self.old self.new }
     {
         if let Some(columns) = self.columns_at_ends(pixels) {
@@ -197,7 +199,7 @@ impl<'a> Walk<'a> {
         }
     }
 
-    /// The next stretch of black pixels of the row, as a run of weight 1; `None` after the last.
+    /// The next run of black pixels of the row, with weight 1; `None` after the last.
     #[inline(always)]
     pub(crate) fn next_black(&mut self) -> Option<Run>
         ensures next { row_runs (black_weights (weights_of self.old.edges)) self.old.y self.old.x
@@ -217,7 +219,7 @@ impl<'a> Walk<'a> {
         Some(self.take_black())
     }
 
-    /// Takes the stretch of black pixels that begins at the next pixel.
+    /// Takes the run of black pixels that begins at the next pixel.
     #[inline(always)]
     fn take_black(&mut self) -> Run
         requires { pos 0 <ℤ self.old.weight }
@@ -244,7 +246,8 @@ impl<'a> Walk<'a> {
         ensures weights { weights_of self.new.edges ≡ weights_of self.old.edges }
         ensures column { self.new.x ≡ self.old.x }
         ensures count { self.new.y ≡ self.old.y -ℤ pos result }
-        ensures rows { AreSameRows (black_weights (weights_of self.old.edges)) self.new.y self.old.y }
+        ensures rows { AreSameRows
+            (black_weights (weights_of self.old.edges)) self.new.y self.old.y }
     {
         let rows = self.y.abs_diff(self.bottom);
         self.y = self.bottom;

@@ -46,10 +46,10 @@ next_at {m = m} {e = e} {weight = weight} row map so_far next computed =
     let value = rw (change_is, sum_is) at computed in
     record { change_is = change_is; sum_is = sum_is; next_is = omega (arith, ints, value, images); fits = omega (arith, ints, value, images); value = value }
 
-pub mapped_more : (m : WeightMap) (es left new : List Edge) (e : Edge) (weight image next : ℤ) → IsMappedSoFar m es (e ∷ left) new weight image
+pub mapped_more : {m : WeightMap} {es left new : List Edge} {e : Edge} {weight image next : ℤ} → IsMappedSoFar m es (e ∷ left) new weight image
     → next ≡ mapped_weight m (weight +ℤ e.weight)
     → IsMappedSoFar m es left (new ++ unless_zero (record { x = e.x; weight = next -ℤ image })) (weight +ℤ e.weight) next
-mapped_more m es left new e weight image next so_far next_is =
+mapped_more {m = m} {new = new} {e = e} {weight = weight} {image = image} {next = next} so_far next_is =
     let passed = so_far.passed in
     let from : passed.low ≤ℤ e.x = passed.sorted.1 in
     let made : Edge = record { x = e.x; weight = next -ℤ image } in
@@ -73,8 +73,8 @@ mapped_more m es left new e weight image next so_far next_is =
       image_is = next_is;
     }
 
-pub mapped_all : (m : WeightMap) (es new : List Edge) (weight image : ℤ) → AreEdges es → IsWeightMap m → IsMappedSoFar m es [] new weight image → AreMapped m es new
+pub mapped_all : {m : WeightMap} {es new : List Edge} {weight image : ℤ} → AreEdges es → IsWeightMap m → IsMappedSoFar m es [] new weight image → AreMapped m es new
 unfolding mapped_in weight_in
-mapped_all m es new weight image row map so_far =
+mapped_all {m = m} {es = es} {new = new} row map so_far =
     let weights : (x : ℤ) → weight_in new x ≡ mapped_weight m (weight_in es x) = λ x. so_far.weights x ∙ ap (mapped_weight m) (omega (arith, ints)) in
     grind (arith, ints, sym)

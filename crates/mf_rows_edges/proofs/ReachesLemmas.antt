@@ -1,6 +1,5 @@
 -- The reach of edges, and of the sum of two rows.
-use Rattle.std.proofs.Common.{◌≡◌, nat_abs, ℤ, to_z}
-use Rattle.std.proofs.Common.{of_z, w32, pos, ◌+ℤ◌, ◌-ℤ◌, ◌≤ℤ◌, List, [], ◌∷◌, sym, ap, arith}
+use Rattle.std.proofs.Common.{◌≡◌, nat_abs, ℤ, pos, ◌+ℤ◌, ◌-ℤ◌, ◌≤ℤ◌, List, [], ◌∷◌, sym, ap, arith}
 use Rattle.std.specs.Ordering.{int_cmp, ord_max}
 use Rattle.std.proofs.lemmas.Cmp.{by_ranked, int_ranked}
 use Rattle.std.proofs.lemmas.Int.{ints, by_lt_z}
@@ -62,9 +61,6 @@ unfolding weight_in
 reach_all es w reach so_far = grind (arith, ints)
 
 -- ---- reaches that fit
-
-pub reach_is : (reach : ℤ) (es : List Edge) → StaysInReach reach es → to_z w32 (of_z w32 reach) ≡ reach
-reach_is reach es stays = omega (arith, ints, stays.within (pos 0), stays.most)
 
 -- the least reach of a row is one
 pub reach_of_row : (reach : ℤ) (es : List Edge) → AreEdges es → IsLeastReach reach es → StaysInReach reach es

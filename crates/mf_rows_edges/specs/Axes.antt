@@ -17,11 +17,11 @@ pub record IsStretch (s : Stretch) : Type 0 where
 abbrev pub target_of : Stretch → ℤ → ℤ
 target_of s x = (x *ℤ s.factor) +ℤ s.offset
 
--- the column, or row, from which column, or row, q comes under a stretch
+-- the column, or row, from which column, or row, q comes under a stretch whose factor is positive
 unfoldable pub source_of : Stretch → ℤ → ℤ
 source_of s q = int_div_euclid (q -ℤ s.offset) s.factor
 
 -- a stretch takes the column, or row, p to a part of the field: both ends of that have coordinates in range
-pub record PlaceStaysInside (s : Stretch) (p : ℤ) : Type 0 where
+pub record StaysInside (s : Stretch) (p : ℤ) : Type 0 where
   pub start : IsCoordinate (target_of s p)
   pub end : IsCoordinate (target_of s (p +ℤ pos 1))

@@ -25,7 +25,7 @@ use Rattle.mf_rows_strips.proofs.StripsLemmas.{no_edges, no_weight, none_reached
 use Rattle.mf_rows_strips.proofs.Written.{GoOn, go_on, go_on_with, last_lawful, strips_closed, weight_below}
 use Rattle.mf_rows_strips.specs.declared.corner.Corner.{Corner}
 use Rattle.mf_rows_strips.specs.Corners.{added_by, added_by_all, AreCorners, AreSortedFrom, AreSweptCorners, BeginAtHeight, BeginBelowField}
-use Rattle.mf_rows_strips.specs.Corners.{ContinueWith, HaveFieldStripWeights, IsCorner, IsCornerWeight, IsJoined, IsPast, IsPlaced, IsReach, IsSplitHeight}
+use Rattle.mf_rows_strips.specs.Corners.{ContinueWith, HaveFieldStripWeights, IsCorner, IsCornerWeight, IsJoined, IsPast, IsCornerInRange, IsReach, IsSplitHeight}
 
 -- ---- what sorted corners add
 
@@ -41,7 +41,7 @@ added_below : (k : Corner) (x y : ℤ) → y <ℤ k.y → added_by k x y ≡ (if
 unfolding added_by
 added_below k x y below = grind (arith, ints)
 
--- the corners past a place add nothing to the pixels before it
+-- corners that are past a point add nothing to the pixels before it
 added_before : (a b x y : ℤ) (ks : List Corner) → AreSortedFrom a b ks → b ≤ℤ (y +ℤ pos 1) → (b ≡ y +ℤ pos 1 → x <ℤ a) → added_by_all ks x y ≡ pos 0
 unfolding added_by_all
 added_before a b x y [] sorted above left = refl
@@ -77,10 +77,10 @@ pub height_none : (top : ℤ) (ks : List Corner) → BeginAtHeight top ks → Ar
 unfolding weight_in
 height_none top ks first sorted = grind (arith, ints, All-nil)
 
-pub height_more : (top : ℤ) (k : Corner) (ks others : List Corner) (changes new : List Edge) (last next : Edge)
+pub height_more : {top : ℤ} {k : Corner} {ks others : List Corner} {changes new : List Edge} {last next : Edge}
     → IsHeightSoFar top ks changes last (k ∷ others) → k.y ≡ top → IsJoined changes last k new next → IsHeightSoFar top ks new next others
 unfolding added_by_all
-height_more top k ks others changes new last next so_far here joined = record {
+height_more {k = k} so_far here joined = record {
   edges = joined.edges;
   sorted = rw (joined.column, ← here) so_far.sorted.2;
   weights = λ x y below. omega (arith, ints, so_far.weights x y below, joined.weights x, added_below k x y (omega (arith, ints)));
@@ -94,9 +94,9 @@ sorted_lower low top [] sorted lower = tt
 sorted_lower low top (k ∷ ks) sorted lower =
     (sorted.0, record { height = by_lt_z k.y top (λ lt. omega (arith, ints)) (λ ge. absurd (lower (omega (arith, ints, sorted.1.height)))); column = λ _. sorted.0.column.least }, sorted.2)
 
-pub height_all : (top : ℤ) (ks left : List Corner) (changes : List Edge) (last : Edge) → IsHeightSoFar top ks changes last left
+pub height_all : {top : ℤ} {ks left : List Corner} {changes : List Edge} {last : Edge} → IsHeightSoFar top ks changes last left
     → (BeginAtHeight top left → ⊥) → IsSplitHeight top ks (changes ++ unless_zero last) left
-height_all top ks left changes last so_far lower = grind (arith, ints, sorted_push, sorted_lower, weight_in-push, sym)
+height_all {top} {ks} {left} {changes} {last} so_far lower = grind (arith, ints, sorted_push, sorted_lower, weight_in-push, sym)
 
 -- ---- strips go on with a row
 
@@ -221,9 +221,9 @@ added_below_field x y low (k ∷ ks) inside sorted below =
     added_above least_coordinate (k ∷ ks) x y (sorted.0, record { height = below; column = λ _. sorted.0.column.least }, sorted.2) inside
 
 -- the part ends with the field
-pub swept_all : (all left : List Corner) (reach : ℤ) (out new : List EdgeStrip) → IsSwept all left reach out → BeginBelowField left
+pub swept_all : {all left : List Corner} {reach : ℤ} {out new : List EdgeStrip} → IsSwept all left reach out → BeginBelowField left
     → ContinueWith least_coordinate [] out new → AreStrips reach new × HaveFieldStripWeights (added_by_all all) new
-swept_all all left reach out new so_far below ends =
+swept_all {all} {left} {reach} {out} {new} so_far below ends =
     let height : IsCoordinate least_coordinate = record { least = omega (arith, ints); greatest = omega (arith, ints) } in
     let blank = none_reached reach so_far.reached.least so_far.reached.most in
     let goes = goes_on so_far.low least_coordinate reach [] out new so_far.strips so_far.bottom height no_edges blank ends in
@@ -265,21 +265,21 @@ past_next k l not_less = record {
   column = λ same. grind (arith, ints, by_ranked, int_ranked);
 }
 
-sorted_after : (k : Corner) (ks : List Corner) → All IsPlaced ks → IsSortedBy comes_before (k ∷ ks) → AreSortedFrom k.x k.y ks
-sorted_after k [] placed sorted = tt
-sorted_after k (l ∷ ks) placed sorted = (
-  All-head IsPlaced l ks placed,
+sorted_after : (k : Corner) (ks : List Corner) → All IsCornerInRange ks → IsSortedBy comes_before (k ∷ ks) → AreSortedFrom k.x k.y ks
+sorted_after k [] in_range sorted = tt
+sorted_after k (l ∷ ks) in_range sorted = (
+  All-head IsCornerInRange l ks in_range,
   past_next k l (sorted 0 k (omega arith) (omega arith)),
-  sorted_after l ks (All-tail IsPlaced l ks placed) (λ i d from lt.
+  sorted_after l ks (All-tail IsCornerInRange l ks in_range) (λ i d from lt.
       let next : suc i + 1 ≡ suc (i + 1) = omega arith in
       rw next at (sorted (suc i) d (omega arith) (omega arith))),
 )
 
-pub sorted_all : (ks : List Corner) → All IsPlaced ks → IsSortedBy comes_before ks → AreSortedFrom least_coordinate greatest_coordinate ks
-sorted_all [] placed sorted = tt
-sorted_all (k ∷ ks) placed sorted =
-    let here = All-head IsPlaced k ks placed in
-    (here, record { height = here.height.greatest; column = λ _. here.column.least }, sorted_after k ks (All-tail IsPlaced k ks placed) sorted)
+pub sorted_all : (ks : List Corner) → All IsCornerInRange ks → IsSortedBy comes_before ks → AreSortedFrom least_coordinate greatest_coordinate ks
+sorted_all [] in_range sorted = tt
+sorted_all (k ∷ ks) in_range sorted =
+    let here = All-head IsCornerInRange k ks in_range in
+    (here, record { height = here.height.greatest; column = λ _. here.column.least }, sorted_after k ks (All-tail IsCornerInRange k ks in_range) sorted)
 
 -- ---- the corners of contours, which are few and light
 
@@ -297,7 +297,7 @@ added_within (k ∷ ks) x y corners =
 
 pub corners_are_swept : (ks : List Corner) → AreCorners ks → AreSweptCorners ks
 corners_are_swept ks corners = record {
-  places = All-weaker IsCorner IsPlaced (λ k corner. record { column = corner.column; height = corner.height }) ks corners.corners;
+  in_range = All-weaker IsCorner IsCornerInRange (λ k corner. record { column = corner.column; height = corner.height }) ks corners.corners;
   lawful = λ x y. grind (arith, ints, added_within ks x y corners.corners);
   closed = corners.closed;
 }

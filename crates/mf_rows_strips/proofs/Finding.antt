@@ -71,26 +71,32 @@ from_others y es zero (h ∷ hs) from = from h (omega arith)
 from_others y es (suc n) [] from = tt
 from_others y es (suc n) (h ∷ hs) from = from_others y es n hs (λ d lt. from d (omega arith))
 
--- strips that are split at row y: those that begin above it, and the others
-module _ (y reach bottom : ℤ) (ss fs gs : List EdgeStrip) (all : ss ≡ fs ++ gs) (strips : AreStrips reach ss) (above : AreAbove y fs) (from : IsFrom gs y)
-    (ends : bottom ≡ unwrap_or (first_top gs) least_coordinate) where
+-- strips that are split at row y: those that begin above it, and the others, which begin at height `bottom`
+pub record AreSplitAt (y reach bottom : ℤ) (ss fs gs : List EdgeStrip) : Type 0 where
+  pub all : ss ≡ fs ++ gs
+  pub strips : AreStrips reach ss
+  pub above : AreAbove y fs
+  pub from : IsFrom gs y
+  pub ends : bottom ≡ unwrap_or (first_top gs) least_coordinate
+
+module _ {y reach bottom : ℤ} {ss fs gs : List EdgeStrip} (split : AreSplitAt y reach bottom ss fs gs) where
   lowest : IsBottom gs bottom
   lowest =
-      let lawful = subst (AreStripsFrom greatest_coordinate reach) all strips.strips in
-      subst (IsBottom gs) (sym ends) (back_bottom greatest_coordinate reach fs gs (omega (arith, ints)) lawful)
+      let lawful = subst (AreStripsFrom greatest_coordinate reach) split.all split.strips.strips in
+      subst (IsBottom gs) (sym split.ends) (back_bottom greatest_coordinate reach fs gs (omega (arith, ints)) lawful)
 
   found_at : (v : ℤ) → v ≤ℤ y → IsFrom gs v → row_in [] ss v ≡ last_row fs
   found_at v le from_v =
-      ap (λ ss. row_in [] ss v) all ∙ row_in-front [] fs gs v from_v
-      ∙ row_in-lowest fs v (All-weaker (λ s. y <ℤ s.top) (λ s. v <ℤ s.top) (λ s lt. omega (arith, ints)) fs above)
+      ap (λ ss. row_in [] ss v) split.all ∙ row_in-front [] fs gs v from_v
+      ∙ row_in-lowest fs v (All-weaker (λ s. y <ℤ s.top) (λ s. v <ℤ s.top) (λ s lt. omega (arith, ints)) fs split.above)
 
   pub found_row : last_row fs ≡ row_in [] ss y
-  found_row = sym (found_at y (omega (arith, ints)) from)
+  found_row = sym (found_at y (omega (arith, ints)) split.from)
 
   pub found_rows : IsColumnOrRow y → AreSameRows (weight_in_strips ss) bottom y
   unfolding weight_in_strips
   found_rows in_field = record {
     low = lowest.low;
-    order = lowest.among y in_field.least from;
+    order = lowest.among y in_field.least split.from;
     same = λ x v low le. ap (λ es. weight_in es x) (found_at v le (lowest.from v low) ∙ found_row);
   }

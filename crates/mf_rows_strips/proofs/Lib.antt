@@ -3,7 +3,7 @@ pub mod HeadsLemmas
 pub mod Outside
 pub mod PartsLemmas
 pub mod PileReads
-pub mod RestsLemmas
+pub mod PartEdgesLemmas
 pub mod StripsLemmas
 pub mod PilesLemmas
 pub mod CornersLemmas

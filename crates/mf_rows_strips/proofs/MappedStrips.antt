@@ -18,10 +18,10 @@ pub record IsMappedSoFar (m : WeightMap) (before reach : ℤ) (whole left out : 
   pub written : AreStripsDownTo low reach out
   pub weights : HaveStripWeights (mapped_weights m (weight_in_strips passed)) out
 
-pub mapped_none : (m : WeightMap) (before reach : ℤ) (whole : List EdgeStrip) → AreStrips before whole → IsWeightMap m → IsReachOfMap m reach
+pub mapped_none : {m : WeightMap} {before reach : ℤ} {whole : List EdgeStrip} → AreStrips before whole → IsWeightMap m → IsReachOfMap m reach
     → IsMappedSoFar m before reach whole whole []
 unfolding weight_in_strips row_in weight_in
-mapped_none m before reach whole strips lawful after = record {
+mapped_none {before = before} {reach = reach} {whole = whole} strips lawful after = record {
   after = after;
   low = greatest_coordinate;
   passed = [];
@@ -30,10 +30,10 @@ mapped_none m before reach whole strips lawful after = record {
   weights = record { weights = λ x y. sym lawful.zero };
 }
 
-pub mapped_next : (m : WeightMap) (before reach : ℤ) (whole left out : List EdgeStrip) (s : EdgeStrip) → IsMappedSoFar m before reach whole (s ∷ left) out
-    → (new : List EdgeStrip) → HasMappedStrip m s.top s.edges out new → IsMappedSoFar m before reach whole left new
+pub mapped_next : {m : WeightMap} {before reach : ℤ} {whole left out new : List EdgeStrip} {s : EdgeStrip} → IsMappedSoFar m before reach whole (s ∷ left) out
+    → HasMappedStrip m s.top s.edges out new → IsMappedSoFar m before reach whole left new
 unfolding mapped_in
-mapped_next m before reach whole left out s mapped new has =
+mapped_next {reach = reach} {out = out} {new = new} {s = s} mapped has =
     let weights = has.mapped.weights.weights in
     let le : s.top ≤ℤ mapped.low = mapped.so_far.below.1 in
     let strip : IsStrip reach (record { top = s.top; edges = has.edges }) = grind (arith, ints) in
@@ -52,10 +52,10 @@ mapped_next m before reach whole left out s mapped new has =
     }
 
 -- when no strip is left, all are mapped
-pub mapped_all : (m : WeightMap) (before reach : ℤ) (whole left out : List EdgeStrip) → IsMappedSoFar m before reach whole left out → left ≡ []
+pub mapped_all : {m : WeightMap} {before reach : ℤ} {whole left out : List EdgeStrip} → IsMappedSoFar m before reach whole left out → left ≡ []
     → IsWeightMap m → AreStrips reach out × HaveStripWeights (mapped_weights m (weight_in_strips whole)) out
 unfolding weight_in_strips weight_in
-mapped_all m before reach whole left out mapped end lawful =
+mapped_all {m = m} {reach = reach} {out = out} mapped end lawful =
     let weights = rw (all_passed mapped.so_far end) at mapped.weights in
     let blank = λ (x : ℤ). ap (λ es. mapped_weight m (weight_in es x)) mapped.so_far.whole.closed ∙ lawful.zero in
     (strips_closed reach _ mapped.low out mapped.written weights blank mapped.after.least mapped.after.most, weights)

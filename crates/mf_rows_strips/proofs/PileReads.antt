@@ -1,5 +1,5 @@
 -- The weights of a pile, part by part.
-use Rattle.std.proofs.Common.{◌≡◌, ℕ, suc, ◌<◌, ◌+◌, ℤ, ◌+ℤ◌, List, [], ◌∷◌, ◌++◌, add-one, take, get_or, length, ap, ◌∙◌, arith}
+use Rattle.std.proofs.Common.{◌≡◌, ℕ, ◌<◌, ◌+◌, ℤ, ◌+ℤ◌, List, [], ◌∷◌, ◌++◌, take, get_or, length, ap, ◌∙◌, arith}
 use Rattle.std.specs.Arc.{arc_value}
 use Rattle.std.specs.declared.alloc.Global.{Global}
 use Rattle.std.specs.declared.sync.Arc.{Arc}
@@ -22,10 +22,6 @@ weight_pushed (q ∷ ps) p x y = omega (arith, ints, weight_pushed ps p x y)
 pub weight_in_parts-more : (ps : List (Arc Part Global)) (i : ℕ) (d : Arc Part Global) → i < length ps → (x y : ℤ)
     → weight_in_parts (take (i + 1) ps) x y ≡ weight_in_parts (take i ps) x y +ℤ weight_in_part (arc_value (get_or ps i d)) x y
 weight_in_parts-more ps i d lt x y = ap (λ ps. weight_in_parts ps x y) (take_more ps i d lt) ∙ weight_pushed (take i ps) (get_or ps i d) x y
-
-pub weight_in_parts-suc : (ps : List (Arc Part Global)) (i : ℕ) (d : Arc Part Global) (x y : ℤ) → i < length ps
-    → weight_in_parts (take (suc i) ps) x y ≡ weight_in_parts (take i ps) x y +ℤ weight_in_part (arc_value (get_or ps i d)) x y
-weight_in_parts-suc ps i d x y lt = rw add-one at (weight_in_parts-more ps i d lt x y)
 
 -- ---- rows
 

@@ -98,7 +98,7 @@ none_piled = record { few = omega arith; within = λ x y. record { least = omega
 
 -- ---- the last two parts are joined
 
-module _ (ps : List (Arc Part Global)) (n less : ℕ) (p q s : Arc Part Global) (sum : Part) (count : n + 2 ≡ length ps) (last : less ≡ n + 1)
+module _ (ps : List (Arc Part Global)) (n : ℕ) {less : ℕ} {p q : Arc Part Global} (s : Arc Part Global) (sum : Part) (count : n + 2 ≡ length ps) (last : less ≡ n + 1)
     (first : p ≡ get_or ps n p) (second : q ≡ get_or ps (n + 1) q) (is : arc_value s ≡ sum)
     (made : HaveStripWeights (sum_in_strips (strips_in (arc_value p)) (strips_in (arc_value q))) (strips_in sum)) where
   after : set (take less ps) n s ≡ take n ps ++ s ∷ []

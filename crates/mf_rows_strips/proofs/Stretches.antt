@@ -5,7 +5,7 @@ use Rattle.std.specs.Int.{int_wrapping_add, int_wrapping_mul}
 use Rattle.std.proofs.lemmas.Int.{ints, unsigned_abs-mul, fits_signed_from_abs, wrapping_mul_is, wrapping_add_is, int_wrap_fits, by_lt_z}
 use Rattle.mf_geom.specs.Coordinates.{greatest_coordinate, IsCoordinate, least_coordinate}
 use Rattle.mf_rows_edges.specs.declared.stretch.Stretch.{Stretch}
-use Rattle.mf_rows_edges.specs.Axes.{IsStretch, target_of, PlaceStaysInside, source_of}
+use Rattle.mf_rows_edges.specs.Axes.{IsStretch, target_of, StaysInside, source_of}
 use Rattle.mf_rows_edges.proofs.EdgeChanges.{size-at_most, EdgesStayInside, RowBecomes, move_row, row_stretched, target_edge}
 use Rattle.std.specs.List.{filter_map}
 use Rattle.std.proofs.lemmas.Bool.{cond-true, cond-false}
@@ -24,10 +24,10 @@ use Rattle.mf_rows_edges.proofs.EdgesAt.{all_steps}
 use Rattle.mf_rows_strips.specs.declared.part.Part.{Part}
 use Rattle.mf_rows_strips.specs.Parts.{strips_in, weight_in_part}
 
--- where the stretched place is in range, 32 bits hold all numbers on the way to it
+-- where the stretched point is in range, 32 bits hold all numbers on the way to it
 wrapped_is : (s : Stretch) (p : ℤ) → IsCoordinate p → IsStretch s → IsCoordinate (target_of s p)
     → int_wrapping_add w32 (int_wrapping_mul w32 p s.factor) s.offset ≡ target_of s p
-wrapped_is s p place stretch inside =
+wrapped_is s p point stretch inside =
     let small : unsigned_abs (p *ℤ s.factor) ≤ unsigned_abs greatest_coordinate * unsigned_abs greatest_coordinate =
     grind (arith, ints, unsigned_abs-mul, mul-le-mul, size-at_most) in
     let fits : FitsSigned w32 (p *ℤ s.factor) = fits_signed_from_abs w32 (p *ℤ s.factor) (omega (arith, small)) in
@@ -48,8 +48,8 @@ by_zero w zero nonzero =
 blank : (es : List Edge) → AreEdges es → ((x : ℤ) → weight_in es x ≢ pos 0 → ⊥) → es ≡ []
 blank es edges none = blank_row least_coordinate es edges.sorted (λ x. by_zero (weight_in es x) (λ zero. zero) (λ nonzero. absurd (none x nonzero)))
 
-by_place : {P : Type 0} (x : ℤ) → (IsCoordinate x → P) → ((IsCoordinate x → ⊥) → P) → P
-by_place x inside outside =
+by_range : {P : Type 0} (x : ℤ) → (IsCoordinate x → P) → ((IsCoordinate x → ⊥) → P) → P
+by_range x inside outside =
     by_lt_z x least_coordinate (λ lower. outside (λ here. omega (arith, ints, here.least)))
     (λ least. by_lt_z greatest_coordinate x (λ higher. outside (λ here. omega (arith, ints, here.greatest)))
     (λ greatest. inside (record { least = least; greatest = greatest })))
@@ -68,7 +68,7 @@ module _ (s : Stretch) (stretch : IsStretch s) (es : List Edge) (reach : ℤ) wh
   -- A strip that would begin outside the field is left out, since it and the row above it are blank: the pixels that are not 0 stay in
   -- the field.
   stretched : (above : List Edge) (top high : ℤ) (hs : List Head) → AreEdges above → AreHeads es hs → AreStripsFrom top reach (strips_at es hs)
-      → ((x y : ℤ) → y ≤ℤ top → weight_in (row_in above (strips_at es hs) y) x ≢ pos 0 → PlaceStaysInside s y)
+      → ((x y : ℤ) → y ≤ℤ top → weight_in (row_in above (strips_at es hs) y) x ≢ pos 0 → StaysInside s y)
       → ((p : ℤ) → p ≤ℤ top → IsCoordinate (target_of s p) → target_of s p ≤ℤ high) → AreStretched s es above high reach hs (filter_map (stretched_head s) hs)
   unfolding row_in
   stretched above top high [] edges heads strips stay right = record { placed = heads; strips = tt; rows = λ y. refl }
@@ -79,10 +79,10 @@ module _ (s : Stretch) (stretch : IsStretch s) (es : List Edge) (reach : ℤ) wh
       let le : t.top ≤ℤ top = strips.1 in
       let low = t.top -ℤ pos 1 in
       let others = All-tail (IsHead es) h hs heads in
-      let under : (x y : ℤ) → y ≤ℤ low → weight_in (row_in t.edges ts y) x ≢ pos 0 → PlaceStaysInside s y =
+      let under : (x y : ℤ) → y ≤ℤ low → weight_in (row_in t.edges ts y) x ≢ pos 0 → StaysInside s y =
       λ x y lower some. stay x y (omega (arith, ints)) (rw (row_in-below above t ts y (omega (arith, ints))) some) in
       let row_at : row_in t.edges ts low ≡ t.edges = row_in-from t.edges ts low (starts_from low reach ts low strips.2 (omega (arith, ints))) in
-      by_place new.top
+      by_range new.top
       (λ here.
       let kept : filter_map (stretched_head s) (h ∷ hs) ≡ new ∷ filter_map (stretched_head s) hs = grind (arith, ints, cond-true) in
       let next = stretched t.edges low (new.top -ℤ pos 1) hs strips.0.edges others strips.2 under
@@ -117,7 +117,7 @@ module _ (s : Stretch) (stretch : IsStretch s) (es : List Edge) (reach : ℤ) wh
 
 -- the pixel at an edge or the one to its left is not 0, and the edge goes to an end of that pixel's stretched part
 edges_stay : (s : Stretch) (es : List Edge) → AreEdgesFrom least_coordinate es
-    → ((x : ℤ) → weight_in es x ≢ pos 0 → PlaceStaysInside s x) → EdgesStayInside s es
+    → ((x : ℤ) → weight_in es x ≢ pos 0 → StaysInside s x) → EdgesStayInside s es
 edges_stay s es edges inside = λ k d lt.
     let e = get_or es k d in
     let step = all_steps es edges k d lt in
@@ -151,7 +151,7 @@ lists_stretched p columns rows across up inside =
     rw (strips_at-map (stretched_edge columns) p.edges.items hs) (strips_become g (move_row (source_of columns)) p.reach ss p.lawful refl (λ y.
     let row = rows_lawful p.reach ss p.lawful y in
     row_wide columns p.reach (row_in [] ss y) across row.0 row.1 (edges_stay columns (row_in [] ss y) row.0.sorted (λ x. inside.across x y)))) in
-    let stay : (x y : ℤ) → weight_in (row_in [] (strips_at es hs) y) x ≢ pos 0 → PlaceStaysInside rows y =
+    let stay : (x y : ℤ) → weight_in (row_in [] (strips_at es hs) y) x ≢ pos 0 → StaysInside rows y =
     λ x y some. inside.up (source_of columns x) y (λ zero. some (wide.weights.weights x y ∙ zero)) in
     let new = stretched rows up es p.reach [] greatest_coordinate greatest_coordinate hs no_edges
     (heads-map (stretched_edge columns) p.edges.items hs p.placed) wide.strips.strips (λ x y _. stay x y) (λ q le here. here.greatest) in

@@ -75,10 +75,10 @@ pub record IsSumSoFar (ss ts : List EdgeStrip) (l r reach : ℤ) (left right : S
   pub weights : HaveStripWeights (sum_in_strips on_left.passed on_right.passed) out
   pub reached : IsReach reach
 
-pub sum_none : (ss ts : List EdgeStrip) (l r : ℤ) (left right : Side) → left.row.now ≡ [] → right.row.now ≡ [] → strips_of left.strips ≡ ss → strips_of right.strips ≡ ts
+pub sum_none : {ss ts : List EdgeStrip} {l r : ℤ} (left right : Side) → left.row.now ≡ [] → right.row.now ≡ [] → strips_of left.strips ≡ ss → strips_of right.strips ≡ ts
     → AreStrips l ss → AreStrips r ts → IsSumSoFar ss ts l r (pos 0) left right []
 unfolding sum_in_strips weight_in_strips row_in weight_in
-sum_none ss ts l r left right none_l none_r is_l is_r on_l on_r = record {
+sum_none {ss} {ts} {l} {r} left right none_l none_r is_l is_r on_l on_r = record {
   low = greatest_coordinate;
   on_left = record { passed = []; so_far = rw is_l (none_passed l ss on_l); row = none_l };
   on_right = record { passed = []; so_far = rw is_r (none_passed r ts on_r); row = none_r };
@@ -183,13 +183,13 @@ unfolding weight_in_both weight_in
 sum_right es fs changes none = record { sorted = changes.sorted; weights = record { weights = λ x. rw none (omega (arith, ints)) } }
 
 -- the strip with the sum of two rows
-pub sum_strip : (before : List EdgeStrip) (top : ℤ) (es fs edges : List Edge) (after : List EdgeStrip) → after ≡ before ++ record { top = top; edges = edges } ∷ []
+pub sum_strip : {before : List EdgeStrip} {top : ℤ} {es fs edges : List Edge} {after : List EdgeStrip} → after ≡ before ++ record { top = top; edges = edges } ∷ []
     → IsEdgeSum es fs edges → HasSumStrip before top es fs after
-sum_strip before top es fs edges after all sum =
+sum_strip {before} {top} {es} {fs} {edges} {after} all sum =
     let row : edges ≡ last_row after = sym (ap last_row all ∙ last_row-push before (record { top = top; edges = edges })) in
     record { all = all ∙ (λ i. before ++ record { top = top; edges = row i } ∷ []); sum = subst (IsEdgeSum es fs) row sum }
 
 -- what a call asks
-pub both_reaches : (ss ts : List EdgeStrip) (l r x y : ℤ) → x ≡ l → y ≡ r → AreStrips l ss → AreStrips r ts
+pub both_reaches : {ss ts : List EdgeStrip} {l r x y : ℤ} → x ≡ l → y ≡ r → AreStrips l ss → AreStrips r ts
     → to_z w32 (of_z w32 (to_z w32 (of_z w32 x) +ℤ to_z w32 (of_z w32 y))) ≡ l +ℤ r
-both_reaches ss ts l r x y is_l is_r on_l on_r = omega (arith, ints, on_l.least, on_l.most, on_r.least, on_r.most)
+both_reaches is_l is_r on_l on_r = omega (arith, ints, on_l.least, on_l.most, on_r.least, on_r.most)

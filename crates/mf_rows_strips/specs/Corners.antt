@@ -33,21 +33,21 @@ pub record IsCorner (k : Corner) : Type 0 where
   pub height : IsCoordinate k.y
   pub weight : IsCornerWeight k.weight
 
--- there are at most two corners for each point of a cycle, and they add nothing to the right of the field (what they add below it is left out,
--- as no pixel is there)
+-- at most twice as many corners as a cycle may have points, which add nothing to the right of the field (what they add below it
+-- is left out, as no pixel is there)
 pub record AreCorners (ks : List Corner) : Type 0 where
   pub few : length ks ≤ 2 * most_points
   pub corners : All IsCorner ks
   pub closed : (y : ℤ) → added_by_all ks greatest_coordinate y ≡ pos 0
 
--- a corner is a point in range
-pub record IsPlaced (k : Corner) : Type 0 where
+-- a corner is at a point in range, and has any weight
+pub record IsCornerInRange (k : Corner) : Type 0 where
   pub column : IsCoordinate k.x
   pub height : IsCoordinate k.y
 
--- what these corners add is lawful, and nothing to the right of the field
+-- corners at points in range, which add a lawful weight to each pixel, and nothing to those to the right of the field
 pub record AreSweptCorners (ks : List Corner) : Type 0 where
-  pub places : All IsPlaced ks
+  pub in_range : All IsCornerInRange ks
   pub lawful : (x y : ℤ) → IsLawfulWeight (added_by_all ks x y)
   pub closed : (y : ℤ) → added_by_all ks greatest_coordinate y ≡ pos 0
 
@@ -57,7 +57,7 @@ pub record HaveFieldStripWeights (f : ℤ → ℤ → ℤ) (ss : List EdgeStrip)
 
 -- ---- corners from the top down, and from left to right at each height
 
--- a corner is at (x, y), to the right of it or below it
+-- a corner is at (x, y), to the right of it at its height, or anywhere below its height
 pub record IsPast (x y : ℤ) (k : Corner) : Type 0 where
   pub height : k.y ≤ℤ y
   pub column : k.y ≡ y → x ≤ℤ k.x
@@ -65,7 +65,7 @@ pub record IsPast (x y : ℤ) (k : Corner) : Type 0 where
 -- sorted corners, the first of them past (x, y)
 abbrev pub AreSortedFrom : ℤ → ℤ → List Corner → Type 0
 AreSortedFrom x y [] = Unit {0}
-AreSortedFrom x y (k ∷ ks) = IsPlaced k × IsPast x y k × AreSortedFrom k.x k.y ks
+AreSortedFrom x y (k ∷ ks) = IsCornerInRange k × IsPast x y k × AreSortedFrom k.x k.y ks
 
 -- the first corner is at this height
 abbrev pub BeginAtHeight : ℤ → List Corner → Type 0
@@ -77,7 +77,8 @@ abbrev pub BeginBelowField : List Corner → Type 0
 BeginBelowField [] = Unit {0}
 BeginBelowField (k ∷ ks) = k.y ≤ℤ least_coordinate
 
--- edges with the last edge d become such edges with the last edge e, at the column of corner k, where the weights are greater by that of k
+-- the edges `new` to the left of the column of corner k, and an edge e there, whose weight may be 0, have the weights of the
+-- edges es and the edge d, greater by the weight of k from its column on
 pub record IsJoined (es : List Edge) (d : Edge) (k : Corner) (new : List Edge) (e : Edge) : Type 0 where
   pub edges : AreEdgesBefore e.x new
   pub column : e.x ≡ k.x
@@ -90,7 +91,7 @@ pub record IsSplitHeight (top : ℤ) (ks : List Corner) (changes : List Edge) (o
   pub sorted : AreSortedFrom least_coordinate (top -ℤ pos 1) others
   pub fewer : length others < length ks
 
--- no weight of a row may exceed this number
+-- a number that may be a reach
 pub record IsReach (reach : ℤ) : Type 0 where
   pub least : pos 0 ≤ℤ reach
   pub most : reach ≤ℤ greatest_weight

@@ -5,7 +5,7 @@ pub mod Strips
 pub mod Parts
 pub mod Piles
 pub mod PileWeights
-pub mod Rests
+pub mod PartEdges
 pub mod RowEdges
 pub mod Sums
 pub mod Turns

@@ -5,7 +5,7 @@ use Rattle.std.specs.Int.Width.{w32}
 use Rattle.mf_geom.specs.Coordinates.{is_coordinate}
 use Rattle.mf_rows_edges.specs.declared.edge.Edge.{Edge}
 use Rattle.mf_rows_edges.specs.declared.stretch.Stretch.{Stretch}
-use Rattle.mf_rows_edges.specs.Axes.{target_of, PlaceStaysInside}
+use Rattle.mf_rows_edges.specs.Axes.{target_of, StaysInside}
 use Rattle.mf_rows_strips.specs.declared.strips.Head.{Head}
 use Rattle.mf_rows_strips.specs.Strips.{EdgeStrip, weight_in_strips}
 
@@ -19,10 +19,10 @@ moved_rows source f x y = f x (source y)
 
 -- the stretches of columns and of rows take all pixels of nonzero weight to pixels of the field
 pub record StripsStayInside (columns rows : Stretch) (ss : List EdgeStrip) : Type 0 where
-  pub across : (x y : ℤ) → weight_in_strips ss x y ≢ pos 0 → PlaceStaysInside columns x
-  pub up : (x y : ℤ) → weight_in_strips ss x y ≢ pos 0 → PlaceStaysInside rows y
+  pub across : (x y : ℤ) → weight_in_strips ss x y ≢ pos 0 → StaysInside columns x
+  pub up : (x y : ℤ) → weight_in_strips ss x y ≢ pos 0 → StaysInside rows y
 
--- an edge whose column is reflected, with the same column or weight where 32 bits do not hold the negated one
+-- an edge of a reflected row: its column and its weight are negated, and each stays as it is where 32 bits do not hold the negated number
 abbrev pub reflected_edge : Edge → Edge
 reflected_edge e = record { x = int_wrapping_neg w32 e.x; weight = int_wrapping_neg w32 e.weight }
 

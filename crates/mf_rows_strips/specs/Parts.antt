@@ -32,7 +32,7 @@ abbrev pub first_top : List EdgeStrip → Option ℤ
 first_top [] = None
 first_top (s ∷ ss) = Some s.top
 
--- the strip that begins at height `top` was passed, or all begin below it
+-- the strip that begins at height `top` was passed, or none was, as all begin below it
 abbrev pub HasPassed : ℤ → Side → Side → Type 0
 HasPassed top old new =
     (strips_of old.strips ≡ record { top = top; edges = new.row.now } ∷ strips_of new.strips) ⊎ ((new ≡ old) × IsFrom (strips_of old.strips) (top -ℤ pos 1))

@@ -29,7 +29,7 @@ last_row (s ∷ t ∷ ss) = last_row (t ∷ ss)
 unfoldable pub weight_in_strips : List EdgeStrip → ℤ → ℤ → ℤ
 weight_in_strips ss x y = weight_in (row_in [] ss y) x
 
--- a strip begins at a height of the field, and its row is lawful
+-- a strip does not begin below the field, its row is lawful, and no weight of it exceeds the reach in absolute value
 pub record IsStrip (reach : ℤ) (s : EdgeStrip) : Type 0 where
   pub bottom : least_coordinate ≤ℤ s.top
   pub edges : AreEdges s.edges
@@ -40,7 +40,7 @@ abbrev pub AreStripsFrom : ℤ → ℤ → List EdgeStrip → Type 0
 AreStripsFrom top reach [] = Unit {0}
 AreStripsFrom top reach (s ∷ ss) = IsStrip reach s × (s.top ≤ℤ top) × AreStripsFrom (s.top -ℤ pos 1) reach ss
 
--- the strips of the field: the rows below it are blank, so the last strip is
+-- the strips of the field, with a lawful reach: the rows below it are blank, so the last strip is
 pub record AreStrips (reach : ℤ) (ss : List EdgeStrip) : Type 0 where
   pub strips : AreStripsFrom greatest_coordinate reach ss
   pub closed : row_in [] ss (least_coordinate -ℤ pos 1) ≡ []

@@ -15,7 +15,7 @@ pub record HasSumStrip (before : List EdgeStrip) (top : ℤ) (es fs : List Edge)
   pub all : after ≡ before ++ record { top = top; edges = last_row after } ∷ []
   pub sum : IsEdgeSum es fs (last_row after)
 
--- row y is not below the first of these strips
+-- the first of these strips, if there is one, begins at height y or below it: from the top down, row y is above all of them
 abbrev pub IsFrom : List EdgeStrip → ℤ → Type 0
 IsFrom [] y = Unit {0}
 IsFrom (s ∷ ss) y = s.top ≤ℤ y

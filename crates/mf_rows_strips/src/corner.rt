@@ -1,5 +1,5 @@
 //! Corners, and the part that they make.
-ghost use Rattle.std.specs.Prelude.{◌≡◌, IfOk, IfNone, IfSome, OnOk, ◌≤ℤ◌, ◌<ℤ◌};
+ghost use Rattle.std.specs.Prelude.{IfOk, IfNone, IfSome, OnOk, ◌≤ℤ◌, ◌<ℤ◌};
 ghost use Rattle.mf_geom.specs.Coordinates.{least_coordinate, greatest_coordinate, IsCoordinate};
 ghost use Rattle.mf_rows_edges.specs.Merging.{AreEdgesBefore};
 ghost use Rattle.mf_rows_strips.specs.Parts.{strips_in};
@@ -66,7 +66,7 @@ fn next_height(corners: &[Corner]) -> Option<i32>
 }
 
 /// Splits off the corners at the height `top`, which the first of them has: `changes` becomes the edges by which they change the rows
-/// below it. Refused where an allocation fails, or where a sum of weights at one place does not fit into 32 bits, as that of 2^17 corners
+/// below it. Refused where an allocation fails, or where a sum of weights in one column does not fit into 32 bits, as that of 2^17 corners
 /// may not.
 fn split_height<'a>(
     changes: &mut Vec<Edge>,

@@ -131,10 +131,10 @@ fn stretched_head(head: &Head, rows: &Stretch) -> Option<Head>
 }
 
 /// Where a stretch takes a point of its axis, in or outside the field.
-fn target_of(stretch: &Stretch, place: i16) -> i64
-    ensures { result ≡ target_of stretch.now place }
+fn target_of(stretch: &Stretch, point: i16) -> i64
+    ensures { result ≡ target_of stretch.now point }
 {
-    i64::from(place) * i64::from(stretch.factor) + i64::from(stretch.offset)
+    i64::from(point) * i64::from(stretch.factor) + i64::from(stretch.offset)
 }
 
 /// Edges whose columns are stretched. Numbers wrap, since a list may have edges that no strip has, at any column.

@@ -1,6 +1,6 @@
 //! The edges of a row of a pile, from left to right.
+use crate::part_edges::PartEdges;
 use crate::pile::{MAX_PARTS, Pile};
-use crate::rest::Rest;
 
 mod passing;
 
@@ -10,5 +10,5 @@ mod passing;
 pub struct RowEdges<'a> {
     pile: &'a Pile,
     /// Those of each part, and others that are not used.
-    rests: [Rest<'a>; MAX_PARTS],
+    edges: [PartEdges<'a>; MAX_PARTS],
 }

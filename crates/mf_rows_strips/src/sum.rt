@@ -1,5 +1,5 @@
 //! The sum of two parts.
-ghost use Rattle.std.specs.Prelude.{◌≡◌, ◌≢◌, ◌≤ℤ◌, IfErr, IfNone, IfOk, IfSome};
+ghost use Rattle.std.specs.Prelude.{◌≢◌, ◌≤ℤ◌, IfErr, IfNone, IfOk, IfSome};
 ghost use Rattle.mf_rows_edges.specs.Edges.{weight_in};
 ghost use Rattle.mf_rows_edges.specs.LawfulWeights.{greatest_weight};
 ghost use Rattle.mf_rows_edges.specs.Merging.{AreChanges};

@@ -3,7 +3,7 @@ ghost use Rattle.std.specs.Prelude.{IfOk};
 ghost use Rattle.mf_rows_edges.specs.Axes.{IsStretch, opposite, source_of};
 ghost use Rattle.mf_rows.specs.Dots.{IsPicture, weight_at};
 ghost use Rattle.mf_rows_strips.specs.Moves.{moved_columns, moved_rows};
-ghost use Rattle.mf_rows_strips.specs.Turns.{quarter_turn};
+ghost use Rattle.mf_rows_strips.specs.Turns.{turned_once};
 ghost use Rattle.mf_rows.specs.Moves.{PixelsStayInside};
 ghost use Rattle.mf_rows.specs.Sums.{HasWeights};
 
@@ -49,7 +49,8 @@ impl Picture {
         requires inside { PixelsStayInside columns.now rows.now self.now }
         ensures weights { IfOk result
             (HasWeights
-            (moved_rows (source_of rows.now) (moved_columns (source_of columns.now) (weight_at self.now)))) }
+            (moved_rows (source_of rows.now)
+            (moved_columns (source_of columns.now) (weight_at self.now)))) }
         ensures lawful { IfOk result IsPicture }
     {
         let part = self.joined(alloc)?;
@@ -60,7 +61,7 @@ impl Picture {
     /// - 1, x) (mf.web: `xy_swap_edges` and a reflection). This one is unchanged. Refused with `OutOfMemory` where an
     /// allocation fails.
     pub fn turn(&self, alloc: Global) -> Result<Picture, OutOfMemory>
-        ensures weights { IfOk result (HasWeights (quarter_turn (weight_at self.now))) }
+        ensures weights { IfOk result (HasWeights (turned_once (weight_at self.now))) }
         ensures lawful { IfOk result IsPicture }
     {
         let part = self.joined(alloc)?;

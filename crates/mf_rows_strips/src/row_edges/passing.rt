@@ -4,12 +4,12 @@ ghost use Rattle.mf_geom.specs.Coordinates.{greatest_coordinate};
 ghost use Rattle.mf_geom.specs.Field.{IsColumnOrRow};
 ghost use Rattle.mf_rows_edges.specs.Merging.{IsDifference};
 ghost use Rattle.mf_rows_strips.specs.PileWeights.{weight_in_pile};
-ghost use Rattle.mf_rows_strips.specs.Rests.{AreEnds, IsNextEdge, IsPassedTo, first_column_of, weight_in_all};
+ghost use Rattle.mf_rows_strips.specs.PartEdges.{AreEnds, IsNextEdge, IsPassedTo, first_column_of, weight_in_all};
 ghost use Rattle.mf_rows_strips.specs.RowEdges.{AreSameRows, weight_left, weights_of};
 
 use super::RowEdges;
+use crate::part_edges::PartEdges;
 use crate::pile::{MAX_PARTS, Pile};
-use crate::rest::Rest;
 use mf_rows_edges::{Edge, FIELD_END, FIELD_START};
 
 impl<'a> RowEdges<'a> {
@@ -19,7 +19,7 @@ impl<'a> RowEdges<'a> {
     {
         RowEdges {
             pile,
-            rests: [Rest::of(&[]); MAX_PARTS],
+            edges: [PartEdges::of(&[]); MAX_PARTS],
         }
     }
 
@@ -32,10 +32,10 @@ impl<'a> RowEdges<'a> {
     {
         let mut bottom = FIELD_START;
         let parts = &self.pile.parts[..];
-        let rests = &mut self.rests[..];
+        let edges = &mut self.edges[..];
         for i in 0..parts.len() {
             let rows = parts[i].equal_rows(y);
-            rests[i] = Rest::of(rows.edges);
+            edges[i] = PartEdges::of(rows.edges);
             bottom = bottom.max(rows.bottom);
         }
         bottom
@@ -49,7 +49,7 @@ impl<'a> RowEdges<'a> {
         ensures passed { IsNextEdge (weight_left self.old) (weight_left self.new) result }
         ensures same { weights_of self.new ≡ weights_of self.old }
     {
-        pass_edge(&mut self.rests[..self.pile.parts.len()])
+        pass_edge(&mut self.edges[..self.pile.parts.len()])
     }
 
     /// The first and the last edge that are left, where there is one part and edges are left; else `None`. Requires that they have a sum
@@ -61,35 +61,35 @@ impl<'a> RowEdges<'a> {
         if self.pile.parts.len() != 1 {
             return None;
         }
-        let rests = &self.rests[..];
-        rests[0].ends()
+        let edges = &self.edges[..];
+        edges[0].ends()
     }
 }
 
 /// Passes the next edge. Mostly there is one part, and it takes few steps.
 #[inline(always)]
-fn pass_edge(rests: &mut [Rest<'_>]) -> Edge
-    requires { (x : ℤ) → IsDifference (weight_in_all rests.old x) }
-    ensures passed { IsNextEdge (weight_in_all rests.old) (weight_in_all rests.new) result }
-    ensures each { length rests.new ≡ length rests.old }
+fn pass_edge(edges: &mut [PartEdges<'_>]) -> Edge
+    requires { (x : ℤ) → IsDifference (weight_in_all edges.old x) }
+    ensures passed { IsNextEdge (weight_in_all edges.old) (weight_in_all edges.new) result }
+    ensures each { length edges.new ≡ length edges.old }
 {
-    if rests.len() == 1 {
-        return rests[0].pass();
+    if edges.len() == 1 {
+        return edges[0].pass();
     }
-    pass_together(rests)
+    pass_together(edges)
 }
 
 /// Passes the first column in which the edges of all parts have a sum that is not 0. Kept apart, so that passing the edge of a single part
 /// stays short.
 #[inline(never)]
-fn pass_together(rests: &mut [Rest<'_>]) -> Edge
-    requires { (x : ℤ) → IsDifference (weight_in_all rests.old x) }
-    ensures passed { IsNextEdge (weight_in_all rests.old) (weight_in_all rests.new) result }
-    ensures each { length rests.new ≡ length rests.old }
+fn pass_together(edges: &mut [PartEdges<'_>]) -> Edge
+    requires { (x : ℤ) → IsDifference (weight_in_all edges.old x) }
+    ensures passed { IsNextEdge (weight_in_all edges.old) (weight_in_all edges.new) result }
+    ensures each { length edges.new ≡ length edges.old }
 {
     loop {
-        let x = first_column(rests);
-        let weight = pass_column(rests, x);
+        let x = first_column(edges);
+        let weight = pass_column(edges, x);
         if weight != 0 || x == FIELD_END {
             return Edge { x, weight };
         }
@@ -97,29 +97,29 @@ fn pass_together(rests: &mut [Rest<'_>]) -> Edge
 }
 
 /// The column of the first edge, the end of the field where there is none.
-fn first_column(rests: &[Rest<'_>]) -> i32
-    ensures { result ≡ first_column_of rests.now }
+fn first_column(edges: &[PartEdges<'_>]) -> i32
+    ensures { result ≡ first_column_of edges.now }
 {
     let mut first = FIELD_END;
-    for rest in rests {
-        first = first.min(rest.column());
+    for own in edges {
+        first = first.min(own.column());
     }
     first
 }
 
 /// Passes the edges at column x, to the left of which there are none. Returns the sum of their weights. Sums of some of them may wrap,
 /// but that of all does not.
-fn pass_column(rests: &mut [Rest<'_>], x: i32) -> i32
-    requires first { x ≤ℤ first_column_of rests.old }
-    requires difference { IsDifference (weight_in_all rests.old x) }
-    ensures weight { result ≡ weight_in_all rests.old x }
-    ensures passed { IsPassedTo x (weight_in_all rests.old) (weight_in_all rests.new) }
-    ensures further { x <ℤ greatest_coordinate → x <ℤ first_column_of rests.new }
-    ensures each { length rests.new ≡ length rests.old }
+fn pass_column(edges: &mut [PartEdges<'_>], x: i32) -> i32
+    requires first { x ≤ℤ first_column_of edges.old }
+    requires difference { IsDifference (weight_in_all edges.old x) }
+    ensures weight { result ≡ weight_in_all edges.old x }
+    ensures passed { IsPassedTo x (weight_in_all edges.old) (weight_in_all edges.new) }
+    ensures further { x <ℤ greatest_coordinate → x <ℤ first_column_of edges.new }
+    ensures each { length edges.new ≡ length edges.old }
 {
     let mut weight = 0i32;
-    for i in 0..rests.len() {
-        weight = weight.wrapping_add(rests[i].pass_column(x));
+    for i in 0..edges.len() {
+        weight = weight.wrapping_add(edges[i].pass_column(x));
     }
     weight
 }

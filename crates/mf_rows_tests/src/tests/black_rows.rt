@@ -13,7 +13,7 @@ use std::process::Abort;
 /// The number of rows of the field.
 const HEIGHT: u32 = 8190;
 
-/// Adds the stretches of the row that a reader is in to a list.
+/// Adds the runs of the row that a reader is in to a list.
 fn push_row(rows: &mut BlackRows<'_>, runs: &mut Vec<Run>) -> Result<(), OutOfMemory>
     ensures { OnOk result (runs_in rows.new ≡ []) }
 {
@@ -23,7 +23,7 @@ fn push_row(rows: &mut BlackRows<'_>, runs: &mut Vec<Run>) -> Result<(), OutOfMe
     Ok(())
 }
 
-/// The stretches of all rows, and the number of rows; one too many where the reader goes below the field.
+/// The runs of all rows, and the number of rows; one too many where the reader goes below the field.
 fn read_rows(alloc: Global, picture: &Picture) -> Result<(Vec<Run>, u32), OutOfMemory> {
     let mut rows = picture.black_rows();
     let (mut all, mut count) = (Vec::new(alloc), 0u32);
@@ -45,7 +45,7 @@ fn read_rows(alloc: Global, picture: &Picture) -> Result<(Vec<Run>, u32), OutOfM
     Ok((all, count))
 }
 
-/// Asserts that the rows of a picture have exactly these stretches of black pixels, in this case of a test.
+/// Asserts that the rows of a picture have exactly these runs of black pixels, in this case of a test.
 pub(crate) fn assert_stretches<R: Abort + AllocGlobal>(
     rt: &R,
     case: usize,

@@ -7,7 +7,7 @@ use Rattle.mf_ops.specs.Step.{step_at}
 use Rattle.mf_ops.specs.declared.op.Op.{Op}
 use Rattle.mf_ops.specs.declared.op.Op.TheVariants.{Shift, Scale, Quarter}
 use Rattle.mf_ops.specs.declared.quarter.TurnCount.TheVariants.{Once, Twice, Thrice}
-use Rattle.mf_ops.proofs.Places.{opposite-opposite}
+use Rattle.mf_ops.proofs.ScaleSources.{opposite-opposite}
 use Rattle.mf_ops.proofs.Squares.{source, covered, only}
 use Rattle.mf_ops.proofs.laws.squares_move_with_the_plane.Goals as goal
 

@@ -39,11 +39,11 @@ loop-edge-preserved c =
     let e : Edge = get_or c.args.row.now c.loop-edge.edge-index no_edge in
     let x_is : to_z w32 (of_z w32 e.x) ≡ e.x = omega (arith, ints, so_far.passed.sorted.0.column) in
     rw (c.in_ok-push_unless_zero.ensures.pushed, x_is, next.change_is, next.sum_is, next.next_is, to_z-of_z next.fits)
-    (still_more c.loop-edge.invariant.0 _, mapped_more _ _ _ _ e _ _ _ so_far next.value)
+    (still_more c.loop-edge.invariant.0 _, mapped_more so_far next.value)
 
 pub returns-clause-pushed : goal.returns-clause-pushed
 returns-clause-pushed c = record {
   more = c.loop-edge.invariant.0.more;
   all = c.loop-edge.invariant.0.all;
-  mapped = mapped_all _ _ _ _ _ c.requires.row c.requires.map (rw (drop_all _ _ c.loop-edge-test.false) at c.loop-edge.invariant.1);
+  mapped = mapped_all c.requires.row c.requires.map (rw (drop_all _ _ c.loop-edge-test.false) at c.loop-edge.invariant.1);
 }

@@ -4,7 +4,7 @@ use Rattle.std.proofs.lemmas.Int.{ints}
 use Rattle.std.proofs.lemmas.List.Sorted.{answers_always, All-permutation}
 use Rattle.mf_rows_edges.specs.Sums.{IsEdgeSum}
 use Rattle.mf_rows_edges.proofs.EdgeSums.{changes_of_edges}
-use Rattle.mf_rows_strips.specs.Corners.{IsPlaced, IsSplitHeight}
+use Rattle.mf_rows_strips.specs.Corners.{IsCornerInRange, IsSplitHeight}
 use Rattle.mf_rows_strips.specs.Strips.{last_row}
 use Rattle.mf_rows_strips.proofs.CornersLemmas.{added_by_permuted, comes_before, sorted_all, sum_alone}
 use Rattle.mf_rows_strips.proofs.CornersLemmas.{swept_none, sorted_at, row_above, changes_are, row_below, swept_more, swept_all}
@@ -16,10 +16,10 @@ loop-top-init c =
     let ks = c.args.corners.items in
     let sorted = c.sort_by_key.new.self.items in
     let moved = c.sort_by_key.ensures.permutation in
-    let by_place : IsSortedBy comes_before sorted =
+    let by_height : IsSortedBy comes_before sorted =
     c.in_ok-sort_by_key.ensures.sorted (λ corner. (record { 0 = corner.y }, corner.x)) (answers_always _ _ _ (λ f a r g called. search rules)) in
     rw (c.in_ok-part.ensures, c.as_slice-left.ensures.value)
-    (swept_none ks sorted (sorted_all sorted (All-permutation IsPlaced ks sorted moved c.requires.places) by_place) (λ x y. added_by_permuted ks sorted x y moved))
+    (swept_none ks sorted (sorted_all sorted (All-permutation IsCornerInRange ks sorted moved c.requires.in_range) by_height) (λ x y. added_by_permuted ks sorted x y moved))
 
 pub split_height-requires : goal.split_height-requires
 split_height-requires c =
@@ -68,8 +68,8 @@ loop-top-preserved c =
     rw (to_z-of_z next) (swept_more c.loop-top.invariant c.in-Some.ensures.first c.requires split sum _ _ _ c.in-Some.ensures.above least greater goes_on)
 
 pub finish-requires : goal.finish-requires
-finish-requires c = (swept_all _ _ _ _ _ c.loop-top.invariant c.in_default.ensures.none c.in_ok-push_unless_same-2.ensures).0
+finish-requires c = (swept_all c.loop-top.invariant c.in_default.ensures.none c.in_ok-push_unless_same-2.ensures).0
 
 pub returns : goal.returns
 returns c =
-    record { weights = rw c.finish.ensures.strips (swept_all _ _ _ _ _ c.loop-top.invariant c.in_default.ensures.none c.in_ok-push_unless_same-2.ensures).1 }
+    record { weights = rw c.finish.ensures.strips (swept_all c.loop-top.invariant c.in_default.ensures.none c.in_ok-push_unless_same-2.ensures).1 }

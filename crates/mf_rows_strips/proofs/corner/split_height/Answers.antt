@@ -19,7 +19,7 @@ pub loop-first-preserved : goal.loop-first-preserved
 loop-first-preserved c =
     let so_far = rw (to_z-of_z c.ranges.top, c.in-Some.ensures.cases.0) at c.loop-first.invariant in
     let here : c.in-Some.first.now.y ≡ c.args.top = omega (arith, ints, so_far.sorted.0) in
-    rw (to_z-of_z c.ranges.top) (height_more _ _ _ _ _ _ _ _ so_far here c.in_ok-last.ensures)
+    rw (to_z-of_z c.ranges.top) (height_more so_far here c.in_ok-last.ensures)
 
 pub returns : goal.returns
 returns c =
@@ -28,4 +28,4 @@ returns c =
       | in-Some+then-first-top w ↦ rw w.in-Some.ensures.cases.0 (λ here. w.if-first-top.true (ap (of_z w32) here))
       | in_default w ↦ rw (nil_from_length c.loop-first.left.now w.in_default.ensures.cases) (λ none. none)
     ] in
-    rw c.in_ok-push_unless_zero.ensures.pushed (height_all c.args.top c.args.corners.now c.loop-first.left.now _ c.loop-first.last so_far lower)
+    rw c.in_ok-push_unless_zero.ensures.pushed (height_all so_far lower)

@@ -9,7 +9,7 @@ use Rattle.mf_rows_strips.proofs.sum.sum_of_parts.Goals.{After-last_row}
 pub loop-top-init : goal.loop-top-init
 loop-top-init c =
     rw c.in_ok-sum.ensures
-    (sum_none _ _ _ _ c.of-left.result c.of-right.result c.of-left.ensures.row c.of-right.ensures.row
+    (sum_none c.of-left.result c.of-right.result c.of-left.ensures.row c.of-right.ensures.row
     (rw c.of-left.ensures.strips c.strips.ensures) (rw c.of-right.ensures.strips c.strips-2.ensures) c.args.left.now.lawful c.args.right.now.lawful)
 
 pub push_sum-requires-clause-left : goal.push_sum-requires-clause-left
@@ -25,7 +25,7 @@ pushed c =
 
 pub reach_with-requires-clause-within : goal.reach_with-requires-clause-within
 reach_with-requires-clause-within c =
-    rw (c.last_row.ensures, both_reaches _ _ _ _ _ _ c.reach.ensures c.reach-2.ensures c.args.left.now.lawful c.args.right.now.lawful)
+    rw (c.last_row.ensures, both_reaches c.reach.ensures c.reach-2.ensures c.args.left.now.lawful c.args.right.now.lawful)
     (row_within c.loop-top.invariant c.in-Some.ensures.some _ (pushed c))
 
 pub reach_with-requires-clause-changes : goal.reach_with-requires-clause-changes

@@ -5,7 +5,7 @@ use Rattle.mf_rows.proofs.picture.Picture.equal.Goals as goal
 
 pub returns-clause-answer : goal.returns-clause-answer
 returns-clause-answer c =
-    same_from_runs _ _ _ _ _ c.runs.ensures.runs c.runs-2.ensures.runs
+    same_from_runs _ c.runs.ensures.runs c.runs-2.ensures.runs
     (eq_decides (λ (runs : List Run). runs) (λ (runs : List Run). runs) _ run_decides _ _ _ c.eq.ensures.ran)
 
 pub returns-clause-weights : goal.returns-clause-weights

@@ -26,14 +26,14 @@ returns-then-bottom-clause-over c = λ _.
     let over : c.pass_equal.new.self.x ≡ greatest_coordinate = omega (arith, ints) in
     let bottom : c.blank_down_to-bottom.result ≡ least_coordinate = omega (arith, ints) in
     let rows = rw bottom at c.blank_down_to-bottom.ensures in
-    ap runs_of (dots_from-below _ _ _ _ over rows ∙ dots_from-end _)
+    ap runs_of (dots_from-below over rows ∙ dots_from-end _)
 
 pub loop-self-preserved : goal.loop-self-preserved
 loop-self-preserved c =
     let rows = c.blank_down_to-bottom.ensures in
     let walk = c.enter_row.new.self in
     let over : c.pass_equal.new.self.x ≡ greatest_coordinate = omega (arith, ints) in
-    let next = dots_from-below _ _ _ _ over rows ∙ dots_from-next _ _ (omega (arith, ints)) in
+    let next = dots_from-below over rows ∙ dots_from-next _ _ (omega (arith, ints)) in
     let row : walk.y ≡ c.blank_down_to-bottom.result -ℤ pos 1 = omega (arith, ints) in
     let left = dots_from-left walk.edges _ walk.y walk.reading.left c.enter_row.ensures.column in
     ap runs_of (left ∙ rw (c.enter_row.ensures.weights, row) (sym next)) ∙ blank_passed _ _ c.pass_equal.ensures.passed (omega (arith, ints)) ∙ c.loop-self.invariant

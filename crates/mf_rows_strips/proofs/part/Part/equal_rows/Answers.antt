@@ -8,7 +8,7 @@ use Rattle.mf_rows_edges.proofs.Falls.{All-take_within}
 use Rattle.mf_rows_strips.specs.Parts.{first_top, strips_of, strips_in}
 use Rattle.mf_rows_strips.specs.Strips.{AreAbove, AreStrips, row_in, weight_in_strips}
 use Rattle.mf_rows_strips.specs.Sums.{IsFrom}
-use Rattle.mf_rows_strips.proofs.Finding.{begins_above, IsPartitionedBy-begins_above, first_above, from_others, found_row, found_rows}
+use Rattle.mf_rows_strips.proofs.Finding.{begins_above, IsPartitionedBy-begins_above, first_above, from_others, found_row, found_rows, AreSplitAt}
 use Rattle.mf_rows_strips.proofs.PartsLemmas.{part_row}
 use Rattle.mf_rows_strips.proofs.part.Part.equal_rows.Goals as goal
 use Rattle.mf_rows_strips.proofs.part.Part.equal_rows.Goals.{After-last_row}
@@ -41,9 +41,14 @@ ends c =
     let is : to_z w32 (of_z w32 c.unwrap_or.result) ≡ c.unwrap_or.result = omega (arith, ints) in
     is ∙ bottom
 
+at_row : (c : After-last_row)
+    → AreSplitAt c.args.y c.args.self.now.reach (to_z w32 (of_z w32 c.unwrap_or.result)) (strips_of c.strips-strips.result)
+    (take c.partition_point-above.result (strips_of c.strips-strips.result)) (drop c.partition_point-above.result (strips_of c.strips-strips.result))
+at_row c = record { all = sym (take-append-drop _ _); strips = lawful c; above = above c; from = from c; ends = ends c }
+
 row : (c : After-last_row) → c.last_row.result.now ≡ row_in [] (strips_in c.args.self.now) c.args.y
 row c =
-    c.last_row.ensures ∙ rw (c.split_at.ensures.above, found_row _ _ _ _ _ _ (sym (take-append-drop _ _)) (lawful c) (above c) (from c) (ends c), c.strips-strips.ensures)
+    c.last_row.ensures ∙ rw (c.split_at.ensures.above, found_row (at_row c), c.strips-strips.ensures)
 
 pub returns-clause-edges : goal.returns-clause-edges
 returns-clause-edges c = part_row c.args.self.now c.args.y _ (row c)
@@ -53,4 +58,4 @@ unfolding weight_in_strips
 returns-clause-row c = λ x. ap (λ es. weight_in es x) (row c)
 
 pub returns-clause-rows : goal.returns-clause-rows
-returns-clause-rows c = rw c.strips-strips.ensures at (found_rows _ _ _ _ _ _ (sym (take-append-drop _ _)) (lawful c) (above c) (from c) (ends c))
+returns-clause-rows c = rw c.strips-strips.ensures at (found_rows (at_row c))

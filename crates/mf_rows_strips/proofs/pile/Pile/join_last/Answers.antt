@@ -8,7 +8,7 @@ use Rattle.mf_rows_strips.proofs.pile.Pile.join_last.Goals.{After-pop}
 joined : (c : After-pop) → weight_in_parts (set c.pop.new.self.items (c.len-before.result - 2) c.in_ok-sum.sum) ≡ weight_in_parts c.args.self.now.parts.items
 joined c =
     rw c.pop.ensures.rest
-    (weights_joined _ _ _ _ _ c.in_ok-sum.sum c.in-Ok.sum (omega arith) (omega arith) c.index.ensures c.index-2.ensures c.in_ok-sum.ensures.ok
+    (weights_joined c.args.self.now.parts.items (c.len-before.result - 2) c.in_ok-sum.sum c.in-Ok.sum (omega arith) (omega arith) c.index.ensures c.index-2.ensures c.in_ok-sum.ensures.ok
     (rw (c.deref.ensures, c.deref-2.ensures) at c.in-Ok.ensures.weights))
 
 pub invariant_of-self : goal.invariant_of-self

@@ -7,7 +7,7 @@ use Rattle.mf_rows_strips.specs.Parts.{weight_in_parts}
 use Rattle.mf_rows_strips.specs.Piles.{most_parts}
 use Rattle.mf_rows_strips.specs.RowEdges.{weight_left, weights_of}
 use Rattle.mf_rows_strips.proofs.PileReads.{both_same, weight_in_parts-more}
-use Rattle.mf_rows_strips.proofs.RestsLemmas.{weight_in_all-set}
+use Rattle.mf_rows_strips.proofs.PartEdgesLemmas.{weight_in_all-set}
 use Rattle.mf_rows_strips.proofs.row_edges.RowEdges.enter.Goals as goal
 use Rattle.mf_rows_strips.proofs.row_edges.RowEdges.enter.Goals.{After-loop-i}
 
@@ -28,10 +28,10 @@ loop-i-preserved c =
     let bottom : to_z w32 (of_z w32 c.equal_rows-rows.result.bottom) ≡ c.equal_rows-rows.result.bottom = omega (arith, ints) in
     let next : to_z w32 (of_z w32 c.max-bottom.result) ≡ c.max-bottom.result = omega (arith, ints) in
     let more = weight_in_parts-more parts i c.index-parts-i.result c.loop-i-test.true in
-    let room : length c.args.self.now.rests ≡ most_parts = search rules in
-    let in_rests : i < length c.loop-i.rests = omega (arith, room, c.args.self.now.pile.now.lawful.few, c.deref.ensures.len) in
+    let room : length c.args.self.now.edges ≡ most_parts = search rules in
+    let in_edges : i < length c.loop-i.edges = omega (arith, room, c.args.self.now.pile.now.lawful.few, c.deref.ensures.len) in
     rw (y, next) (record {
-      edges = λ x. weight_in_all-set c.loop-i.rests i c.of.result in_rests x ∙ rw (c.of.ensures, so_far.edges, found.row) (sym (more x c.args.y));
+      edges = λ x. weight_in_all-set c.loop-i.edges i c.of.result in_edges x ∙ rw (c.of.ensures, so_far.edges, found.row) (sym (more x c.args.y));
       rows = both_same more so_far.rows (found.rows c.requires) _ (rw bottom at c.max-bottom.ensures.value);
     })
 

@@ -9,12 +9,12 @@ use Rattle.mf_rows_strips.proofs.writer.PartWriter.push_sum.Goals as goal
 pub returns-then-is_empty : goal.returns-then-is_empty
 returns-then-is_empty c =
     let none = nil_from_length c.args.right.now (grind (arith, c.if-is_empty)) in
-    on_ok_weaker c.push.result (λ all. sum_strip _ _ _ _ _ _ all (sum_left _ _ c.requires.left none)) (rw (to_z-of_z c.ranges.top) at c.push.ensures)
+    on_ok_weaker c.push.result (λ all. sum_strip all (sum_left _ _ c.requires.left none)) (rw (to_z-of_z c.ranges.top) at c.push.ensures)
 
 pub returns-then-is_empty-2 : goal.returns-then-is_empty-2
 returns-then-is_empty-2 c =
     let none = nil_from_length c.args.left.now (grind (arith, c.if-is_empty-2)) in
-    on_ok_weaker c.push-then-is_empty-2.result (λ all. sum_strip _ _ _ _ _ _ all (sum_right _ _ c.requires.right none))
+    on_ok_weaker c.push-then-is_empty-2.result (λ all. sum_strip all (sum_right _ _ c.requires.right none))
     (rw (to_z-of_z c.ranges.top) at c.push-then-is_empty-2.ensures)
 
 pub returns : goal.returns
@@ -22,7 +22,7 @@ returns c =
     let head = c.in_ok-head.ensures in
     let sum = c.in_ok-push_sum_of_edges.ensures.pushed in
     let pushed = strips_push _ _ _ sum.all _ c.self.invariant c.in_ok-head.head c.args.top (omega (arith, ints, head.top)) (omega (arith, head.start)) (omega (arith, head.end)) in
-    sum_strip _ _ _ _ _ _ (rw (c.in_ok-push.ensures.items, ← c.self.view_is) pushed) sum.sum
+    sum_strip (rw (c.in_ok-push.ensures.items, ← c.self.view_is) pushed) sum.sum
 
 pub invariant_of-self-2 : goal.invariant_of-self-2
 invariant_of-self-2 c =

@@ -7,7 +7,7 @@ use Rattle.mf_rows.specs.Bounds.{IsLeastBox}
 use Rattle.mf_rows.specs.declared.bounds.Box4.{Box4}
 use Rattle.mf_rows_edges.specs.declared.stretch.Stretch.{Stretch}
 use Rattle.mf_rows.specs.Dots.{Dot, IsPicture}
-use Rattle.mf_rows_edges.specs.Axes.{PlaceStaysInside, target_of}
+use Rattle.mf_rows_edges.specs.Axes.{StaysInside, target_of}
 use Rattle.mf_rows.specs.Moves.{PixelsStayInside}
 use Rattle.mf_rows.proofs.BoundsInField.{bounds_in_field}
 use Rattle.mf_rows_tests.proofs.tests.moves.assert_stays_inside.Goals as goal
@@ -39,14 +39,14 @@ point_stays s p small least greatest =
     let product = from_size (p *ℤ s.factor) size in
     record { least = omega (arith, ints, product.0, small.offset_least); greatest = omega (arith, ints, product.1, small.offset_greatest) }
 
-place_stays : (s : Stretch) (p : ℤ) → IsSmall s → negsuc 999 ≤ℤ p → p ≤ℤ pos 999 → PlaceStaysInside s p
-place_stays s p small least greatest = record {
+column_stays : (s : Stretch) (p : ℤ) → IsSmall s → negsuc 999 ≤ℤ p → p ≤ℤ pos 999 → StaysInside s p
+column_stays s p small least greatest = record {
   start = point_stays s p small least (omega (arith, ints));
   end = point_stays s (p +ℤ pos 1) small (omega (arith, ints)) (omega (arith, ints));
 }
 
-place_between : (s : Stretch) (a p b : ℤ) → IsSmall s → negsuc 999 ≤ℤ a → a ≤ℤ p → p ≤ℤ b → b ≤ℤ pos 999 → PlaceStaysInside s p
-place_between s a p b small least from to greatest = place_stays s p small (omega (arith, ints)) (omega (arith, ints))
+column_between : (s : Stretch) (a p b : ℤ) → IsSmall s → negsuc 999 ≤ℤ a → a ≤ℤ p → p ≤ℤ b → b ≤ℤ pos 999 → StaysInside s p
+column_between s a p b small least from to greatest = column_stays s p small (omega (arith, ints)) (omega (arith, ints))
 
 -- the sides of the least box are read back from 32 bits
 module _ (ds : List Dot) (b : Box4) (picture : IsPicture ds) (box : IsLeastBox ds b) where
@@ -61,9 +61,9 @@ module _ (ds : List Dot) (b : Box4) (picture : IsPicture ds) (box : IsLeastBox d
         let first_row : negsuc 999 ≤ℤ b.min_y = omega (arith, ints, from_bottom, least.bottom, least.top) in
         let last_row : b.max_y ≤ℤ pos 999 = omega (arith, ints, to_top, greatest.bottom, greatest.top) in
         record {
-          across = λ k d lt. let within = box.within k d lt in place_between columns b.min_x _ b.max_x small_columns first_column within.left
+          across = λ k d lt. let within = box.within k d lt in column_between columns b.min_x _ b.max_x small_columns first_column within.left
               within.right last_column;
-          up = λ k d lt. let within = box.within k d lt in place_between rows b.min_y _ b.max_y small_rows first_row within.bottom within.top last_row;
+          up = λ k d lt. let within = box.within k d lt in column_between rows b.min_y _ b.max_y small_rows first_row within.bottom within.top last_row;
         }
 
 pub returns-clause-inside : goal.returns-clause-inside

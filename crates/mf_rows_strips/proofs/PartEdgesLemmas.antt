@@ -10,21 +10,16 @@ use Rattle.std.proofs.lemmas.List.Sums.{fold_more, fold_push}
 use Rattle.mf_geom.specs.Coordinates.{least_coordinate, greatest_coordinate}
 use Rattle.mf_rows_edges.specs.declared.edge.Edge.{Edge}
 use Rattle.mf_rows_edges.specs.Edges.{AreEdgesFrom, IsEdge, weight_in}
-use Rattle.mf_rows_edges.proofs.EdgesLemmas.{weight_in-left, weight_in-right, weight_in-before}
-use Rattle.mf_rows_strips.specs.declared.rest.Rest.{Rest}
-use Rattle.mf_rows_strips.specs.Rests.{AreEnds, IsNextEdge, IsPassedTo, column_of, first_column_of, weight_in_all}
+use Rattle.mf_rows_edges.proofs.EdgesLemmas.{edges_from-lower, weight_in-left, weight_in-right, weight_in-before}
+use Rattle.mf_rows_strips.specs.declared.part_edges.PartEdges.{PartEdges}
+use Rattle.mf_rows_strips.specs.PartEdges.{AreEnds, IsNextEdge, IsPassedTo, column_of, first_column_of, weight_in_all}
 
 -- ---- the edges of one part
-
--- sorted edges may begin further left
-pub sorted_lower : (low high : ℤ) (es : List Edge) → low ≤ℤ high → AreEdgesFrom high es → AreEdgesFrom low es
-sorted_lower low high [] le sorted = tt
-sorted_lower low high (e ∷ es) le sorted = (sorted.0, omega (arith, ints, sorted.1), sorted.2)
 
 pub others_sorted : (es : List Edge) (e : Edge) (others : List Edge) → es ≡ e ∷ others → AreEdgesFrom least_coordinate es → AreEdgesFrom least_coordinate others
 others_sorted es e others all sorted =
     let first = rw all at sorted in
-    sorted_lower least_coordinate (e.x +ℤ pos 1) others (omega (arith, ints, first.1)) first.2
+    edges_from-lower least_coordinate (e.x +ℤ pos 1) others (omega (arith, ints, first.1)) first.2
 
 -- to the left of the first edge, the weight is 0
 pub before_first : (es : List Edge) (z : ℤ) → AreEdgesFrom least_coordinate es → z <ℤ column_of es → weight_in es z ≡ pos 0
@@ -119,31 +114,31 @@ ends_of (e ∷ es) first last sorted closed is is_last =
 
 -- ---- the edges of all parts
 
-pub weight_in_all-more : (rs : List Rest) (i : ℕ) (d : Rest) → i < length rs → (z : ℤ)
-    → weight_in_all (take (i + 1) rs) z ≡ weight_in_all (take i rs) z +ℤ weight_in (get_or rs i d).edges.now z
-weight_in_all-more rs i d lt z = fold_more (λ w r. w +ℤ weight_in r.edges.now z) (pos 0) rs i d lt
+pub weight_in_all-more : (ps : List PartEdges) (i : ℕ) (d : PartEdges) → i < length ps → (z : ℤ)
+    → weight_in_all (take (i + 1) ps) z ≡ weight_in_all (take i ps) z +ℤ weight_in (get_or ps i d).edges.now z
+weight_in_all-more ps i d lt z = fold_more (λ w p. w +ℤ weight_in p.edges.now z) (pos 0) ps i d lt
 
-pub weight_in_all-set : (rs : List Rest) (i : ℕ) (r : Rest) → i < length rs → (z : ℤ)
-    → weight_in_all (take (i + 1) (set rs i r)) z ≡ weight_in_all (take i rs) z +ℤ weight_in r.edges.now z
-weight_in_all-set rs i r lt z = ap (λ rs. weight_in_all rs z) (take_more_set rs i r lt) ∙ fold_push (λ w r. w +ℤ weight_in r.edges.now z) (pos 0) (take i rs) r
+pub weight_in_all-set : (ps : List PartEdges) (i : ℕ) (p : PartEdges) → i < length ps → (z : ℤ)
+    → weight_in_all (take (i + 1) (set ps i p)) z ≡ weight_in_all (take i ps) z +ℤ weight_in p.edges.now z
+weight_in_all-set ps i p lt z = ap (λ ps. weight_in_all ps z) (take_more_set ps i p lt) ∙ fold_push (λ w p. w +ℤ weight_in p.edges.now z) (pos 0) (take i ps) p
 
-pub first_column_of-set : (rs : List Rest) (i : ℕ) (r : Rest) → i < length rs
-    → first_column_of (take (i + 1) (set rs i r)) ≡ int_min (first_column_of (take i rs)) (column_of r.edges.now)
-first_column_of-set rs i r lt = ap first_column_of (take_more_set rs i r lt) ∙ fold_push (λ x r. int_min x (column_of r.edges.now)) greatest_coordinate (take i rs) r
+pub first_column_of-set : (ps : List PartEdges) (i : ℕ) (p : PartEdges) → i < length ps
+    → first_column_of (take (i + 1) (set ps i p)) ≡ int_min (first_column_of (take i ps)) (column_of p.edges.now)
+first_column_of-set ps i p lt = ap first_column_of (take_more_set ps i p lt) ∙ fold_push (λ x p. int_min x (column_of p.edges.now)) greatest_coordinate (take i ps) p
 
 -- it is not to the right of the end of the field
-columns_from : (rs : List Rest) → (first_column_of rs ≤ℤ greatest_coordinate) × All (λ x. first_column_of rs ≤ℤ x) (map (λ r. column_of r.edges.now) rs)
-columns_from rs =
-    fold-int_min_bounds greatest_coordinate (map (λ r. column_of r.edges.now) rs) (first_column_of rs) (sym (fold-map int_min (λ r. column_of r.edges.now) greatest_coordinate rs))
+columns_from : (ps : List PartEdges) → (first_column_of ps ≤ℤ greatest_coordinate) × All (λ x. first_column_of ps ≤ℤ x) (map (λ p. column_of p.edges.now) ps)
+columns_from ps =
+    fold-int_min_bounds greatest_coordinate (map (λ p. column_of p.edges.now) ps) (first_column_of ps) (sym (fold-map int_min (λ p. column_of p.edges.now) greatest_coordinate ps))
 
-pub first_column_of-within : (rs : List Rest) → first_column_of rs ≤ℤ greatest_coordinate
-first_column_of-within rs = (columns_from rs).0
+pub first_column_of-within : (ps : List PartEdges) → first_column_of ps ≤ℤ greatest_coordinate
+first_column_of-within ps = (columns_from ps).0
 
-pub first_column_of-least : (rs : List Rest) (i : ℕ) (d : Rest) → i < length rs → first_column_of rs ≤ℤ column_of (get_or rs i d).edges.now
-first_column_of-least rs i d lt =
-    subst (λ x. first_column_of rs ≤ℤ x) (get_or-map (λ r. column_of r.edges.now) rs i d (column_of d.edges.now) lt)
-    (All-get_or (λ x. first_column_of rs ≤ℤ x) (map (λ r. column_of r.edges.now) rs) i (column_of d.edges.now)
-    (omega (arith, length-map rs (λ (r : Rest). column_of r.edges.now))) (columns_from rs).1)
+pub first_column_of-least : (ps : List PartEdges) (i : ℕ) (d : PartEdges) → i < length ps → first_column_of ps ≤ℤ column_of (get_or ps i d).edges.now
+first_column_of-least ps i d lt =
+    subst (λ x. first_column_of ps ≤ℤ x) (get_or-map (λ p. column_of p.edges.now) ps i d (column_of d.edges.now) lt)
+    (All-get_or (λ x. first_column_of ps ≤ℤ x) (map (λ p. column_of p.edges.now) ps) i (column_of d.edges.now)
+    (omega (arith, length-map ps (λ (p : PartEdges). column_of p.edges.now))) (columns_from ps).1)
 
 -- weights that are equal are passed alike
 pub same_passed : {x : ℤ} {f g h k : ℤ → ℤ} → ((z : ℤ) → f z ≡ g z) → ((z : ℤ) → h z ≡ k z) → IsPassedTo x g k → IsPassedTo x f h
@@ -162,22 +157,22 @@ pub cancelled : (x : ℤ) (g h : ℤ → ℤ) → IsPassedTo x g h → g x ≡ p
 cancelled x g h edge none z = by_lt_z z x (λ lt. edge.passed z (omega (arith, ints)) ∙ sym (edge.left z lt)) (λ le. omega (arith, ints, edge.right z le))
 
 -- a single part
-pub next_of_single : (rs : List Rest) (r new : Rest) (e : Edge) → length rs ≡ 1 → IsNextEdge (weight_in (get_or rs 0 r).edges.now) (weight_in new.edges.now) e
-    → IsNextEdge (weight_in_all rs) (weight_in_all (set rs 0 new)) e
-next_of_single [] r new e one next = absurd (omega arith)
-next_of_single (r' ∷ []) r new e one next = record {
+pub next_of_single : (ps : List PartEdges) (p new : PartEdges) (e : Edge) → length ps ≡ 1 → IsNextEdge (weight_in (get_or ps 0 p).edges.now) (weight_in new.edges.now) e
+    → IsNextEdge (weight_in_all ps) (weight_in_all (set ps 0 new)) e
+next_of_single [] p new e one next = absurd (omega arith)
+next_of_single (q ∷ []) p new e one next = record {
   within = next.within;
   nonzero = next.nonzero;
   weight = omega (arith, ints, next.weight);
   edge = same_passed (λ z. omega (arith, ints)) (λ z. omega (arith, ints)) next.edge;
 }
-next_of_single (r' ∷ r'' ∷ rs) r new e one next = absurd (omega arith)
+next_of_single (q ∷ q' ∷ ps) p new e one next = absurd (omega arith)
 
--- the first n rests, where those were written
-pub first_written : (n : ℕ) (rs new : List Rest) → length new ≡ length (take n rs) → take n (new ++ drop n rs) ≡ new
-first_written zero rs [] long = refl
-first_written zero rs (r ∷ new) long = absurd (omega arith)
+-- the edges of the first n parts, where those were written
+pub first_written : (n : ℕ) (ps new : List PartEdges) → length new ≡ length (take n ps) → take n (new ++ drop n ps) ≡ new
+first_written zero ps [] long = refl
+first_written zero ps (p ∷ new) long = absurd (omega arith)
 first_written (suc n) [] [] long = refl
-first_written (suc n) [] (r ∷ new) long = absurd (omega arith)
-first_written (suc n) (q ∷ rs) [] long = absurd (omega arith)
-first_written (suc n) (q ∷ rs) (r ∷ new) long = ap (λ rs. r ∷ rs) (first_written n rs new (omega arith))
+first_written (suc n) [] (p ∷ new) long = absurd (omega arith)
+first_written (suc n) (q ∷ ps) [] long = absurd (omega arith)
+first_written (suc n) (q ∷ ps) (p ∷ new) long = ap (λ ps. p ∷ ps) (first_written n ps new (omega arith))

@@ -1,7 +1,7 @@
 use Rattle.std.proofs.Common.{refl}
 use Rattle.std.proofs.lemmas.List.{nil_from_length}
-use Rattle.mf_rows_strips.proofs.RestsLemmas.{next_edge, next_further, no_edge, others_sorted}
-use Rattle.mf_rows_strips.proofs.rest.Rest.pass.Goals as goal
+use Rattle.mf_rows_strips.proofs.PartEdgesLemmas.{next_edge, next_further, no_edge, others_sorted}
+use Rattle.mf_rows_strips.proofs.part_edges.PartEdges.pass.Goals as goal
 
 pub invariant_of-self : goal.invariant_of-self
 invariant_of-self c = record { sorted = others_sorted _ _ _ c.in-Some.ensures.cases.0 c.args.self.now.sorted }

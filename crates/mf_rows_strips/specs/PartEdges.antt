@@ -4,20 +4,20 @@ use Rattle.std.specs.Int.{int_min}
 use Rattle.mf_geom.specs.Coordinates.{greatest_coordinate}
 use Rattle.mf_rows_edges.specs.declared.edge.Edge.{Edge}
 use Rattle.mf_rows_edges.specs.Edges.{IsEdge, weight_in}
-use Rattle.mf_rows_strips.specs.declared.rest.Rest.{Rest}
+use Rattle.mf_rows_strips.specs.declared.part_edges.PartEdges.{PartEdges}
 
--- the sum of the weights of all rests at column x
-abbrev pub weight_in_all : List Rest → ℤ → ℤ
-weight_in_all rs x = fold (λ w r. w +ℤ weight_in r.edges.now x) (pos 0) rs
+-- the sum of the weights of all parts at column x, as the edges still to come make them
+abbrev pub weight_in_all : List PartEdges → ℤ → ℤ
+weight_in_all ps x = fold (λ w p. w +ℤ weight_in p.edges.now x) (pos 0) ps
 
 -- the column of the first edge, the end of the field where there is none
 abbrev pub column_of : List Edge → ℤ
 column_of [] = greatest_coordinate
 column_of (e ∷ es) = e.x
 
--- the column of the first edge of all rests, the end of the field where there is none
-abbrev pub first_column_of : List Rest → ℤ
-first_column_of rs = fold (λ x r. int_min x (column_of r.edges.now)) greatest_coordinate rs
+-- the column of the first edge of all parts, the end of the field where there is none
+abbrev pub first_column_of : List PartEdges → ℤ
+first_column_of ps = fold (λ x p. int_min x (column_of p.edges.now)) greatest_coordinate ps
 
 -- g and h are the weights that the edges still to come make in their row, before and after the edges at column x were passed; there were
 -- none to the left of x

@@ -1,10 +1,10 @@
 use Rattle.std.proofs.Common.{◌≡◌, sym, subst, arith}
 use Rattle.std.proofs.lemmas.Int.{ints}
 use Rattle.mf_rows_edges.specs.Edges.{weight_in}
-use Rattle.mf_rows_strips.specs.Rests.{IsPassedTo}
-use Rattle.mf_rows_strips.proofs.RestsLemmas.{before_first, none_passed}
-use Rattle.mf_rows_strips.proofs.rest.Rest.pass_column.Goals as goal
-use Rattle.mf_rows_strips.proofs.rest.Rest.pass_column.Goals.{After-pass}
+use Rattle.mf_rows_strips.specs.PartEdges.{IsPassedTo}
+use Rattle.mf_rows_strips.proofs.PartEdgesLemmas.{before_first, none_passed}
+use Rattle.mf_rows_strips.proofs.part_edges.PartEdges.pass_column.Goals as goal
+use Rattle.mf_rows_strips.proofs.part_edges.PartEdges.pass_column.Goals.{After-pass}
 
 column : (c : After-pass) → c.pass.result.x ≡ c.args.x
 column c = omega (arith, ints)

@@ -9,7 +9,7 @@ mod passing;
 
 /// The edges of a row of a part that are still to come.
 #[derive(Clone, Copy, Debug)]
-pub(crate) struct Rest<'a> {
+pub(crate) struct PartEdges<'a> {
     edges: &'a [Edge],
     ghost sorted: { AreEdgesFrom least_coordinate edges.now } by { AreEdgesFrom-prop least_coordinate edges.now },
 }

@@ -8,8 +8,8 @@ use Rattle.mf_rows_edges.specs.Axes.{IsStretch, target_of, source_of, opposite}
 use Rattle.mf_rows_edges.proofs.Sources.{mul-next, target_of-next, source_of-reached, source_of-from, source_of-is}
 use Rattle.mf_ops.specs.Moves.{IsFactor, scale_by, scale_source}
 
--- the part of the axis between p * f and (p + 1) * f contains column, or row, q
-pub record HasPlace (f p q : ℤ) : Type 0 where
+-- a scale by f takes column, or row, p onto q: the part of the axis between p * f and (p + 1) * f contains q
+pub record ScalesOnto (f p q : ℤ) : Type 0 where
   pub start : int_min (p *ℤ f) ((p +ℤ pos 1) *ℤ f) ≤ℤ q
   pub end : (q +ℤ pos 1) ≤ℤ int_max (p *ℤ f) ((p +ℤ pos 1) *ℤ f)
 
@@ -18,7 +18,7 @@ pub scale_source-positive : (n : ℕ) (q : ℤ) → scale_source (pos n) q ≡ s
 unfolding scale_source
 scale_source-positive n q = cond-false _ (opposite (source_of (scale_by (pos n)) q)) (source_of (scale_by (pos n)) q) (grind (arith, ints))
 
--- under a negative factor, p is the source where under the opposite factor the place opposite to p is
+-- under a negative factor, p is the source where under the opposite factor the one opposite to p is
 pub scale_source-negative : (n : ℕ) (q : ℤ) → scale_source (negsuc n) q ≡ opposite (source_of (scale_by (pos (suc n))) q)
 unfolding scale_source
 scale_source-negative n q = refl
@@ -29,9 +29,9 @@ start-negative n p = grind (arith, ints)
 pub end-negative : (n : ℕ) (p : ℤ) → (p +ℤ pos 1) *ℤ negsuc n ≡ opposite p *ℤ pos (suc n)
 end-negative n p = grind (arith, ints)
 
--- so the part of p is the part of the opposite place under the opposite factor
-HasPlace-negative : (n : ℕ) (p q : ℤ) → HasPlace (pos (suc n)) (opposite p) q ↔ HasPlace (negsuc n) p q
-HasPlace-negative n p q = grind (arith, ints, start-negative, end-negative, clamps)
+-- so the part of p is the part of the opposite column under the opposite factor
+ScalesOnto-negative : (n : ℕ) (p q : ℤ) → ScalesOnto (pos (suc n)) (opposite p) q ↔ ScalesOnto (negsuc n) p q
+ScalesOnto-negative n p q = grind (arith, ints, start-negative, end-negative, clamps)
 
 -- the part of the source of q begins at q or before it, and ends after it
 pub source_of-start : (s : Stretch) (q : ℤ) → IsStretch s → target_of s (source_of s q) ≤ℤ q
@@ -44,7 +44,7 @@ source_of-end s q stretch =
     (λ inside. inside)
     (λ after. let further = source_of-from s (source_of s q +ℤ pos 1) q stretch (rw next after) in absurd (omega (arith, ints)))
 
-covered-positive : (f q : ℤ) → IsStretch (scale_by f) → HasPlace f (source_of (scale_by f) q) q
+covered-positive : (f q : ℤ) → IsStretch (scale_by f) → ScalesOnto f (source_of (scale_by f) q) q
 covered-positive f q stretch =
     let least = stretch.least in
     let start = source_of-start (scale_by f) q stretch in
@@ -52,7 +52,7 @@ covered-positive f q stretch =
     let next = target_of-next (scale_by f) (source_of (scale_by f) q) in
     record { start = omega (arith, ints, clamps); end = omega (arith, ints, clamps) }
 
-only-positive : (f p q : ℤ) → IsStretch (scale_by f) → HasPlace f p q → source_of (scale_by f) q ≡ p
+only-positive : (f p q : ℤ) → IsStretch (scale_by f) → ScalesOnto f p q → source_of (scale_by f) q ≡ p
 only-positive f p q stretch has =
     let least = stretch.least in
     let next = target_of-next (scale_by f) p in
@@ -71,19 +71,19 @@ pub opposite-opposite : (p : ℤ) → opposite (opposite p) ≡ p
 opposite-opposite p = omega (arith, ints)
 
 -- the part of the source contains the column
-pub scale_source-covered : (f q : ℤ) → IsFactor f → HasPlace f (scale_source f q) q
+pub scale_source-covered : (f q : ℤ) → IsFactor f → ScalesOnto f (scale_source f q) q
 scale_source-covered (pos n) q factor = rw (scale_source-positive n q) (covered-positive (pos n) q (IsStretch-size (pos n) factor))
 scale_source-covered (negsuc n) q factor =
     let p = source_of (scale_by (pos (suc n))) q in
     let back = opposite-opposite p in
     let covered = covered-positive (pos (suc n)) q (IsStretch-size (negsuc n) factor) in
-    rw (scale_source-negative n q) ((HasPlace-negative n (opposite p) q).0 (rw back covered))
+    rw (scale_source-negative n q) ((ScalesOnto-negative n (opposite p) q).0 (rw back covered))
 
 -- no other part contains it
-pub scale_source-only : (f p q : ℤ) → IsFactor f → HasPlace f p q → scale_source f q ≡ p
+pub scale_source-only : (f p q : ℤ) → IsFactor f → ScalesOnto f p q → scale_source f q ≡ p
 scale_source-only (pos n) p q factor has = scale_source-positive n q ∙ only-positive (pos n) p q (IsStretch-size (pos n) factor) has
 scale_source-only (negsuc n) p q factor has =
-    let only = only-positive (pos (suc n)) (opposite p) q (IsStretch-size (negsuc n) factor) ((HasPlace-negative n p q).1 has) in
+    let only = only-positive (pos (suc n)) (opposite p) q (IsStretch-size (negsuc n) factor) ((ScalesOnto-negative n p q).1 has) in
     scale_source-negative n q ∙ ap opposite only ∙ opposite-opposite p
 
 -- a reflection takes a column to the other side of 0
@@ -96,8 +96,8 @@ scale_source-reflection q =
 ends-apart : (f p : ℤ) → IsFactor f → (int_min (p *ℤ f) ((p +ℤ pos 1) *ℤ f) +ℤ pos 1) ≤ℤ int_max (p *ℤ f) ((p +ℤ pos 1) *ℤ f)
 ends-apart f p factor = grind (arith, ints, mul-next, by_lt_z, clamps)
 
-pub HasPlace-first : (f p : ℤ) → IsFactor f → HasPlace f p (int_min (p *ℤ f) ((p +ℤ pos 1) *ℤ f))
-HasPlace-first f p factor = record { start = omega (arith, ints); end = ends-apart f p factor }
+pub ScalesOnto-first : (f p : ℤ) → IsFactor f → ScalesOnto f p (int_min (p *ℤ f) ((p +ℤ pos 1) *ℤ f))
+ScalesOnto-first f p factor = record { start = omega (arith, ints); end = ends-apart f p factor }
 
-pub HasPlace-last : (f p : ℤ) → IsFactor f → HasPlace f p (int_max (p *ℤ f) ((p +ℤ pos 1) *ℤ f) -ℤ pos 1)
-HasPlace-last f p factor = let apart = ends-apart f p factor in record { start = omega (arith, ints); end = omega (arith, ints) }
+pub ScalesOnto-last : (f p : ℤ) → IsFactor f → ScalesOnto f p (int_max (p *ℤ f) ((p +ℤ pos 1) *ℤ f) -ℤ pos 1)
+ScalesOnto-last f p factor = let apart = ends-apart f p factor in record { start = omega (arith, ints); end = omega (arith, ints) }

@@ -2,24 +2,25 @@
 ghost use Rattle.std.specs.Prelude.{◌≡◌, ◌≤ℤ◌, ◌<ℤ◌, IfSome, pos};
 ghost use Rattle.mf_geom.specs.Coordinates.{greatest_coordinate, least_coordinate};
 ghost use Rattle.mf_rows_edges.specs.Edges.{AreEdgesFrom, weight_in};
-ghost use Rattle.mf_rows_strips.specs.Rests.{AreEnds, IsNextEdge, IsPassedTo, column_of};
+ghost use Rattle.mf_rows_strips.specs.PartEdges.{AreEnds, IsNextEdge, IsPassedTo, column_of};
 
-use super::Rest;
+use super::PartEdges;
 use mf_rows_edges::{Edge, FIELD_END};
 
-impl<'a> Rest<'a> {
+impl<'a> PartEdges<'a> {
     /// These edges.
-    pub(crate) fn of(edges: &'a [Edge]) -> Rest<'a>
+    pub(crate) fn of(edges: &'a [Edge]) -> PartEdges<'a>
         requires { AreEdgesFrom least_coordinate edges.now }
         ensures { result.edges.now ≡ edges.now }
     {
-        Rest { edges }
+        PartEdges { edges }
     }
 
     /// Passes the first edge. Returns one of weight 0 at the end of the field where there is none.
     #[inline(always)]
     pub(crate) fn pass(&mut self) -> Edge
-        ensures passed { IsNextEdge (weight_in self.old.edges.now) (weight_in self.new.edges.now) result }
+        ensures passed { IsNextEdge
+            (weight_in self.old.edges.now) (weight_in self.new.edges.now) result }
         ensures column { result.x ≡ column_of self.old.edges.now }
         ensures further { result.x <ℤ greatest_coordinate
             → result.x <ℤ column_of self.new.edges.now }
