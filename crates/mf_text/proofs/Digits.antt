@@ -15,7 +15,6 @@ use Rattle.std.proofs.lemmas.Str.{digit_value_digit}
 use Rattle.std.proofs.lemmas.Str.Parse.{numerals_by_value, tells_digits, digits_value_short, digit_from_value}
 use Rattle.mf_text.specs.Limits.{most_digits}
 use Rattle.mf_text.specs.Token.{value_in}
-use Rattle.mf_text.specs.Token as token
 use Rattle.mf_text.specs.Tokens.{Finds, first_token, number_token}
 use Rattle.mf_text.proofs.Finds.{no_number}
 use Rattle.mf_text.proofs.TokenTexts.{digits_first}
