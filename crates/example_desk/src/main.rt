@@ -2,11 +2,11 @@
 #![tactic(auto)]
 
 use anyhow::Result;
-use mf_desk::{Gate, Outcome, Settings, perform};
-use mf_gf::FontWords;
 use std::io::{self, Write};
 use std::sync::Arc;
 use std::sync::atomic::{AtomicU64, Ordering};
+use wonchhip::desk::{Gate, Outcome, Settings, perform};
+use wonchhip::gf::FontWords;
 
 /// A letter I, published when it is complete, and shipped as a character.
 const SCRIPT: &str = "\

@@ -2,9 +2,9 @@
 #![tactic(auto)]
 
 use anyhow::{Result, ensure};
-use mf_gf::{FontWords, GfBytes, GfFile};
-use mf_rows::{Picture, RowBuilder, Run};
 use std::alloc::Global;
+use wonchhip::gf::{FontWords, GfBytes, GfFile};
+use wonchhip::rows::{Picture, RowBuilder, Run};
 
 /// The greatest number of bytes in the file.
 const MAX_BYTES: u32 = 16_777_216;

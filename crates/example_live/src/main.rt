@@ -2,16 +2,16 @@
 #![tactic(auto)]
 
 ghost use Rattle.std.specs.Prelude.{◌≡◌};
-ghost use Rattle.mf_live.specs.Viewers.{identity};
-ghost use Rattle.mf_live.specs.Writers as writers;
+ghost use Rattle.wonchhip.specs.Live.Viewers.{identity};
+ghost use Rattle.wonchhip.specs.Live.Writers as writers;
 
 use anyhow::{Result, bail};
-use mf_geom::{Cycle, Point};
-use mf_live::{CloseFault, Viewer, Writer, open_picture};
-use mf_ops::{Check, Op, Weight};
 use std::alloc::Global;
 use std::sync::Wait;
 use std::thread::join_mut;
+use wonchhip::geom::{Cycle, Point};
+use wonchhip::live::{CloseFault, Viewer, Writer, open_picture};
+use wonchhip::ops::{Check, Op, Weight};
 
 fn main(rt: HostRuntime) -> Result<()> {
     let alloc = rt.alloc();

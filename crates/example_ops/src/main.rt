@@ -2,10 +2,10 @@
 #![tactic(auto)]
 
 use anyhow::Result;
-use mf_geom::{Cycle, Point};
-use mf_ops::{Check, Cull, Op, Sign, Weight, after, apply};
-use mf_rows::Picture;
 use std::alloc::Global;
+use wonchhip::geom::{Cycle, Point};
+use wonchhip::ops::{Check, Cull, Op, Sign, Weight, after, apply};
+use wonchhip::rows::Picture;
 
 fn main(rt: HostRuntime) -> Result<()> {
     let alloc = rt.alloc();

@@ -2,10 +2,10 @@
 #![tactic(auto)]
 
 use anyhow::{Result, bail};
-use mf_desk::Session;
 use std::alloc::Global;
 use std::io::{self, Write};
 use std::sync::Wait;
+use wonchhip::session::Session;
 
 /// The lines. The fourth is refused, and the script goes on.
 const LINES: [&str; 7] = [

@@ -1,6 +1,6 @@
 -- The viewer is one of the same picture after each look.
 use Rattle.std.proofs.Common.{◌≡◌}
-use Rattle.mf_live.specs.Viewers.{identity}
+use Rattle.wonchhip.specs.Live.Viewers.{identity}
 use Rattle.example_live.proofs.watch.Given as goal
 
 abbrev pub invariant-loop : goal.invariant-loop
