@@ -4,9 +4,9 @@
     tests/documents.py [DOCUMENT..]
     tests/documents.py --read | --write | --self-test
 
-The documents are README.md, bench/README.md and all of docs/. Where some are named, these alone are checked. The programs must have
-been built (`PROGRAMS`). With --read nothing is run, and no program is needed. With --write tables that quote results are written anew.
-The first word after the three backquotes of a fenced block says what is checked:
+The documents are README.md, those of bench/ and examples/, and all of docs/. Where some are named, these alone are checked. The
+programs must have been built (`PROGRAMS`). With --read nothing is run, and no program is needed. With --write tables that quote
+results are written anew. The first word after the three backquotes of a fenced block says what is checked:
 
     console               lines that begin with `$ ` are commands of bash, and the lines below each are all that it prints
     console status=N      likewise; the last command exits with status N, and every other command of a document with 0
@@ -14,7 +14,7 @@ The first word after the three backquotes of a fenced block says what is checked
     console skip=REASON   not run, for a reason in words that are joined by hyphens
     mfp                   each line is a script, and is not refused
     mfp file=PATH         lines of this file that follow one another
-    mfp save=NAME         a script, which is written to the file NAME for the commands below it
+    mfp save=NAME         a script, which is written to the file NAME for the commands below it; NAME may have a folder
     rust file=PATH        lines of this file that follow one another, indentation aside
     contract file=PATH    likewise; a line `..` means that lines are left out, but no head of a function
     text                  not checked
@@ -61,6 +61,7 @@ README, LANGUAGE, CONTRIBUTING, TIMES = "README.md", "docs/user/LANGUAGE.md", "d
 DECISIONS = "docs/DECISIONS.md"
 # Made from the sources, and about names of the past: the names in these are not looked for.
 CALLS, CHANGELOG = "docs/work/CALLS.md", "docs/work/CHANGELOG.md"
+READMES = (README, "bench/README.md", "examples/README.md")
 # Lines that documents may have, characters that a cell of a table may have, and seconds that a command may take.
 MAX_LINES = {README: 150, DECISIONS: 300, "docs/work/PROVED.md": 300, CHANGELOG: 150, CONTRIBUTING: 330}
 MAX_CELL, LIMIT = 150, 60
@@ -221,7 +222,7 @@ class Repository:
         return sorted(folder.removeprefix("crates/") for folder in self.folders if re.fullmatch("crates/[^/]+", folder))
 
     def documents(self) -> list[str]:
-        return sorted(path for path in self.files if path in (README, "bench/README.md") or fnmatch.fnmatch(path, "docs/*.md"))
+        return sorted(path for path in self.files if path in READMES or fnmatch.fnmatch(path, "docs/*.md"))
 
 
 def open_repository(root: pathlib.Path, limit: int = LIMIT, runs: bool = True) -> Repository:
@@ -349,11 +350,12 @@ def is_named_well(repository: Repository, document: Document, line: int, word: s
 
 
 def check_names(repository: Repository, document: Document) -> Iterator[Finding]:
-    """Words in backquotes that name files. Folders named out are made, so what is in them is not looked for."""
+    """Words in backquotes that name files. Folders named out are made, so what is in them is not looked for, and so are saved files."""
+    saved = {block.value("save") for block in document.blocks}
     for line, span in code_spans(document):
         for word in (word.strip(",;:()") for word in span.split()):
             is_name = "/" in word and word.endswith(SOURCE) and NAME.fullmatch(word) and "://" not in word
-            if is_name and "out" not in word.split("/") and not is_named_well(repository, document, line, word):
+            if is_name and word not in saved and "out" not in word.split("/") and not is_named_well(repository, document, line, word):
                 yield line, f"{word} is no file or folder of the repository"
 
 
@@ -581,6 +583,7 @@ class Sandbox:
         return self.folder
 
     def save(self, name: str, lines: list[str]) -> None:
+        (self.place() / name).parent.mkdir(parents=True, exist_ok=True)
         (self.place() / name).write_text("".join(f"{line}\n" for line in lines), encoding="utf-8")
 
     def run(self, command: str) -> tuple[list[str], int] | None:
@@ -695,8 +698,8 @@ def wrong_info(block: Block) -> str:
         return f"the reason is not in words that are joined by hyphens: {block.info}"
     if not (block.value("status") or "0").isdecimal():
         return f"the status is no number: {block.info}"
-    if "/" in (block.value("save") or ""):
-        return f"a file is saved in the folder itself: {block.info}"
+    if {"", ".."} & set((block.value("save") or "-").split("/")):
+        return f"a file is saved in the repository: {block.info}"
     return FINE
 
 
@@ -836,6 +839,7 @@ RIGHT = {
     "a command of two lines": (1, block_of("console", "$ echo a \\", "    b", "a b")),
     "the program": (1, block_of("console", "$ ./mfpic < examples/a.mfp")),
     "a saved script": (1, block_of("mfp save=own", "x") + block_of("console", "$ ./mfpic < own", "refused Syntax 1")),
+    "a saved script in a folder": (1, block_of("mfp save=own/a.mfp", "a") + block_of("console", "$ ./mfpic < own/a.mfp") + "`own/a.mfp`\n"),
     "a saved text": (1, block_of("text save=own", "x") + block_of("console", "$ cat own", "x")),
     "a program that is missing": (0, block_of("console needs=bash needs=no-such-program", "$ echo a", "b")),
     "a program that is there": (1, block_of("console needs=bash", "$ echo a", "a")),
@@ -872,7 +876,7 @@ WRONG = {
     "a quotation of nothing": (0, "does not say of which file", block_of("rust", "a")),
     "no reason": (0, "says skip=,", block_of("console skip=", "$ true")),
     "a reason with commas": (0, "joined by hyphens", block_of("console skip=a,b", "$ true")),
-    "a file elsewhere": (0, "in the folder itself", block_of("mfp save=../a", "show a")),
+    "a file elsewhere": (0, "in the repository", block_of("mfp save=../a", "show a")),
     "a refused line": (2, "prints: refused Syntax 1", block_of("mfp", "show a", "show x")),
     "no such file": (0, "is no file", block_of("mfp file=examples/b.mfp", "show a")),
     "another line": (2, "has no such line", block_of("mfp file=examples/a.mfp", "% second", "% third")),
