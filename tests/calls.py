@@ -29,9 +29,8 @@ to read them.
 """
 BEGIN = re.compile(r"<!-- calls of ([\w ]+) -->\n")
 END = "<!-- end of calls -->\n"
-CITING = """**To cite the words of these clauses** in a contract of your own, import them. A word such as `viewers.seen_list` is `seen_list` in
-the file `Viewers`. Signs and words that are not here, such as `≡` and `IfOk`, are in `Rattle.std.specs.Prelude`, and the types are those
-of the code.
+CITING = """**To cite the words of these clauses** in a contract of your own, import them. A word such as `viewers.seen_list` is `seen_list`
+in the file `Viewers`. Signs and words that are not here, such as `≡` and `IfOk`, are in `Rattle.std.specs.Prelude`.
 """
 # How many columns a line of imports may have.
 WIDTH = 132
@@ -111,7 +110,7 @@ def cited(clauses: Iterable[str], known: dict[str, tuple[str, str]]) -> set[tupl
         for word in WORD.findall(CLAUSE.sub("", line)):
             first, _, second = word.partition(".")
             module, name = known.get(first, ("", ""))
-            if module:
+            if name or (module and second):
                 found.add((module, name or second))
     return found
 
@@ -180,20 +179,16 @@ def passed_on() -> tuple[dict[str, str], dict[str, str]]:
 
 
 def import_lines(calls: list[Call], modules: dict[str, str]) -> Iterator[str]:
-    """The lines that import the words of clauses by way of wonchhip. Types are imported by the code itself."""
+    """The lines that import the words of clauses by way of wonchhip."""
     words: dict[str, set[str]] = {}
     for call in calls:
         for module, word in call.words:
-            if module.startswith("Rattle.std.") or ".declared." in module:
+            if module.startswith("Rattle.std."):
                 continue
-            folder, _, name = module.rpartition(".")
-            if folder in modules:
-                module = f"{modules[folder]}.{name}"
-            elif module in modules:
-                module = modules[module]
-            else:
+            folder = next((folder for folder in modules if f"{module}.".startswith(f"{folder}.")), None)
+            if folder is None:
                 sys.exit(f"crates/wonchhip/specs/Lib.antt does not pass on {module}, which a clause of {call.name} cites")
-            words.setdefault(module, set()).add(word)
+            words.setdefault(modules[folder] + module.removeprefix(folder), set()).add(word)
     for module in sorted(words):
         listed = textwrap.wrap(", ".join(sorted(words[module])), WIDTH - len(f"ghost use {module}.{{}};"), break_on_hyphens=False)
         yield from (f"ghost use {module}.{{{part.rstrip(',')}}};" for part in listed)
