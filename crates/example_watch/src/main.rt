@@ -43,7 +43,8 @@ fn play<R: Wait + Threads + Print>(
     drawn?;
     for watcher in watchers {
         let record = watcher.into_record();
-        println!(rt; "{} looks, {} of which went back", record.len(), steps_back(&record))?;
+        let back = steps_back(&record);
+        println!(rt; "{} looks, {back} of which went back", record.len())?;
     }
     Ok(())
 }
