@@ -42,6 +42,7 @@ pub fn read_words(alloc: Global, words: Vec<String>) -> Result<Words, WordsFault
 fn command<'a>(alloc: Global) -> Result<Command<'a>, AllocError>
     ensures { IfOk result (λ made. app_of made ≡ mfpic) }
 {
-    let command = with_number(alloc, new_command(alloc, "mfpic"), "viewers", 0, 16)?;
+    let command = Ok(new_command(alloc, "mfpic"));
+    let command = with_number(alloc, command, "viewers", 0, 16);
     with_file(alloc, command, "gf")
 }

@@ -1,6 +1,6 @@
 //! A command line, made of its options, and what clap finds in its words.
 ghost use Rattle.std.specs.Prelude.{◌≡◌, [], IfOk, IsErrOf, OnOk, map, string_bytes, true};
-ghost use Rattle.clap.specs.Words.{app_of, fault_of, found_of, is_simple_and_free, matches_of, new_app, rows_of, with_rule};
+ghost use Rattle.clap.specs.Words.{App, app_of, fault_of, found_of, is_simple_and_free, matches_of, new_app, rows_of, with_rule};
 ghost use Rattle.mf_cli_options.specs.Options.{file_rule, flag_rule, number_rule, without_flags};
 ghost use Rattle.mf_cli_options.specs.Values.{AreValuesOf};
 
@@ -18,45 +18,46 @@ pub fn new_command<'a>(alloc: Global, name: &'a str) -> Command<'a>
         .disable_version_flag(true)
 }
 
-/// The command with the option `--NAME N`, which takes the numbers `low..=high`. Refused where an allocation fails.
+/// The command with the option `--NAME N`, which takes the numbers `low..=high`. Refused where an allocation fails, or failed before: so
+/// options are added one after another, and a refusal is looked at once.
 pub fn with_number<'a>(
     alloc: Global,
-    command: Command<'a>,
+    command: Result<Command<'a>, AllocError>,
     name: &'a str,
     low: u32,
     high: u32,
 ) -> Result<Command<'a>, AllocError>
-    ensures { IfOk result (λ made.
-        app_of made ≡ with_rule (app_of command.entry) (number_rule name.entry.now low high)) }
+    ensures { (app : App) → IfOk command.entry (λ before. app_of before ≡ app)
+        → IfOk result (λ made. app_of made ≡ with_rule app (number_rule name.entry.now low high)) }
 {
     let parser = ValueParser::signed(i64::from(low), i64::from(high));
-    command.arg(Arg::new(alloc, name).long(name).value_parser(parser))
+    command?.arg(Arg::new(alloc, name).long(name).value_parser(parser))
 }
 
-/// The command with the option `--NAME FILE`. Refused where an allocation fails.
+/// The command with the option `--NAME FILE`. Refused as `with_number` is.
 pub fn with_file<'a>(
     alloc: Global,
-    command: Command<'a>,
+    command: Result<Command<'a>, AllocError>,
     name: &'a str,
 ) -> Result<Command<'a>, AllocError>
-    ensures { IfOk result (λ made.
-        app_of made ≡ with_rule (app_of command.entry) (file_rule name.entry.now)) }
+    ensures { (app : App) → IfOk command.entry (λ before. app_of before ≡ app)
+        → IfOk result (λ made. app_of made ≡ with_rule app (file_rule name.entry.now)) }
 {
-    command.arg(Arg::new(alloc, name).long(name))
+    command?.arg(Arg::new(alloc, name).long(name))
 }
 
 /// The command with the flag `--NAME`, which is read back by `id`. (clap keeps the ids `help` and `version` for flags of its own.)
-/// Refused where an allocation fails.
+/// Refused as `with_number` is.
 pub fn with_flag<'a>(
     alloc: Global,
-    command: Command<'a>,
+    command: Result<Command<'a>, AllocError>,
     id: &'a str,
     name: &'a str,
 ) -> Result<Command<'a>, AllocError>
-    ensures { IfOk result (λ made.
-        app_of made ≡ with_rule (app_of command.entry) (flag_rule id.entry.now name.entry.now)) }
+    ensures { (app : App) → IfOk command.entry (λ before. app_of before ≡ app)
+        → IfOk result (λ made. app_of made ≡ with_rule app (flag_rule id.entry.now name.entry.now)) }
 {
-    command.arg(
+    command?.arg(
         Arg::new(alloc, id)
             .long(name)
             .action(ArgAction::SetTrue)

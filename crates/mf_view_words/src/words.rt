@@ -1,9 +1,9 @@
 //! The words of the command line, and what they ask for.
-ghost use Rattle.std.specs.Prelude.{IfOk, IsErrOf, OnOk};
+ghost use Rattle.std.specs.Prelude.{◌≡◌, IfOk, IsErrOf, OnOk, false, true};
 ghost use Rattle.clap.specs.Words.{found_of, rows_of};
 ghost use Rattle.mf_cli_options.specs.Values.{AreValuesOf, texts_of};
 ghost use Rattle.mf_view_words.specs.CommandLine.{rules};
-ghost use Rattle.mf_view_words.specs.Requests.{AreWords, IsCommandLine, IsRequestInRange, IsRequest, IsRequestIn, IsWordsInRange};
+ghost use Rattle.mf_view_words.specs.Requests.{AreWords, IsCommandLine, IsRequestInRange, IsRequest, IsRequestIn, IsWordsInRange, lacks_plates};
 
 use crate::options::command;
 use clap::ArgMatches;
@@ -57,28 +57,29 @@ pub fn read_words(alloc: Global, words: Vec<String>) -> Result<Request, WordsFau
     ensures range { IfOk result IsRequestInRange }
 {
     let matches = find_matches(command(alloc)?, words.as_slice())?;
-    let asked = words_in(alloc, &matches)?;
+    request_in(alloc, &matches)
+}
+
+/// The request that these values make. Refused with `BadWords` only where `--pgm` stands without `--plates`.
+fn request_in(alloc: Global, matches: &ArgMatches<'_>) -> Result<Request, WordsFault>
+    requires { AreValuesOf rules (rows_of (found_of matches.now)) }
+    ensures accepted { OnOk result (lacks_plates (rows_of (found_of matches.now)) ≡ false) }
+    ensures refused { IsErrOf result WordsFault.BadWords
+        → lacks_plates (rows_of (found_of matches.now)) ≡ true }
+    ensures value { IfOk result (IsRequestIn (rows_of (found_of matches.now))) }
+    ensures range { IfOk result IsRequestInRange }
+{
+    let asked = words_in(alloc, matches)?;
     if asked.pgm && asked.plates.is_none() {
         return Err(WordsFault::BadWords);
     }
-    Ok(request_for(&matches, asked))
-}
-
-/// The request of words whose values are these.
-fn request_for(matches: &ArgMatches<'_>, asked: Words) -> Request
-    requires readable { AreValuesOf rules (rows_of (found_of matches.now)) }
-    requires values { AreWords (rows_of (found_of matches.now)) asked }
-    requires bounded { IsWordsInRange asked }
-    ensures value { IsRequestIn (rows_of (found_of matches.now)) result }
-    ensures range { IsRequestInRange result }
-{
     if flag(matches, "asks-help") {
-        return Request::Help;
+        return Ok(Request::Help);
     }
     if flag(matches, "asks-version") {
-        return Request::Version;
+        return Ok(Request::Version);
     }
-    Request::Show(asked)
+    Ok(Request::Show(asked))
 }
 
 /// The values that the words give, or the defaults.
