@@ -14,5 +14,5 @@ returns c =
     let rows : c.extent-rows.result ≡ extent b.min_y b.max_y = omega (arith, ints, c.extent-rows.ensures) in
     let width : to_z w32 (extent b.min_x b.max_x) ≡ pos (extent b.min_x b.max_x) = omega (arith, ints, c.requires) in
     let height : to_z w32 (extent b.min_y b.max_y) ≡ pos (extent b.min_y b.max_y) = omega (arith, ints, c.requires) in
-    IfOk-equal _ _ _ _ c.push_number-4.ensures
+    IfOk-equal c.push_number-4.result _ _ _ c.push_number-4.ensures
     (grind (arith, ints, append_assoc))

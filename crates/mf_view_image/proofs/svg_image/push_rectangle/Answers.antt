@@ -12,5 +12,5 @@ returns c =
     let first : to_z w32 (of_z w32 r.x) ≡ r.x = omega (arith, ints) in
     let top : to_z w32 (of_z w32 (pos 0 -ℤ to_z w32 (of_z w32 (to_z w32 (of_z w32 r.y) +ℤ pos 1)))) ≡ neg_ℤ (r.y +ℤ pos 1) = omega (arith, ints) in
     let width : to_z w32 r.len ≡ pos r.len = omega (arith, ints) in
-    IfOk-equal _ _ _ _ c.push_number-4.ensures
+    IfOk-equal c.push_number-4.result _ _ _ c.push_number-4.ensures
     (grind (arith, ints, append_assoc))

@@ -8,6 +8,6 @@ pub returns : goal.returns
 unfolding opening grid
 returns c =
     let (left, top, width, height) = numbers_stay c.args.self.now c.requires in
-    IfOk-equal _ _ _ _ c.push_number-4.ensures
+    IfOk-equal c.push_number-4.result _ _ _ c.push_number-4.ensures
     (rw (c.in_ok-push_number-3.ensures, c.in_ok-push_number-2.ensures, c.in_ok-push_number.ensures)
     (rw (c.in_ok-extend_from_slice.ensures.items, left, top, width, height) (simp append_assoc)))
