@@ -44,7 +44,7 @@ pub record IsWordsInRange (asked : Words) : Type 0 where
   pub design_size : asked.design_size ≤ greatest_design_size
   pub resolution : asked.resolution ≤ greatest_resolution
 
--- the numbers of a request are in their ranges
+-- the numbers of the font that a request asks for are in their ranges
 abbrev pub IsRequestInRange : Request → Type 0
 IsRequestInRange (Show asked) = IsWordsInRange asked
 IsRequestInRange _ = Unit {0}
