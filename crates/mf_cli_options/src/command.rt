@@ -55,7 +55,8 @@ pub fn with_flag<'a>(
     name: &'a str,
 ) -> Result<Command<'a>, AllocError>
     ensures { (app : App) → IfOk command.entry (λ before. app_of before ≡ app)
-        → IfOk result (λ made. app_of made ≡ with_rule app (flag_rule id.entry.now name.entry.now)) }
+        → IfOk result (λ made.
+        app_of made ≡ with_rule app (flag_rule id.entry.now name.entry.now)) }
 {
     command?.arg(
         Arg::new(alloc, id)
