@@ -153,8 +153,11 @@ def call_at(lines: list[str], number: int, name: str, known: dict[str, tuple[str
         clause = CLAUSE.match(lines[end])
         if clause:
             names[clause[1]].append(clause[2] or "one clause without a name")
-        clauses.append(lines[end])
+        clauses.append(lines[end].removesuffix(";"))
         end += 1
+        # So ends the contract of a call of a trait.
+        if lines[end - 1].endswith(";"):
+            break
     signature = [re.sub(r" ?(\{\}|\{|;)$", "", line) for line in lines[number:body]]
     kept = textwrap.dedent("\n".join([*signature, *clauses])).split("\n")
     return Call(name, text, kept, len(signature), names["requires"], names["ensures"], cited(clauses, known))

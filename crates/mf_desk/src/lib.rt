@@ -18,7 +18,7 @@ pub use fault::RunFault;
 pub use mf_base::OutOfMemory;
 pub use mf_desk_session::{EndFault, Session};
 pub use mf_desk_watch::{Gate, Glance, OpenGate};
-pub use observer::{Effect, Observer, PerformedLine, Stopped};
+pub use observer::{Effect, Observer, PerformedLine, Shipment, Stopped};
 pub use outcome::Outcome;
 pub use output::write_font;
 pub use performance::perform;

@@ -1,12 +1,14 @@
 //! Observers of a run.
-ghost use Rattle.std.specs.Prelude.{◌≡◌, ◌↔◌, Ok};
-ghost use Rattle.mf_desk.specs.declared.observer.Effect.TheVariants.{Published};
+ghost use Rattle.std.specs.Prelude.{◌≡◌, ◌↔◌, IfOk, Ok};
+ghost use Rattle.mf_desk.specs.declared.observer.Effect.TheVariants.{Published, Shipped};
+ghost use Rattle.mf_desk.specs.declared.observer.Shipment.{Shipment};
 ghost use Rattle.mf_desk.specs.declared.observer.Stopped.TheVariants.{Run as ByRun};
+ghost use Rattle.mf_text.specs.Registers.{HasNames, IsSource};
 ghost use Rattle.mf_text.specs.declared.command.Command.TheVariants as commands;
 
 use crate::fault::RunFault;
 use mf_desk_session::Session;
-use mf_text::{Command, TextFault};
+use mf_text::{Command, Source, TextFault};
 use std::convert::Infallible;
 
 /// Someone who is told of each line of a run, after it was performed and its text was written. The next line is performed when the
@@ -15,8 +17,11 @@ pub trait Observer {
     /// Why the observer ends the run.
     type Fault;
 
-    /// Takes note of a line, with the session as it is after it. A fault ends the run, and no other line is performed.
-    fn note_line(&mut self, line: PerformedLine, session: &Session) -> Result<(), Self::Fault>;
+    /// Takes note of a line, with the session as it is after it. A fault ends the run, and no other line is performed. A register
+    /// whose picture was shipped has a number of at most 25.
+    fn note_line(&mut self, line: PerformedLine, session: &Session) -> Result<(), Self::Fault>
+        requires { (shipment : Shipment) → line.effect ≡ Shipped shipment
+            → IsSource shipment.source };
 }
 
 /// Nobody takes note of anything.
@@ -42,12 +47,23 @@ pub struct PerformedLine {
 pub enum Effect {
     /// It has published `currentpicture`.
     Published,
-    /// It has shipped a character.
-    Shipped,
+    /// It has shipped this character.
+    Shipped(Shipment),
     /// It was refused, and has changed nothing.
     Refused,
     /// It has done something else, or nothing.
     Other,
+}
+
+/// A character that was shipped. Its picture is what its source was before the line, and still is after it.
+#[derive(Clone, Copy, Debug, PartialEq, Eq)]
+pub struct Shipment {
+    pub source: Source,
+    pub code: u8,
+    /// In 1/65536 pixel.
+    pub dx: i32,
+    /// In 1/1048576 of the design size.
+    pub width: i32,
 }
 
 /// Why a run has stopped before its end.
@@ -81,18 +97,30 @@ impl Stopped<Infallible> {
 
 /// What a line does, unless it is refused.
 pub(crate) fn effect_of(read: &Result<Command, TextFault>) -> Effect
-    ensures { (result ≡ Published) ↔ (read.now ≡ Ok commands.Publish) }
+    requires { IfOk read.now HasNames }
+    ensures published { (result ≡ Published) ↔ (read.now ≡ Ok commands.Publish) }
+    ensures shipped { (s : Shipment) → (result ≡ Shipped s)
+        ↔ (read.now ≡ Ok (commands.Ship s.source s.code s.dx s.width)) }
+    ensures source { (shipment : Shipment) → result ≡ Shipped shipment
+        → IsSource shipment.source }
 {
     match read {
         Ok(Command::Publish) => Effect::Published,
-        Ok(Command::Ship(..)) => Effect::Shipped,
+        Ok(Command::Ship(source, code, dx, width)) => Effect::Shipped(Shipment {
+            source: *source,
+            code: *code,
+            dx: *dx,
+            width: *width,
+        }),
         _ => Effect::Other,
     }
 }
 
 impl Effect {
     /// What a line has done that has printed this: where it was refused, it prints `refused` and why.
-    pub(crate) fn unless_refused(self, text: &[u8]) -> Effect {
+    pub(crate) fn unless_refused(self, text: &[u8]) -> Effect
+        ensures { (shipment : Shipment) → result ≡ Shipped shipment → self ≡ Shipped shipment }
+    {
         if text.starts_with(b"refused ") {
             Effect::Refused
         } else {

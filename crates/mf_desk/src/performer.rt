@@ -1,9 +1,12 @@
 //! Performing lines one after another, and writing what each prints before the next is performed.
-ghost use Rattle.std.specs.Prelude.{◌≡◌, ◌+◌, ◌≤◌, IfErr, OnOk};
+ghost use Rattle.std.specs.Prelude.{◌≡◌, ◌+◌, ◌≤◌, IfErr, IfOk, OnOk};
 ghost use Rattle.mf_desk.specs.Faults.{BreaksOff, StopsAfter};
 ghost use Rattle.mf_desk.specs.Performer.{IsLineText, IsWritten, longest_text, most_counted_bytes};
 ghost use Rattle.mf_desk.specs.Streams.{Gets};
+ghost use Rattle.mf_desk.specs.declared.observer.Effect.TheVariants.{Shipped};
+ghost use Rattle.mf_desk.specs.declared.observer.Shipment.{Shipment};
 ghost use Rattle.mf_desk_session.specs.Sessions.{identity, limits};
+ghost use Rattle.mf_text.specs.Registers.{IsSource};
 
 use crate::fault::RunFault;
 use crate::observer::{Effect, Observer, PerformedLine, Stopped, effect_of};
@@ -67,6 +70,8 @@ impl Performer {
         ensures written { OnOk result
             (Gets (W.contents writer.old) (W.contents writer.new)
             (IsWritten self.old line.now self.new)) }
+        ensures source { IfOk result (λ effect.
+            (shipment : Shipment) → effect ≡ Shipped shipment → IsSource shipment.source) }
         ensures at_most { OnOk result (self.new.written ≤ self.old.written + longest_text) }
         ensures limits { limits self.new.session ≡ limits self.old.session }
         ensures identity { identity self.new.session ≡ identity self.old.session }

@@ -158,7 +158,7 @@ impl Observer for Notes {
         let PerformedLine { number, effect } = line;
         let digit = match effect {
             Effect::Published => 1,
-            Effect::Shipped => 2,
+            Effect::Shipped(_) => 2,
             Effect::Refused => 3,
             Effect::Other => 4,
         };

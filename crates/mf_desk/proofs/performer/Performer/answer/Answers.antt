@@ -73,3 +73,6 @@ returns-clause-fault g c =
 
 pub answer_to-requires : goal.answer_to-requires
 answer_to-requires g c = IfOk-weaker c.read_command-read.result _ _ (names_given c.args.line.now) c.read_command-read.ensures.given
+
+pub effect_of-asked-requires : goal.effect_of-asked-requires
+effect_of-asked-requires g c = IfOk-weaker c.read_command-read.result _ _ (names_given c.args.line.now) c.read_command-read.ensures.given
