@@ -8,8 +8,8 @@ and with a folder of plates unless a picture is too large for an image; half of 
 
 - the transcript and the font file must be those of the models, the font's design size and resolution included;
 - the frames must be frames of published pictures whose revisions rise, and the last one that of the last picture;
-- there must be an image for each published revision, and for no other, that reads back as its picture, and PGM images only where they
-  are asked for.
+- there must be an image for each published revision and each shipped character, and no other, that reads back as its picture, PGM
+  images only where they are asked for, and a page that has these images in their order, and no other.
 
 And two pictures whose frames reach the right end of a small terminal must be seen whole there.
 
@@ -53,15 +53,31 @@ SIGN = re.compile("\x1b\\[[0-9;]*[A-Za-z]|.", re.DOTALL)
 
 @dataclasses.dataclass
 class Performance:
-    """What a script prints and ships, and the pictures that it publishes, by their revisions, the last one included."""
+    """What a script prints and ships, the pictures that it publishes, by their revisions, the last one included, and its plates in their
+    order: the name of each, what the page says of it, and its picture."""
 
     script: bytes = b""
     transcript: str = ""
     font: bytes | None = None
     published: dict[int, frame_model.Picture] = dataclasses.field(default_factory=dict)
+    plates: list[tuple[str, str, frame_model.Picture]] = dataclasses.field(default_factory=list)
 
     def has_images(self) -> bool:
-        return not any(frame_model.is_too_large(picture) for picture in self.published.values())
+        return not any(frame_model.is_too_large(picture) for _, _, picture in self.plates)
+
+    def publish(self, model: Model) -> None:
+        """Notes what is published. A revision that was published before has its plate."""
+        revision, picture = model.accepted, model.picture("currentpicture")
+        if revision not in self.published:
+            self.plates.append((f"{revision:07}", f'revision="{revision}"', picture))
+        self.published[revision] = picture
+
+    def ship(self, model: Model) -> None:
+        """Notes the last character that was shipped."""
+        shipped, number = model.shipped[-1], sum(it.code == model.shipped[-1].code for it in model.shipped)
+        name = f"character-{shipped.code}" + (f"-{number}" if number > 1 else "")
+        said = f'code="{shipped.code}" data-dx="{shipped.dx}" data-width="{shipped.width}"'
+        self.plates.append((name, said, model.weights[-1]))
 
 
 def performance(chance: Chance) -> Performance:
@@ -76,8 +92,10 @@ def performance(chance: Chance) -> Performance:
             continue
         made.script, made.transcript = made.script + text + end, made.transcript + printed
         if printed == model.publish() and line.command == PUBLISH:
-            made.published[model.accepted] = model.picture("currentpicture")
-    made.published[model.accepted] = model.picture("currentpicture")
+            made.publish(model)
+        if len(model.shipped) > len(before.shipped):
+            made.ship(model)
+    made.publish(model)
     commands = font_commands(model.shipped) if model.shipped else []
     made.font = b"".join(commands) if commands else None
     return made
@@ -105,16 +123,20 @@ def difference_of_frames(shown: str, made: Performance, size: tuple[int, int], i
 
 
 def difference_of_plates(folder: pathlib.Path, made: Performance, has_pgm: bool) -> str | None:
-    """How the images in a folder differ from the published pictures."""
-    named = {f"{revision:07}.{kind}" for revision in made.published for kind in ["svg", *["pgm"] * has_pgm]}
+    """How the images in a folder differ from the pictures that were published and shipped, or its page from the images."""
+    named = {f"{name}.{kind}" for name, _, _ in made.plates for kind in ["svg", *["pgm"] * has_pgm]} | {"index.html"}
     if found := named ^ {path.name for path in folder.iterdir()}:
-        return f"there should be, or should not be, the images {sorted(found)}"
-    for revision, picture in made.published.items():
-        if frame_model.read_svg((folder / f"{revision:07}.svg").read_text(encoding="ascii")) != picture:
-            return f"the SVG image of revision {revision} is not its picture"
-        if has_pgm and (folder / f"{revision:07}.pgm").read_bytes() != frame_model.pgm(picture):
-            return f"the PGM image of revision {revision} is not its picture"
-    return None
+        return f"there should be, or should not be, the files {sorted(found)}"
+    sections = ""
+    for name, said, picture in made.plates:
+        image = (folder / f"{name}.svg").read_text(encoding="ascii")
+        if frame_model.read_svg(image) != picture:
+            return f"the SVG image {name} is not its picture"
+        if has_pgm and (folder / f"{name}.pgm").read_bytes() != frame_model.pgm(picture):
+            return f"the PGM image {name} is not its picture"
+        sections += f"<template data-{said}>\n{image}</template>\n"
+    before, found, after = (folder / "index.html").read_text(encoding="ascii").partition(sections)
+    return None if found and "<template data-" not in before + after else "the page has other images"
 
 
 def difference(

@@ -144,18 +144,19 @@ def ends(places):
 
 
 class Model:
-    """The pictures of a script, the number of operations that `currentpicture` has accepted, the shipped characters in order, and
-    whether the turning check is on."""
+    """The pictures of a script, the number of operations that `currentpicture` has accepted, the shipped characters in order, their
+    weights, and whether the turning check is on."""
 
     def __init__(self, accepted=0):
         self.pictures = {}
         self.accepted = accepted
-        self.shipped = []
+        self.shipped, self.weights = [], []
         self.checks = True
 
     def copy(self):
         other = Model(self.accepted)
         other.pictures, other.shipped, other.checks = dict(self.pictures), list(self.shipped), self.checks
+        other.weights = list(self.weights)
         return other
 
     def picture(self, name):
@@ -252,6 +253,7 @@ class Model:
     def ship(self, source, code, dx, width):
         black = frozenset(pixel for pixel, weight in self.picture(source).items() if weight > 0)
         self.shipped.append(Character(code, dx, width, black))
+        self.weights.append(self.picture(source))
         return f"[{code}]\n"
 
     def publish(self):

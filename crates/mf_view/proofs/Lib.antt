@@ -1,4 +1,5 @@
 mod Drawn
 mod Images
+mod Pages
 mod Reports
 mod Shown

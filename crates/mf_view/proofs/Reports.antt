@@ -26,13 +26,13 @@ module _ (words : List Text) (fault : ProgramFault) (status : ℕ) (is : status 
 
   -- the script has ended with this fault, after which the stream of messages had some bytes
   pub ReportsFault-script : (between : Option (List ℕ)) (s : Streams) (asked : Words) → IsRequest words (Show asked)
-      → EndsShow (transcript_in asked) fault (record s { holds = between }) → GetsFront between s.holds (message_of fault) → ReportsFault words status s
+      → EndsShow (transcript_in asked) (record s { holds = between }) fault → GetsFront between s.holds (message_of fault) → ReportsFault words status s
   ReportsFault-script between s asked (_, _, are) ends message = record {
     fault = fault;
     status_is = sym is;
     between = between;
     message = message;
-    told = λ others (_, _, same). subst (λ t. EndsShow t fault (record s { holds = between })) (are.transcript ∙ sym same.transcript) ends;
+    told = λ others (_, _, same). subst (λ t. EndsShow t (record s { holds = between }) fault) (are.transcript ∙ sym same.transcript) ends;
   }
 
 -- a text that was asked for went out, or did not

@@ -87,7 +87,7 @@ module _ (s : Streams) where
 
   -- a fault comes after the last frame
   pub shown_is_told : (settings : Settings) (manner : Manner) (screen : Receipt) (outcome : Outcome) (fault : ProgramFault)
-      → Shows settings manner screen outcome s → Passes s (TellsOfShow (run_limits settings) fault)
+      → Shows settings manner screen s outcome → Passes s (TellsOfShow (run_limits settings) fault)
   shown_is_told settings manner screen outcome fault (read, consumed, is) = (
     read,
     consumed,
@@ -120,7 +120,7 @@ module _ (s : Streams) where
   pub shown_at_end : (settings : Settings) (manner : Manner) (screen : Receipt) (outcome : Outcome) (run : EndedRun)
       → ((s : Streams) → EndsWith (run_limits settings) 0 s run → Performs (task settings 0 0) s outcome)
       → ShowsLast manner (ended_published_list run.ended) screen → IsAtEnd s.left → EndsWith (run_limits settings) 0 s run
-      → Shows settings manner screen outcome s
+      → Shows settings manner screen s outcome
   shown_at_end settings manner screen outcome run concludes shown end (read, consumed, (text, out, over)) =
       let known = streams (Some read) (Some []) (Some []) (Some text) in
       let (same_read, reads, done) = concludes known (read, sym (append-nil read), (text, refl, over)) in
@@ -169,7 +169,7 @@ nothing_is_told_into None l fault unread held = nothing_is_told unread held l fa
 nothing_is_told_into (Some path) l fault unread held = (refl, None, None, nothing_is_told unread None l fault)
 
 pub shown_is_told_into : (transcript : Option (List ℕ)) (fault : ProgramFault) (s : Streams) (settings : Settings) (manner : Manner) (screen : Receipt)
-    (outcome : Outcome) → WithTranscript transcript s (Shows settings manner screen outcome)
+    (outcome : Outcome) → WithTranscript transcript s (λ s. Shows settings manner screen s outcome)
     → WithTranscript transcript s (λ s. Passes s (TellsOfShow (run_limits settings) fault))
 shown_is_told_into None fault s settings manner screen outcome shown = shown_is_told s settings manner screen outcome fault shown
 shown_is_told_into (Some path) fault s settings manner screen outcome (same, held, holds, shown) =
@@ -183,5 +183,5 @@ nothing_is_told_by (Err fault) transcript l unread held = nothing_is_told_into t
 
 -- a script is shown in the same manner
 pub in_manner : (settings : Settings) (m n : Manner) (screen : Receipt) (outcome : Outcome) (s : Streams) → m ≡ n
-    → Shows settings m screen outcome s → Shows settings n screen outcome s
-in_manner settings m n screen outcome s is shows = subst (λ m. Shows settings m screen outcome s) is shows
+    → Shows settings m screen s outcome → Shows settings n screen s outcome
+in_manner settings m n screen outcome s is shows = subst (λ m. Shows settings m screen s outcome) is shows

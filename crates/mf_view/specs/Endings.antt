@@ -1,5 +1,6 @@
 -- What the program has written where it ends, well or with a fault.
-use Rattle.std.specs.Prelude.{◌≡◌, Bool, true, false, ℕ, List, Option, None, Some, IsSome, option_map, string_bytes}
+use Rattle.std.specs.Prelude.{◌≡◌, Bool, true, false, ℕ, List, Option, None, Some, IsSome, String, option_map, string_bytes}
+use Rattle.std.specs.Global.{Global}
 use Rattle.std.specs.Io.KnownBytes.{Appends}
 use Rattle.clap.specs.Words.{Text}
 use Rattle.mf_base.specs.Messages.{GetsFront, Receipt}
@@ -9,8 +10,8 @@ use Rattle.mf_desk.specs.declared.settings.Settings.{Settings}
 use Rattle.mf_view_frame.specs.Canvases.{size_in}
 use Rattle.mf_view_frame.specs.declared.tile.Style.{Style}
 use Rattle.mf_view_frame.specs.declared.tile.Style.TheVariants.{Colored, Plain}
-use Rattle.mf_desk_session.specs.States.{limits_of, most_bytes, most_operations}
-use Rattle.mf_view.specs.Easels.{manner}
+use Rattle.mf_desk_session.specs.States.{Limits, limits_of, most_bytes, most_operations}
+use Rattle.mf_view.specs.Easels.{Manner, manner}
 use Rattle.mf_view.specs.Fonts.{font_words}
 use Rattle.mf_view.specs.Messages.{message_of, status_of}
 use Rattle.mf_view.specs.Performances.{Shows, TellsOfShow}
@@ -41,11 +42,20 @@ abbrev pub WithTranscript : Option (List ℕ) → Streams → (Streams → Type 
 WithTranscript None s IsSuch = IsSuch s
 WithTranscript (Some path) s IsSuch = (s.holds ≡ s.held) × (held holds : Option (List ℕ)) × IsSuch (streams s.unread s.left held holds)
 
+-- a script was performed and shown, and its transcript went there
+abbrev pub ShowsTo : Option (String Global) → Settings → Manner → Receipt → Streams → Outcome → Type 0
+ShowsTo transcript settings manner screen s outcome =
+    WithTranscript (option_map string_bytes transcript) s (λ s. Shows settings manner screen s outcome)
+
+-- with this fault a performance ended whose transcript is asked for here
+abbrev pub EndsPerformance : Option (List ℕ) → Limits → Streams → ProgramFault → Type 0
+EndsPerformance transcript limits s fault = WithTranscript transcript s (λ s. Passes s (TellsOfShow limits fault))
+
 -- the script was performed and shown as the words ask for it, and there is a font file where they ask for it
 pub record IsWatched (words : Words) (screen : Receipt) (s : Streams) : Type 0 where
   pub outcome : Outcome
-  pub shown : WithTranscript (transcript_in words) s
-      (Shows (settings_with words.design_size words.resolution) (manner (style_in words.frames) (size_in words.columns words.rows)) screen outcome)
+  pub shown : ShowsTo words.transcript (settings_with words.design_size words.resolution)
+      (manner (style_in words.frames) (size_in words.columns words.rows)) screen s outcome
   pub some : IsSome words.gf → IsSome outcome.gf
 
 -- what was asked for is written: the help text, the version, or what a performance writes
@@ -58,9 +68,9 @@ EndsAs (Show words) screen s = IsWatched words screen s
 abbrev pub Fulfils : List Text → Receipt → Streams → Type 0
 Fulfils words screen s = (request : Request) × IsRequest words request × EndsAs request screen s
 
--- with this fault a script ended whose transcript is asked for here
-abbrev pub EndsShow : Option (List ℕ) → ProgramFault → Streams → Type 0
-EndsShow transcript fault s = WithTranscript transcript s (λ s. Passes s (TellsOfShow (limits_of most_operations most_bytes) fault))
+-- the same of a script of the program
+abbrev pub EndsShow : Option (List ℕ) → Streams → ProgramFault → Type 0
+EndsShow transcript = EndsPerformance transcript (limits_of most_operations most_bytes)
 
 -- with these words the program ended with some fault, which has this status; the stream of messages has got its message last, and what was
 -- read and written before it is what the fault says, where the words ask for a script
@@ -69,4 +79,4 @@ pub record ReportsFault (words : List Text) (status : ℕ) (s : Streams) : Type 
   pub status_is : status_of fault ≡ status
   pub between : Option (List ℕ)
   pub message : GetsFront between s.holds (message_of fault)
-  pub told : (asked : Words) → IsRequest words (Show asked) → EndsShow (transcript_in asked) fault (record s { holds = between })
+  pub told : (asked : Words) → IsRequest words (Show asked) → EndsShow (transcript_in asked) (record s { holds = between }) fault

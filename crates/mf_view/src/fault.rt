@@ -15,9 +15,9 @@ pub enum ProgramFault {
     Run(RunFault),
     /// The terminal has fewer than 50 columns or fewer than 6 rows.
     TooSmall,
-    /// The picture of this revision is too large for an image.
+    /// The picture of this revision, or a character that was shipped then, is too large for an image.
     ImageTooLarge(u32),
-    /// An image of this revision could not be created or written.
+    /// An image of this revision, or of a character that was shipped then, or the page could not be created or written.
     PlateFault(u32),
     /// A font file was asked for, but no character was shipped.
     NoCharacters,

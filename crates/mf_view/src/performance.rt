@@ -4,22 +4,22 @@ ghost use Rattle.std.specs.Io.KnownBytes.{IsAtEnd};
 ghost use denote.Param.Send.{IsSync, IsSend};
 ghost use Rattle.mf_base.specs.Messages.{receipt, receipt_of};
 ghost use Rattle.mf_desk.specs.EndedRuns.{EndsWith};
-ghost use Rattle.mf_desk.specs.Faults.{Stops};
 ghost use Rattle.mf_desk.specs.Performances.{run_limits};
-ghost use Rattle.mf_desk.specs.Progress.{HasReadNothing, ReadsThrough};
+ghost use Rattle.mf_desk.specs.Progress.{HasReadNothing, ReadsThrough, StopsIn};
 ghost use Rattle.mf_desk.specs.Streams.{Passes, Streams, streams_of};
 ghost use Rattle.mf_live.specs.Writers.{ended_identity, ended_published_list};
 ghost use Rattle.mf_desk_session.specs.Sessions as sessions;
 ghost use Rattle.mf_desk_session.specs.States.{Limits};
-ghost use Rattle.mf_view.specs.Drawings.{DrawsMore, HasDrawn, ShowsLast};
-ghost use Rattle.mf_view.specs.Easels.{HasSameManner, identity, manner, manner_of};
-ghost use Rattle.mf_view.specs.Performances.{Shows, TellsOfShow};
+ghost use Rattle.mf_view.specs.Drawings.{Continues, DrawsMore, HasDrawn, ShowsLast};
+ghost use Rattle.mf_view.specs.Easels.{HasSameManner, identity, manner_of};
+ghost use Rattle.mf_view.specs.Performances.{Shows, ShowsAtEnd, TellsOfShow, manner_in};
 
 use crate::easel::Easel;
 use crate::fault::ProgramFault;
-use crate::observer::{PlateWriter, write_plate};
+use crate::observer::{PlateWriter, write_last};
 use crate::pace::Pace;
-use crate::plate::Plates;
+use crate::page::Page;
+use crate::plate::PlateFolder;
 use mf_desk::{EndedRun, Outcome, Progress, RunFault, Settings, Stopped};
 use mf_view_frame::{Canvas, Style};
 use std::alloc::Global;
@@ -37,17 +37,19 @@ pub struct Showing {
     /// How they are drawn.
     pub style: Style,
     /// Where the plates go, if there are any.
-    pub plates: Option<Plates>,
+    pub folder: Option<PlateFolder>,
 }
 
 /// What the two sides of a performance have come to.
 struct Sides {
     drawn: Result<(), RunFault>,
     performed: Result<(), Stopped<ProgramFault>>,
+    /// The page of the plates.
+    page: Page,
 }
 
 /// Performs the script that `reader` gives, line by line, while a viewer draws its picture on `screen` in a thread of its own.
-/// Writes the transcript to `transcript`, and the plates where `showing` asks for them. The blank picture is drawn before the
+/// Writes the transcript to `transcript`, and the plates, with a page of them, where `showing` asks for them. The blank picture is drawn before the
 /// script is read, and the last picture after it has ended, unless that is the one drawn last. Returns the font file of the
 /// shipped characters. A fault of the screen ends the drawing, and not the script.
 ///
@@ -71,9 +73,8 @@ pub fn perform<
     showing: Showing,
     settings: &Settings,
 ) -> Result<Outcome, ProgramFault>
-    ensures shown { IfOk result (λ outcome.
-        Shows settings.now (manner showing.style showing.canvas)
-        (receipt_of W.contents screen.old screen.new) outcome
+    ensures shown { IfOk result
+        (Shows settings.now (manner_in showing) (receipt_of W.contents screen.old screen.new)
         (streams_of R.remaining reader.old reader.new T.contents transcript.old transcript.new)) }
     ensures fault { IfErr result (λ fault.
         Passes
@@ -84,13 +85,13 @@ pub fn perform<
     let Showing {
         canvas,
         style,
-        plates,
+        folder,
     } = showing;
     match desk.viewer() {
         Ok(viewer) => {
             let easel = Easel::new(viewer, canvas, style);
             show(
-                rt, alloc, progress, easel, plates, reader, screen, transcript, pace, settings,
+                rt, alloc, progress, easel, folder, reader, screen, transcript, pace, settings,
             )
         }
         Err(_) => {
@@ -107,7 +108,7 @@ fn show<S: Wait + Threads + Files + Sync, R: Read, W: Write + Send, T: Write, P:
     alloc: Global,
     progress: Progress,
     easel: Easel,
-    plates: Option<Plates>,
+    folder: Option<PlateFolder>,
     reader: &mut R,
     screen: &mut W,
     transcript: &mut T,
@@ -118,8 +119,8 @@ fn show<S: Wait + Threads + Files + Sync, R: Read, W: Write + Send, T: Write, P:
     requires limits { sessions.limits progress.performer.session ≡ run_limits settings.now }
     requires start { HasReadNothing progress }
     requires blank { (held : Option (List ℕ)) → HasDrawn easel (receipt held held) }
-    ensures shown { IfOk result (λ outcome.
-        Shows settings.now (manner_of easel) (receipt_of W.contents screen.old screen.new) outcome
+    ensures shown { IfOk result
+        (Shows settings.now (manner_of easel) (receipt_of W.contents screen.old screen.new)
         (streams_of R.remaining reader.old reader.new T.contents transcript.old transcript.new)) }
     ensures fault { IfErr result (λ fault.
         Passes
@@ -129,12 +130,16 @@ fn show<S: Wait + Threads + Files + Sync, R: Read, W: Write + Send, T: Write, P:
     let mut progress = progress;
     let mut easel = easel;
     let first = easel.look(alloc, screen, pace);
-    let Sides { drawn, performed } = perform_beside(
+    let Sides {
+        drawn,
+        performed,
+        page,
+    } = perform_beside(
         rt,
         alloc,
         &mut progress,
         &mut easel,
-        &plates,
+        &folder,
         first,
         reader,
         screen,
@@ -142,7 +147,9 @@ fn show<S: Wait + Threads + Files + Sync, R: Read, W: Write + Send, T: Write, P:
         pace,
     );
     match performed {
-        Ok(()) => end(rt, alloc, progress, easel, &plates, screen, drawn, settings),
+        Ok(()) => end(
+            rt, alloc, progress, easel, &folder, page, screen, drawn, settings,
+        ),
         Err(stopped) => {
             progress.discard(rt);
             Err(stopped.into())
@@ -163,7 +170,7 @@ fn perform_beside<
     alloc: Global,
     progress: &mut Progress,
     easel: &mut Easel,
-    plates: &Option<Plates>,
+    folder: &Option<PlateFolder>,
     first: Result<(), RunFault>,
     reader: &mut R,
     screen: &mut W,
@@ -184,15 +191,15 @@ fn perform_beside<
         (ReadsThrough
         (streams_of R.remaining reader.old reader.new T.contents transcript.old transcript.new)
         progress.new.performer) }
-    ensures stopped { IfErr result.performed (λ stop.
-        Passes
-        (streams_of R.remaining reader.old reader.new T.contents transcript.old transcript.new)
-        (Stops (sessions.limits progress.old.performer.session) stop)) }
+    ensures stopped { IfErr result.performed
+        (StopsIn progress.old
+        (streams_of R.remaining reader.old reader.new T.contents transcript.old transcript.new)) }
 {
     let mut observer = PlateWriter {
         rt,
         alloc,
-        plates,
+        folder,
+        page: Page::new(alloc),
         pace,
     };
     let ended = AtomicBool::new(false);
@@ -221,28 +228,33 @@ fn perform_beside<
                 (ReadsThrough
                 (streams_of R.remaining reader.entry.now reader.exit.now T.contents
                 transcript.entry.now transcript.exit.now) progress.exit.now.performer) }
-            ensures stopped { IfErr result (λ stop.
-                Passes
+            ensures stopped { IfErr result
+                (StopsIn progress.entry.now
                 (streams_of R.remaining reader.entry.now reader.exit.now T.contents
-                transcript.entry.now transcript.exit.now)
-                (Stops (sessions.limits progress.entry.now.performer.session) stop)) }
+                transcript.entry.now transcript.exit.now)) }
         {
             let performed = progress.read_all(rt, alloc, reader, transcript, &mut observer);
             ended.store(true, Ordering::SeqCst);
             performed
         },
     );
-    Sides { drawn, performed }
+    let PlateWriter { page, .. } = observer;
+    Sides {
+        drawn,
+        performed,
+        page,
+    }
 }
 
-/// Ends a script that was read to its end: writes the plate of the last picture, again if it was written before, closes the picture,
-/// draws it, and makes the font file.
+/// Ends a script that was read to its end: writes the plate of the last picture, unless it was written, and the page, closes the
+/// picture, draws it, and makes the font file.
 fn end<S: Wait + Files, W: Write>(
     rt: &S,
     alloc: Global,
     progress: Progress,
     easel: Easel,
-    plates: &Option<Plates>,
+    folder: &Option<PlateFolder>,
+    page: Page,
     screen: &mut W,
     drawn: Result<(), RunFault>,
     settings: &Settings,
@@ -250,15 +262,14 @@ fn end<S: Wait + Files, W: Write>(
     requires identity { identity easel ≡ sessions.identity progress.performer.session }
     requires limits { sessions.limits progress.performer.session ≡ run_limits settings.now }
     requires through { (s : Streams) × ReadsThrough s progress.performer }
-    ensures shown { IfOk result (λ outcome.
-        (first : Option (List ℕ)) (s : Streams) → IsAtEnd s.left → ReadsThrough s progress.performer
-        → OnOk drawn (HasDrawn easel (receipt first (W.contents screen.old)))
-        → Shows settings.now (manner_of easel) (receipt first (W.contents screen.new)) outcome s) }
+    ensures shown { IfOk result
+        (ShowsAtEnd settings.now easel progress.performer drawn
+        (receipt_of W.contents screen.old screen.new)) }
     ensures fault { IfErr result (λ fault.
         (s : Streams) → IsAtEnd s.left → ReadsThrough s progress.performer
         → Passes s (TellsOfShow (run_limits settings.now) fault)) }
 {
-    if let Err(fault) = write_plate(rt, alloc, plates, progress.session()) {
+    if let Err(fault) = write_last(rt, alloc, folder, page, progress.session()) {
         progress.discard(rt);
         return Err(fault);
     }
@@ -283,11 +294,9 @@ fn show_last<W: Write>(
     requires identity { identity easel ≡ ended_identity run.old.ended }
     ensures over { (limits : Limits) (s : Streams) → EndsWith limits 0 s run.old
         → EndsWith limits 0 s run.new }
-    ensures shown { OnOk result
-        ((first : Option (List ℕ))
-        → OnOk drawn (HasDrawn easel (receipt first (W.contents screen.old)))
-        → ShowsLast (manner_of easel) (ended_published_list run.new.ended)
-        (receipt first (W.contents screen.new))) }
+    ensures shown { OnOk result (Continues (receipt_of W.contents screen.old screen.new)
+        (λ before. OnOk drawn (HasDrawn easel before))
+        (ShowsLast (manner_of easel) (ended_published_list run.new.ended))) }
 {
     drawn?;
     let mut easel = easel;

@@ -3,7 +3,7 @@ ghost use Rattle.std.specs.Io.KnownBytes.{Appends};
 ghost use Rattle.std.specs.Prelude.{◌≡◌, ℕ, Err, IfOk, IsOkAnd, OnOk, codes, string_bytes};
 ghost use Rattle.mf_view_image.specs.Boxes.{IsTooLargeForImage};
 ghost use Rattle.mf_view_image.specs.Pgm.{pgm_bytes};
-ghost use Rattle.mf_view.specs.Plates.{IsIfAsked, IsImage, IsPlate, path_of, seven_digits};
+ghost use Rattle.mf_view.specs.Plates.{IsIfAsked, IsImageFile, IsPlate, character_name, path_of, seven_digits};
 
 use crate::fault::ProgramFault;
 use mf_desk::RunFault;
@@ -16,84 +16,87 @@ use std::rt::Files;
 
 /// Where the plates of a script go, and whether each has a PGM image, too.
 #[derive(Drop)]
-pub struct Plates {
+pub struct PlateFolder {
     /// The folder, which is not created.
-    pub folder: String,
+    pub path: String,
     /// Whether each plate has a PGM image, too.
     pub pgm: bool,
 }
 
 /// An image file that is to be written.
 #[derive(Drop)]
-pub(crate) struct Image {
-    /// Its path: the folder, the revision in at least seven digits, and `.svg` or `.pgm`.
+pub(crate) struct ImageFile {
+    /// Its path: the folder, the name of the plate, and `.svg` or `.pgm`.
     path: String,
-    /// The bytes of the file.
+    /// Its bytes.
     bytes: Vec<u8>,
 }
 
-/// The plate of a revision: its SVG image, and its PGM image where one is asked for.
+/// The plate of a picture: its SVG image, and its PGM image where one is asked for.
 #[derive(Drop)]
 pub(crate) struct Plate {
-    svg: Image,
-    pgm: Option<Image>,
+    svg: ImageFile,
+    pgm: Option<ImageFile>,
 }
 
-impl Plates {
-    /// The plate of this picture, which has this revision. Refused with `ImageTooLarge` only where the picture is too large for an
-    /// image, and with `OutOfMemory` where an allocation fails.
-    #[tactic(auto, using(crate::proofs::Images::image_of_bytes))]
+impl PlateFolder {
+    /// The plate of this picture, whose files have this name. Refused with `ImageTooLarge` and this revision only where the picture is
+    /// too large for an image, and with `OutOfMemory` where an allocation fails.
+    #[tactic(auto, using(crate::proofs::Images::file_of_bytes))]
     pub(crate) fn plate(
         &self,
         alloc: Global,
         revision: u32,
+        name: &str,
         picture: &Picture,
     ) -> Result<Plate, ProgramFault>
-        ensures made { IfOk result (IsPlate self.now revision picture.now) }
+        ensures made { IfOk result (IsPlate self.now name.now picture.now) }
         ensures too_large { (number : ℕ) → result ≡ Err (ProgramFault.ImageTooLarge number)
             → (number ≡ revision) × IsTooLargeForImage picture.now }
     {
-        let svg = self.image(alloc, revision, "svg", svg(alloc, picture))?;
-        let pgm = self.pgm_if_asked(alloc, revision, picture)?;
+        let svg = self.file(alloc, revision, name, "svg", svg(alloc, picture))?;
+        let pgm = self.pgm_if_asked(alloc, revision, name, picture)?;
         Ok(Plate { svg, pgm })
     }
 
-    /// The PGM image of this picture, which has this revision, if PGM images are asked for.
+    /// The PGM image of this picture, if PGM images are asked for.
     fn pgm_if_asked(
         &self,
         alloc: Global,
         revision: u32,
+        name: &str,
         picture: &Picture,
-    ) -> Result<Option<Image>, ProgramFault>
+    ) -> Result<Option<ImageFile>, ProgramFault>
         ensures made { IfOk result
             (IsIfAsked self.now.pgm
-            (IsImage self.now revision (codes "pgm") (pgm_bytes picture.now))) }
+            (IsImageFile self.now name.now (codes "pgm") (pgm_bytes picture.now))) }
         ensures too_large { (number : ℕ) → result ≡ Err (ProgramFault.ImageTooLarge number)
             → (number ≡ revision) × IsTooLargeForImage picture.now }
     {
         if !self.pgm {
             return Ok(None);
         }
-        let image = self.image(alloc, revision, "pgm", pgm(alloc, picture))?;
-        Ok(Some(image))
+        let file = self.file(alloc, revision, name, "pgm", pgm(alloc, picture))?;
+        Ok(Some(file))
     }
 
-    /// The image file of a revision that has this extension and these bytes, if they could be made.
-    fn image(
+    /// The image file with this name, this extension and these bytes, if they could be made.
+    fn file(
         &self,
         alloc: Global,
         revision: u32,
+        name: &str,
         extension: &str,
         made: Result<Vec<u8>, ImageFault>,
-    ) -> Result<Image, ProgramFault>
-        ensures made { IfOk result (λ image.
-            IsOkAnd made (λ bytes. IsImage self.now revision extension.now bytes.items image)) }
+    ) -> Result<ImageFile, ProgramFault>
+        ensures made { IfOk result (λ file.
+            IsOkAnd made (λ bytes. IsImageFile self.now name.now extension.now bytes.items file)) }
         ensures too_large { (number : ℕ) → result ≡ Err (ProgramFault.ImageTooLarge number)
             → (number ≡ revision) × (made ≡ Err ImageFault.ImageTooLarge) }
     {
         match made {
-            Ok(bytes) => Ok(Image {
-                path: self.path(alloc, revision, extension)?,
+            Ok(bytes) => Ok(ImageFile {
+                path: self.path_of(alloc, name, extension)?,
                 bytes,
             }),
             Err(ImageFault::ImageTooLarge) => Err(ProgramFault::ImageTooLarge(revision)),
@@ -101,39 +104,61 @@ impl Plates {
         }
     }
 
-    /// The path of an image file of a revision: the folder, the revision in seven digits, zeros in front, and this extension.
+    /// The path of the file in the folder with this name and this extension.
     #[tactic(auto, using(crate::proofs::Images::parts_of_path))]
-    fn path(&self, alloc: Global, revision: u32, extension: &str) -> Result<String, AllocError>
+    pub(crate) fn path_of(
+        &self,
+        alloc: Global,
+        name: &str,
+        extension: &str,
+    ) -> Result<String, AllocError>
         ensures { IfOk result (λ path.
-            string_bytes path ≡ path_of (string_bytes self.now.folder) revision extension.now) }
+            string_bytes path ≡ path_of (string_bytes self.now.path) name.now extension.now) }
     {
-        let folder = self.folder.as_str();
-        let revision = seven_digits(alloc, revision)?;
-        format!(in alloc; "{folder}/{revision}.{extension}")
+        let folder = self.path.as_str();
+        format!(in alloc; "{folder}/{name}.{extension}")
     }
 }
 
 /// A number in seven digits, zeros in front, so that the files of a folder are listed in order.
 #[tactic(auto, using(crate::proofs::Images::padded_to_seven_digits))]
-fn seven_digits(alloc: Global, number: u32) -> Result<String, AllocError>
+pub(crate) fn seven_digits(alloc: Global, number: u32) -> Result<String, AllocError>
     ensures { IfOk result (λ digits. string_bytes digits ≡ seven_digits number) }
 {
     format!(in alloc; "{number:07}")
 }
 
+/// The name of the files of a character, before which so many with its code were shipped: `character-65`, `character-65-2`.
+pub(crate) fn character_name(alloc: Global, code: u8, before: usize) -> Result<String, AllocError>
+    ensures { IfOk result (λ name. string_bytes name ≡ character_name code before) }
+{
+    if before == 0 {
+        return format!(in alloc; "character-{code}");
+    }
+    let number = before as u128 + 1;
+    format!(in alloc; "character-{code}-{number}")
+}
+
 impl Plate {
+    /// The bytes of the SVG image.
+    pub(crate) fn image(&self) -> &[u8]
+        ensures { result.now ≡ self.now.svg.bytes.items }
+    {
+        self.svg.bytes.as_slice()
+    }
+
     /// Writes the image files, and replaces what was there. Refused where a file cannot be created or written; files that
     /// were written by then stay.
     pub(crate) fn write<S: Files>(&self, rt: &S) -> io::Result<()> {
         self.svg.write(rt)?;
         match &self.pgm {
-            Some(image) => image.write(rt),
+            Some(file) => file.write(rt),
             None => Ok(()),
         }
     }
 }
 
-impl Image {
+impl ImageFile {
     /// Writes the image file, and replaces what was there. Refused where it cannot be created or written.
     fn write<S: Files>(&self, rt: &S) -> io::Result<()> {
         let mut out = fs::create(rt, self.path.as_str())?;

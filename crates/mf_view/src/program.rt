@@ -3,12 +3,11 @@ ghost use Rattle.std.specs.Io.KnownBytes.{Appends};
 ghost use Rattle.std.specs.Prelude.{◌≡◌, ◌⊎◌, IfErr, IfOk, OnOk, option_map, string_bytes};
 ghost use Rattle.mf_base.specs.Messages.{GetsFront, receipt_of};
 ghost use Rattle.mf_desk.specs.Performances.{run_limits};
-ghost use Rattle.mf_desk.specs.Streams.{Passes, streams_of};
+ghost use Rattle.mf_desk.specs.Streams.{streams_of};
 ghost use Rattle.mf_cli_options.specs.Values.{texts_of};
-ghost use Rattle.mf_view.specs.Easels.{manner};
-ghost use Rattle.mf_view.specs.Endings.{EndsShow, Fulfils, IsWatched, ReportsFault, WithTranscript, style_in, transcript_in};
+ghost use Rattle.mf_view.specs.Endings.{EndsPerformance, EndsShow, Fulfils, IsWatched, ReportsFault, ShowsTo, style_in, transcript_in};
 ghost use Rattle.mf_view.specs.Messages.{message_of, status_of, usage};
-ghost use Rattle.mf_view.specs.Performances.{Shows, TellsOfShow};
+ghost use Rattle.mf_view.specs.Performances.{manner_in};
 ghost use Rattle.mf_view.specs.declared.fault.ProgramFault.{ProgramFault};
 ghost use Rattle.mf_view_words.specs.Requests.{IsCommandLine, IsWordsInRange};
 
@@ -17,7 +16,7 @@ use crate::fault::ProgramFault;
 use crate::font::font_words;
 use crate::pace::{Pace, Timed};
 use crate::performance::{Showing, perform};
-use crate::plate::Plates;
+use crate::plate::PlateFolder;
 use mf_cli_options::{
     BAD_WORDS, DONE, RESOURCE_FAULT, STREAM_FAULT, WordsFault, refuse_words, report_fault,
 };
@@ -91,7 +90,7 @@ fn watch<S: Wait + Threads + Files + Clock + Sync, R: Read, W: Write + Send, E: 
     requires { IsWordsInRange words }
     ensures done { OnOk result (IsWatched words (receipt_of W.contents screen.old screen.new)
         (streams_of R.remaining reader.old reader.new E.contents errors.old errors.new)) }
-    ensures fault { IfErr result (λ fault. EndsShow (transcript_in words) fault
+    ensures fault { IfErr result (EndsShow (transcript_in words)
         (streams_of R.remaining reader.old reader.new E.contents errors.old errors.new)) }
 {
     let Words {
@@ -109,7 +108,7 @@ fn watch<S: Wait + Threads + Files + Clock + Sync, R: Read, W: Write + Send, E: 
     let showing = Showing {
         canvas: Canvas::new(columns, rows)?,
         style: style(frames),
-        plates: plates.map(|folder| Plates { folder, pgm }),
+        folder: plates.map(|path| PlateFolder { path, pgm }),
     };
     let settings = Settings {
         max_ops: MAX_OPS,
@@ -154,13 +153,13 @@ fn perform_with_transcript<
     settings: &Settings,
     transcript: Option<String>,
 ) -> Result<Outcome, ProgramFault>
-    ensures done { IfOk result (λ outcome.
-        WithTranscript (option_map string_bytes transcript)
-        (streams_of R.remaining reader.old reader.new E.contents errors.old errors.new)
-        (Shows settings.now (manner showing.style showing.canvas) (receipt_of W.contents screen.old screen.new) outcome)) }
-    ensures fault { IfErr result (λ fault. WithTranscript (option_map string_bytes transcript)
-        (streams_of R.remaining reader.old reader.new E.contents errors.old errors.new)
-        (λ s. Passes s (TellsOfShow (run_limits settings.now) fault))) }
+    ensures done { IfOk result
+        (ShowsTo transcript settings.now (manner_in showing)
+        (receipt_of W.contents screen.old screen.new)
+        (streams_of R.remaining reader.old reader.new E.contents errors.old errors.new)) }
+    ensures fault { IfErr result
+        (EndsPerformance (option_map string_bytes transcript) (run_limits settings.now)
+        (streams_of R.remaining reader.old reader.new E.contents errors.old errors.new)) }
 {
     let Some(path) = transcript else {
         return perform(rt, alloc, reader, screen, errors, pace, showing, settings);
@@ -179,7 +178,8 @@ fn print_text<W: Write, E: Write>(screen: &mut W, errors: &mut E, text: &str) ->
         → (errors.new ≡ errors.old)
         × Appends (W.contents screen.old) (W.contents screen.new) text.now }
     ensures fault { (result ≡ DONE)
-        ⊎ ((fault : ProgramFault) × (result ≡ status_of fault) × GetsFront (E.contents errors.old) (E.contents errors.new) (message_of fault)) }
+        ⊎ ((fault : ProgramFault) × (result ≡ status_of fault)
+        × GetsFront (E.contents errors.old) (E.contents errors.new) (message_of fault)) }
 {
     match send(screen, text.as_bytes()) {
         Ok(()) => DONE,

@@ -13,7 +13,7 @@ Performs a script, and draws currentpicture in the terminal while the script cha
   --pause MS           waits MS milliseconds after each publish, 0..60000 (0)
   --frames             writes one frame after another, without control codes
   --transcript FILE    writes the transcript to FILE instead of standard error
-  --plates FOLDER      writes an SVG image of each published picture into FOLDER
+  --plates FOLDER      writes SVG images of what is published and shipped, and a page of them, into FOLDER
   --pgm                writes a PGM image beside each SVG image
   --gf FILE            writes the characters that are shipped out to the font FILE
   --design-size PT     the design size of the font in points, 0..2047 (0)

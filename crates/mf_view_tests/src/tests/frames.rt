@@ -68,7 +68,7 @@ fn assert_draws<S: Abort + Wait + Threads + Files + Sync>(
     let showing = Showing {
         canvas,
         style,
-        plates: None,
+        folder: None,
     };
     let performed = perform(
         rt,

@@ -3,7 +3,7 @@ use super::assertions::assert_same;
 use super::paces::SETTINGS;
 use mf_desk::RunFault;
 use mf_testing::{Pieces, Sink, grow_again, refuse_growths};
-use mf_view::{Pace, Plates, ProgramFault, Showing, perform};
+use mf_view::{Pace, PlateFolder, ProgramFault, Showing, perform};
 use mf_view_frame::{Canvas, Style};
 use std::alloc::Global;
 use std::process::Abort;
@@ -43,13 +43,13 @@ impl Pace for Hasty {
 fn assert_whole<S: Abort + Wait + Threads + Files + Sync>(
     rt: &S,
     alloc: Global,
-    plates: Option<Plates>,
+    folder: Option<PlateFolder>,
     fault: Option<ProgramFault>,
 ) {
     let showing = Showing {
         canvas: Canvas::new(50, 24).expect(rt, "the terminal is large enough"),
         style: Style::Plain,
-        plates,
+        folder,
     };
     let mut screen = Sink::with_capacity(alloc, 1000).expect(rt, "there is room for frames");
     let mut transcript = Sink::with_capacity(alloc, 1000).expect(rt, "there is room for texts");
@@ -96,7 +96,7 @@ fn a_script_is_drawn(rt: HostRuntime) {
 #[test]
 fn a_script_has_plates(rt: HostRuntime) {
     let alloc = rt.alloc();
-    let folder = String::from_str(alloc, "no/folder").expect(&rt, "there is room for a name");
-    let plates = Plates { folder, pgm: true };
-    assert_whole(&rt, alloc, Some(plates), Some(ProgramFault::PlateFault(1)));
+    let path = String::from_str(alloc, "no/folder").expect(&rt, "there is room for a name");
+    let folder = PlateFolder { path, pgm: true };
+    assert_whole(&rt, alloc, Some(folder), Some(ProgramFault::PlateFault(1)));
 }

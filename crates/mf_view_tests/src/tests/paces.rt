@@ -3,7 +3,7 @@
 use super::assertions::assert_same;
 use mf_desk::Settings;
 use mf_gf::FontWords;
-use mf_view::{Pace, Plates, ProgramFault, Showing, perform};
+use mf_view::{Pace, PlateFolder, ProgramFault, Showing, perform};
 use mf_view_frame::{Canvas, Style};
 use std::alloc::Global;
 use std::process::Abort;
@@ -86,14 +86,14 @@ fn fault_of<S: Abort + Wait + Threads + Files + Sync>(
     rt: &S,
     alloc: Global,
     pace: &Held,
-    plates: Option<Plates>,
+    folder: Option<PlateFolder>,
 ) -> Option<ProgramFault> {
     let (mut script, mut screen, mut transcript) = (SCRIPT, Vec::new(alloc), Vec::new(alloc));
     let canvas = Canvas::new(50, 24).expect(rt, "the terminal is large enough");
     let showing = Showing {
         canvas,
         style: Style::Plain,
-        plates,
+        folder,
     };
     perform(
         rt,
@@ -123,9 +123,9 @@ fn publishes_and_frames_are_noted(rt: HostRuntime) {
 #[test]
 fn a_publish_without_its_plate_is_not_noted(rt: HostRuntime) {
     let (alloc, pace) = (rt.alloc(), Held::new());
-    let folder = String::from_str(alloc, "no/folder").expect(&rt, "there is room for a name");
-    let plates = Plates { folder, pgm: false };
-    let fault = fault_of(&rt, alloc, &pace, Some(plates));
+    let path = String::from_str(alloc, "no/folder").expect(&rt, "there is room for a name");
+    let folder = PlateFolder { path, pgm: false };
+    let fault = fault_of(&rt, alloc, &pace, Some(folder));
     assert_same(&rt, fault, Some(ProgramFault::PlateFault(1)), "fault");
     let noted = pace.publishes.load(Ordering::SeqCst);
     assert_same(&rt, noted, 1, "publishes");

@@ -32,7 +32,7 @@ fn fault_of<S: Abort + Wait + Threads + Files + Sync, R: Read + Drop, W: Write +
     let showing = Showing {
         canvas,
         style: Style::Plain,
-        plates: None,
+        folder: None,
     };
     perform(
         rt,
