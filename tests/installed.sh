@@ -26,7 +26,7 @@ prints "usage: tools/install.sh [--remove] PREFIX" 2 bash -c "'$root/tools/insta
 prints "install.sh: nothing is installed in $work/none" 1 "$root/tools/install.sh" --remove none
 prints "installed in $work/a b: put $work/a b/bin on your path" 0 "$root/tools/install.sh" "a b"
 PATH="$work/a b/bin:$PATH"
-mkdir plates sheet
+mkdir plates
 prints "" 0 bash -c 'mfpic --gf letters.gf < font.mfp > /dev/null && cmp letters.gf font.gf'
 prints $'revision 3  totalweight 24\ncolumns 0..7  rows 0..5  scale 1' 0 bash -c 'mfview --frames --transcript told --plates plates < tee.mfp | tail -n 2'
 prints $'0000001.svg\n0000002.svg\n0000003.svg\nindex.html' 0 ls plates
@@ -35,7 +35,6 @@ prints $'<stdin>:1: refused Syntax 8\n    show a b\n           ^' 1 bash -c 'ech
 prints "" 0 bash -c 'gf2mfp letters.gf > again.mfp && mfpic --gf again.gf < again.mfp > /dev/null && gfdiff letters.gf again.gf > /dev/null'
 prints "" 0 gfwords letters.gf --design-size 10 --resolution 300
 prints "(FAMILY letters)" 0 bash -c 'gf2pl letters.gf | head -n 1'
-prints "" 0 mfpage sheet --font letters.gf
 prints "mf2mfp.py: none.log: No such file or directory" 1 mf2mfp none.log letters.gf
 if command -v man > /dev/null; then
     # These are not counted, so that the count is the same everywhere.

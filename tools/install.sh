@@ -61,10 +61,10 @@ done
 for name in mfpic mfview; do
     put 755 "$root/crates/$name/out/$name" "lib/wonchhip/$name"
 done
-for name in gf.py printing.py gf2mfp.py gf2pl.py gfdiff.py gfwords.py mf2mfp.py mf2mfp.mf mfcheck.py mfpage.py mfpage.html mfview.sh; do
+for name in gf.py printing.py gf2mfp.py gf2pl.py gfdiff.py gfwords.py mf2mfp.py mf2mfp.mf mfcheck.py mfview.sh; do
     put "$([ -x "$root/tools/$name" ] && echo 755 || echo 644)" "$root/tools/$name" "lib/wonchhip/tools/$name"
 done
-for name in gf2mfp gf2pl gfdiff gfwords mf2mfp mfcheck mfpage; do
+for name in gf2mfp gf2pl gfdiff gfwords mf2mfp mfcheck; do
     printf '#!/bin/bash\nexec "$(dirname "$(readlink -f "$0")")/../lib/wonchhip/tools/%s.py" "$@"\n' "$name" | put_command "$name"
 done
 printf '#!/bin/bash\nexec "$(dirname "$(readlink -f "$0")")/../lib/wonchhip/mfpic" "$@"\n' | put_command mfpic

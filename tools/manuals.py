@@ -14,7 +14,7 @@ import sys
 from collections.abc import Iterator
 
 ROOT = pathlib.Path(__file__).resolve().parent.parent
-TOOLS = ("gf2mfp", "gf2pl", "gfdiff", "gfwords", "mf2mfp", "mfcheck", "mfpage")
+TOOLS = ("gf2mfp", "gf2pl", "gfdiff", "gfwords", "mf2mfp", "mfcheck")
 # The page of each program, what it does, and how it is called.
 PROGRAMS = {
     "mfpic": ("PROGRAM", "performs a script that fills, culls and ships pictures", "mfpic [--viewers 0..16] [--gf FILE] < SCRIPT"),

@@ -1,6 +1,6 @@
 # What is done round the program that draws. The script `mfview` reads this file, here and where it is installed: `root` is the folder
 # that has `tools`, and `find_mfview` sets `program` to the path of the program. With --check as the first word nothing is drawn:
-# mfcheck.py says which lines of a script are refused. After a run with --plates, mfpage.py makes a page of them.
+# mfcheck.py says which lines of a script are refused.
 if [ "${1-}" = --check ]; then
     exec "$root/tools/mfcheck.py" "${@:2}"
 fi
@@ -42,24 +42,3 @@ if [ -n "$told" ]; then
 else
     "$program" "${size[@]}" "$@"
 fi
-
-# Makes the page of the plates, where the words ask for plates, and of the font, where they ask for one. The program has accepted the words.
-make_page() {
-    local folder= font=
-    while [ $# -gt 0 ]; do
-        case $1 in
-            --plates | --gf | --transcript | --columns | --rows | --pause | --design-size | --resolution)
-                [ "$1" = --plates ] && folder=$2
-                [ "$1" = --gf ] && font=$2
-                shift
-                ;;
-            # These write a text, and do nothing else.
-            --help | --version) return ;;
-            --plates=*) folder=${1#*=} ;;
-            --gf=*) font=${1#*=} ;;
-        esac
-        shift
-    done
-    [ -z "$folder" ] || "$root/tools/mfpage.py" ${font:+"--font=$font"} -- "$folder"
-}
-make_page "$@"
