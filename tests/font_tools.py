@@ -42,7 +42,7 @@ RIGHT = frozenset((x + 1, y) for x, y in SQUARE)
 SEED, CHANGED = 20, 300
 # Kilobytes that a tool may have where an allocation fails, and the bytes of the file that it then reads, which has a hole. Seconds that
 # it may take.
-LITTLE, HOLE, MOST_SECONDS = 100_000, 300_000_000, 20
+LITTLE, HOLE, MOST_SECONDS = 100_000, 300_000_000, 60
 # A log that draws the font FINE.
 LOG = """mf2mfp addto currentpicture_
 {addto}
