@@ -3,8 +3,8 @@
 
     results/record.py TABLE COMMAND [WORD..]
 
-The command runs as it would alone. If it succeeds, TABLE.tsv gets a row: its name with its options, and the last lines of its output that
-begin with a number, such as `27 passed, 0 failed`. `./check --record` runs each part of the gate in this way, for gate.tsv; runs.tsv has
+The command runs as it would alone. If it succeeds, TABLE.tsv gets a row: its name with its options, and the last line of its output, if
+that begins with a number, such as `27 passed, 0 failed`. `./check --record` runs each part of the gate in this way, for gate.tsv; runs.tsv has
 runs by hand. Scripts that measure more have an option --record of their own, and call `write`. What `rt plant` counts is written into
 planted.tsv by hand. A `-` is what was not kept. tests/documents.py compares the tables in documents with these.
 """
@@ -63,18 +63,15 @@ def main() -> int:
     if len(sys.argv) < 3:
         sys.exit(__doc__)
     table, *words = sys.argv[1:]
-    output: list[str] = []
+    last = ""
     with subprocess.Popen(words, stdout=subprocess.PIPE, stderr=subprocess.STDOUT, encoding="utf-8", errors="replace") as ran:
         for line in ran.stdout or ():
             sys.stdout.write(line)
             sys.stdout.flush()
-            output.append(line.strip())
-    counts: list[str] = []
-    while output and COUNT.match(output[-1]):
-        counts.insert(0, output.pop())
-    if ran.returncode == 0 and counts:
+            last = line.strip()
+    if ran.returncode == 0 and COUNT.match(last):
         name = " ".join([words[0], *(word for word in words[1:] if word.startswith("--") or words[0] == "rt")])
-        write(table, [{"run": name, "counts": "; ".join(counts), **circumstances()}])
+        write(table, [{"run": name, "counts": last, **circumstances()}])
     return ran.returncode
 
 
