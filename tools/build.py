@@ -3,7 +3,7 @@
 
     tools/build.py [PROGRAM]
 
-PROGRAM is mfpic, which it is by default, or mfview. bench/times.tsv says how long that takes from nothing. Each library of the program
+PROGRAM is mfpic, which it is by default, or mfview. results/times.tsv says how long that takes from nothing. Each library of the program
 is proved as soon as the libraries that it uses are. Several are proved at a time where processors are free, because part of each proof
 keeps only one processor busy. A line is printed for each crate when it is proved.
 """

@@ -54,8 +54,8 @@ find_unproved() {
     echo "$1: not proved, only checked while it runs; tools/build.py $1 proves and builds it$(first_time "$1")" >&2
 }
 
-# Prints how long that took from nothing, where bench/times.tsv says it.
+# Prints how long that took from nothing, where results/times.tsv says it.
 first_time() {
     awk -F '\t' -v run="tools/build.py $1" '
-        $1 == run && $2 == "whole" { printf " (%.0f minutes on %d processors)", $3, $4 }' "$root/bench/times.tsv"
+        $1 == run && $2 == "whole" { printf " (%.0f minutes on %d processors)", $3, $4 }' "$root/results/times.tsv"
 }
