@@ -29,7 +29,8 @@ pub fn sum_of_parts(alloc: Global, left: &Part, right: &Part) -> Result<Part, Ad
 {
     let most = left.reach() + right.reach();
     let heads = left.heads.len().saturating_add(right.heads.len());
-    let mut sum = PartWriter::with_room(alloc, heads, most_edges(left, right, heads))?;
+    let edges = left.edges.len().saturating_add(right.edges.len());
+    let mut sum = PartWriter::with_room(alloc, heads, edges)?;
     let (mut left, mut right) = (Side::of(left.strips()), Side::of(right.strips()));
     let mut reach = 0;
     while let Some(top) = pass_height(&mut left, &mut right) {
@@ -40,20 +41,6 @@ pub fn sum_of_parts(alloc: Global, left: &Part, right: &Part) -> Result<Part, Ad
         reach = next;
     }
     Ok(sum.finish(reach))
-}
-
-/// How many edges the sum of two parts has at most, which have so many strips together: each of its strips has at most those of both.
-fn most_edges(left: &Part, right: &Part, strips: usize) -> usize {
-    let (mut left, mut right) = (Side::of(left.strips()), Side::of(right.strips()));
-    let mut most = 0usize;
-    for _ in 0..strips {
-        if pass_height(&mut left, &mut right).is_none() {
-            break;
-        }
-        most = most.saturating_add(left.row.len());
-        most = most.saturating_add(right.row.len());
-    }
-    most
 }
 
 /// A reach of strips that stay in `reach`, and of a row none of whose weights exceeds `most` in absolute value: the greater one of `reach`
