@@ -4,6 +4,7 @@ pub mod BoundsInField
 pub mod BoxesJoined
 pub mod BoxesOfDots
 pub mod DotsLemmas
+pub mod EdgeTotals
 pub mod EqualRuns
 pub mod FieldTotals
 pub mod LeastBoxes

@@ -25,7 +25,7 @@ sum_below-equal m (suc k) w f equal =
     let next : pos (suc k) ≡ pos k +ℤ pos 1 = omega (arith, ints) in
     rw (add-suc, next) (omega (arith, ints, sum_below-equal m k w f (λ i lt. equal i (omega arith)), equal k (omega arith), mul-add w (pos k) (pos 1)))
 
-sum_from-equal : (low x e w : ℤ) (f : ℤ → ℤ) → low ≤ℤ x → x ≤ℤ e → ((z : ℤ) → x ≤ℤ z → z <ℤ e → f z ≡ w) → sum_from low e f ≡ sum_from low x f +ℤ w *ℤ (e -ℤ x)
+pub sum_from-equal : (low x e w : ℤ) (f : ℤ → ℤ) → low ≤ℤ x → x ≤ℤ e → ((z : ℤ) → x ≤ℤ z → z <ℤ e → f z ≡ w) → sum_from low e f ≡ sum_from low x f +ℤ w *ℤ (e -ℤ x)
 unfolding sum_from
 sum_from-equal low x e w f from order equal =
     let m = unsigned_abs (x -ℤ low) in
@@ -40,7 +40,7 @@ unfolding sum_below
 sum_below-bound m zero f terms = omega arith
 sum_below-bound m (suc n) f terms = omega (arith, ints, sum_below-bound m n f terms, terms n)
 
-sum_from-bound : (m : ℕ) (low high : ℤ) (f : ℤ → ℤ) → ((z : ℤ) → unsigned_abs (f z) ≤ m) → unsigned_abs (sum_from low high f) ≤ m * unsigned_abs (high -ℤ low)
+pub sum_from-bound : (m : ℕ) (low high : ℤ) (f : ℤ → ℤ) → ((z : ℤ) → unsigned_abs (f z) ≤ m) → unsigned_abs (sum_from low high f) ≤ m * unsigned_abs (high -ℤ low)
 unfolding sum_from
 sum_from-bound m low high f terms = sum_below-bound m (unsigned_abs (high -ℤ low)) (λ i. f (low +ℤ pos i)) (λ i. terms (low +ℤ pos i))
 
@@ -88,7 +88,7 @@ module _ (f : ℤ → ℤ → ℤ) where
 -- ---- bounds
 
 -- the greatest total of a row
-abbrev greatest_row : ℕ
+abbrev pub greatest_row : ℕ
 greatest_row = unsigned_abs greatest_weight * (field_size + 1)
 
 module _ (f : ℤ → ℤ → ℤ) (lawful : (x y : ℤ) → IsLawfulWeight (f x y)) where
@@ -105,7 +105,7 @@ module _ (f : ℤ → ℤ → ℤ) (lawful : (x y : ℤ) → IsLawfulWeight (f x
 -- ---- the steps of the code
 
 -- steps between bounded totals fit
-row_fits : (old new change : ℤ) → new ≡ old +ℤ change → unsigned_abs old ≤ greatest_row → unsigned_abs new ≤ greatest_row
+pub row_fits : (old new change : ℤ) → new ≡ old +ℤ change → unsigned_abs old ≤ greatest_row → unsigned_abs new ≤ greatest_row
     → FitsSigned w32 change × FitsSigned w32 (old +ℤ change)
 row_fits old new change more from to = (omega (arith, ints), omega (arith, ints))
 

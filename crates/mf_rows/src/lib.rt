@@ -6,6 +6,7 @@ mod bounds;
 mod builder;
 pub mod laws;
 mod picture;
+mod row_sum;
 mod run;
 mod runs;
 mod sign;

@@ -6,6 +6,7 @@ ghost use Rattle.mf_rows.specs.Reading.{AreBlankBelow, IsReading, IsReading-prop
 ghost use Rattle.mf_rows_strips.specs.RowEdges.{AreSameRows, weight_left, weights_of};
 
 use crate::bounds::{Box4, Pixels};
+use crate::row_sum::sum_of_row;
 use crate::run::Run;
 use mf_rows_edges::{FIELD_END, FIELD_START};
 use mf_rows_strips::{Pile, RowEdges};
@@ -153,6 +154,9 @@ impl<'a> Walk<'a> {
             ≡ row_total (weights_of self.old.edges) self.old.y greatest_coordinate }
         ensures passed { HasPassedRow self.old self.new }
     {
+        if let Some(edges) = self.edges.of_one_part() {
+            return sum_of_row(edges);
+        }
         let mut total = 0;
         while self.x < FIELD_END {
             let (x, weight) = (self.x, self.weight);

@@ -16,6 +16,14 @@ impl<'a> PartEdges<'a> {
         PartEdges { edges }
     }
 
+    /// The edges that are left.
+    pub(crate) fn left(&self) -> &'a [Edge]
+        ensures edges { result.now ≡ self.now.edges.now }
+        ensures sorted { AreEdgesFrom least_coordinate result.now }
+    {
+        self.edges
+    }
+
     /// Passes the first edge. Returns one of weight 0 at the end of the field where there is none.
     #[inline(always)]
     pub(crate) fn pass(&mut self) -> Edge

@@ -1,7 +1,8 @@
 //! Entering rows, and passing their edges.
 ghost use Rattle.std.specs.Prelude.{◌≡◌, ℤ, pos, ◌≤ℤ◌, ◌<ℤ◌, IfSome, length};
-ghost use Rattle.mf_geom.specs.Coordinates.{greatest_coordinate};
+ghost use Rattle.mf_geom.specs.Coordinates.{greatest_coordinate, least_coordinate};
 ghost use Rattle.mf_geom.specs.Field.{IsColumnOrRow};
+ghost use Rattle.mf_rows_edges.specs.Edges.{AreEdgesFrom, weight_in};
 ghost use Rattle.mf_rows_edges.specs.Merging.{IsDifference};
 ghost use Rattle.mf_rows_strips.specs.PileWeights.{weight_in_pile};
 ghost use Rattle.mf_rows_strips.specs.PartEdges.{AreEnds, IsNextEdge, IsPassedTo, first_column_of, weight_in_all};
@@ -52,17 +53,34 @@ impl<'a> RowEdges<'a> {
         pass_edge(&mut self.edges[..self.pile.parts.len()])
     }
 
+    /// The edges that are left, where there is one part; else `None`.
+    pub fn of_one_part(&self) -> Option<&'a [Edge]>
+        ensures weights { IfSome result (λ edges.
+            (x : ℤ) → weight_left self.now x ≡ weight_in edges.now x) }
+        ensures sorted { IfSome result (λ edges. AreEdgesFrom least_coordinate edges.now) }
+    {
+        Some(self.only()?.left())
+    }
+
     /// The first and the last edge that are left, where there is one part and edges are left; else `None`. Requires that they have a sum
     /// of 0.
     pub fn ends(&self) -> Option<(Edge, Edge)>
         requires { weight_left self.now greatest_coordinate ≡ pos 0 }
         ensures { IfSome result (λ ends. AreEnds (weight_left self.now) ends.0 ends.1) }
     {
+        self.only()?.ends()
+    }
+
+    /// The edges of the only part, `None` where there is not exactly one.
+    fn only(&self) -> Option<&PartEdges<'a>>
+        ensures { IfSome result (λ part.
+            (x : ℤ) → weight_left self.now x ≡ weight_in part.now.edges.now x) }
+    {
         if self.pile.parts.len() != 1 {
             return None;
         }
         let edges = &self.edges[..];
-        edges[0].ends()
+        Some(&edges[0])
     }
 }
 
