@@ -1,30 +1,22 @@
-//! Tests with values worked out by hand, and tests that compare pictures with a slow form of them.
+//! Tests with values worked out by hand, and tests that compare the pictures of pushed runs with a slow form of them.
 
 mod assertions;
 mod black;
 mod black_rows;
 mod chance;
-mod corners;
 mod derived;
 mod equal;
-mod field;
 mod generated;
 mod growths;
-mod heights;
-mod long_rows;
 mod moves;
-mod piles;
-mod places;
-mod rectangle_sums;
+mod parts;
 mod rectangles;
 mod runs;
 mod slow;
-mod sums;
 
 use assertions::{assert_holds, assert_same};
 use mf_base::OutOfMemory;
-use mf_rows::{AddFault, Box4, Picture, RowBuilder, Run};
-use std::alloc::Global;
+use mf_rows::{Box4, Picture, RowBuilder, Run};
 use std::fmt::Debug;
 use std::process::Abort;
 
@@ -56,26 +48,9 @@ fn expect_picture(rt: &impl Abort, picture: Result<Picture, OutOfMemory>) -> Pic
     picture.expect(rt, "there is room for the picture")
 }
 
-/// The sum of two pictures: the second one is added to a copy of the first.
-fn sum_of(alloc: Global, left: &Picture, right: &Picture) -> Result<Picture, AddFault> {
-    let mut sum = left.copy(alloc)?;
-    sum.add(alloc, right)?;
-    Ok(sum)
-}
-
 /// The picture of these runs, each of which must fit.
 fn picture_of<R: Abort + AllocGlobal>(rt: &R, runs: &[Run]) -> Picture {
     expect_picture(rt, builder_of(rt, runs).finish())
-}
-
-/// The picture with the opposite weights, made run by run.
-fn negative_of<R: Abort + AllocGlobal>(rt: &R, picture: &Picture) -> Picture {
-    let mut builder = RowBuilder::new(rt.alloc());
-    for run in picture.runs() {
-        let weight = run.weight.wrapping_neg();
-        push_all(rt, &mut builder, &[Run { weight, ..run }]);
-    }
-    expect_picture(rt, builder.finish())
 }
 
 /// A copy of a picture.

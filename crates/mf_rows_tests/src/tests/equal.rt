@@ -1,17 +1,8 @@
 //! Which pictures are equal.
 
-use super::chance::Chance;
-use super::generated::push_runs;
-use super::slow::{SlowPicture, both_forms};
 use super::{assert_equality, block, copy_of, make_run, picture_of};
-use crate::tests::assertions::{assert_holds, assert_same};
-use mf_base::OutOfMemory;
 use mf_rows::{Picture, Run};
-use std::alloc::Global;
 use std::process::Abort;
-
-/// The number of random pictures, each of which is compared with each.
-const PICTURES: u32 = 40;
 
 /// Asserts that the pictures of these runs are equal, or that they are not, whichever of them is asked.
 fn assert_runs_equal<R: Abort + AllocGlobal>(
@@ -146,64 +137,4 @@ fn blank_pictures_equal_only_each_other(rt: HostRuntime) {
     // a total of 0
     let opposite = [make_run(0, 0, 1, 1), make_run(0, 1, 1, -1)];
     assert_runs_equal(&rt, 3, &[], &opposite, false);
-}
-
-/// Up to two short runs in each of two rows: so few that their pictures are often equal, even where the runs differ.
-fn few_random_runs(alloc: Global, seed: u32) -> Result<Vec<Run>, OutOfMemory> {
-    let mut chance = Chance::new(seed);
-    let mut runs = Vec::new(alloc);
-    for y in [1, 0] {
-        push_runs(&mut chance, &mut runs, (0, y), (3, 2, 2), &[1, -1])?;
-    }
-    Ok(runs)
-}
-
-/// Random pictures, with their slow forms.
-fn random_pictures<R: Abort + AllocGlobal>(rt: &R) -> Vec<(Picture, SlowPicture)> {
-    let mut pictures = Vec::new(rt.alloc());
-    for seed in 0..PICTURES {
-        let runs = few_random_runs(rt.alloc(), seed).expect(rt, "there is room for runs");
-        pictures
-            .push(both_forms(rt, &runs))
-            .expect(rt, "there is room for the picture");
-    }
-    pictures
-}
-
-/// Asserts that a picture is equal to exactly those of the others whose slow forms have its pixels. Answers how many
-/// these are.
-fn count_equal(
-    rt: &impl Abort,
-    case: usize,
-    one: &(Picture, SlowPicture),
-    others: &[(Picture, SlowPicture)],
-) -> u32 {
-    let mut count = 0u32;
-    for (other_case, other) in others.iter().enumerate() {
-        let equal = one.1.has_pixels_of(&other.1);
-        assert_same(
-            rt,
-            one.0.equal(&other.0),
-            equal,
-            ("cases", case, other_case),
-        );
-        count = count.wrapping_add(u32::from(equal));
-    }
-    count
-}
-
-/// Asserts that each picture is equal to exactly those whose slow forms have its pixels. Answers how many pairs are
-/// equal.
-fn count_equal_pairs(rt: &impl Abort, pictures: &[(Picture, SlowPicture)]) -> u32 {
-    let mut equal_pairs = 0u32;
-    for (case, one) in pictures.iter().enumerate() {
-        equal_pairs = equal_pairs.wrapping_add(count_equal(rt, case, one, pictures));
-    }
-    equal_pairs
-}
-
-#[test]
-fn random_pictures_are_equal_where_their_pixels_are(rt: HostRuntime) {
-    let equal_pairs = count_equal_pairs(&rt, &random_pictures(&rt));
-    assert_holds(&rt, equal_pairs > PICTURES, "equal pairs by chance");
 }

@@ -1,5 +1,4 @@
 //! Pictures of random runs, compared with their slow forms.
-ghost use Rattle.std.specs.Prelude.{◌<◌, ◌^◌, length};
 
 use super::chance::Chance;
 use super::slow::{SlowPicture, both_forms};
@@ -12,85 +11,49 @@ use std::alloc::Global;
 use std::process::Abort;
 
 /// Rows at the edges of the field, in its middle, and between these; some of them are next to each other.
-pub(crate) const ROWS: [i32; 13] = [
+const ROWS: [i32; 13] = [
     4094, 4093, 4031, 4030, 3967, 3966, 1, 0, -1, -4033, -4034, -4094, -4095,
 ];
 
 /// Columns at which rows begin: the first of the field, one in its middle, and one near the last.
-pub(crate) const STARTS: [i32; 3] = [-4095, -9, 4075];
+const STARTS: [i32; 3] = [-4095, -9, 4075];
 
 /// Weights of runs: only a few, so that touching runs often have equal or opposite weights.
-pub(crate) const WEIGHTS: [i32; 5] = [1, -1, 2, 32767, -32767];
-
-/// Weights of which no two add up to one that is too large.
-pub(crate) const SMALL_WEIGHTS: [i32; 5] = [1, -1, 2, -2, 3];
+const WEIGHTS: [i32; 5] = [1, -1, 2, 32767, -32767];
 
 /// The number of pictures for each of the starts.
 const PICTURES: u32 = 12;
 
 /// The picture of random runs, and its slow form.
-pub(crate) fn random_forms<R: Abort + AllocGlobal>(
-    rt: &R,
-    seed: u32,
-    start: i32,
-) -> (Picture, SlowPicture) {
-    forms_of_weights(rt, seed, start, &WEIGHTS)
-}
-
-/// The picture of random runs.
-pub(crate) fn random_picture<R: Abort + AllocGlobal>(rt: &R, seed: u32, start: i32) -> Picture {
-    let (picture, _) = random_forms(rt, seed, start);
-    picture
-}
-
-/// The picture of random runs with these weights, and its slow form.
-pub(crate) fn forms_of_weights<R: Abort + AllocGlobal>(
-    rt: &R,
-    seed: u32,
-    start: i32,
-    weights: &[i32; 5],
-) -> (Picture, SlowPicture) {
-    let runs = random_runs(rt.alloc(), seed, start, weights);
+fn random_forms<R: Abort + AllocGlobal>(rt: &R, seed: u32, start: i32) -> (Picture, SlowPicture) {
+    let runs = random_runs(rt.alloc(), seed, start);
     both_forms(rt, &runs.expect(rt, "there is room for the runs"))
 }
 
-/// Adds random runs with these weights in a row, from the pixel `start` on. There are fewer than `bounds.0`, each after a gap of
-/// fewer than `bounds.1` columns, and each has up to `bounds.2` pixels.
-pub(crate) fn push_runs(
+/// Adds up to six random runs in a row, from the pixel (start, y) on. Each comes after a gap of at most two columns, and has at most four
+/// pixels.
+fn push_runs(
     chance: &mut Chance,
     runs: &mut Vec<Run>,
-    start: (i32, i32),
-    bounds: (u32, u32, u32),
-    weights: &[i32],
-) -> Result<(), OutOfMemory>
-    requires least { (0 < bounds.0) × (0 < bounds.1) × (0 < bounds.2) }
-    requires most { (bounds.1 < 10) × (bounds.2 < 10) }
-    requires some { 0 < length weights.now }
-    requires few { length weights.now < 2 ^ 32 }
-{
-    let (mut x, y) = start;
-    let (count, gap, most) = bounds;
-    for _ in 0..chance.below(count) {
-        x = x.wrapping_add(chance.below(gap) as i32);
-        let len = 1 + chance.below(most);
-        runs.push(make_run(y, x, len, chance.one_of(weights)))?;
+    start: i32,
+    y: i32,
+) -> Result<(), OutOfMemory> {
+    let mut x = start;
+    for _ in 0..chance.below(7) {
+        x = x.wrapping_add(chance.below(3) as i32);
+        let len = 1 + chance.below(4);
+        runs.push(make_run(y, x, len, chance.one_of(&WEIGHTS)))?;
         x = x.wrapping_add(len as i32);
     }
     Ok(())
 }
 
-/// Random runs with these weights in each of the rows. Some go beyond the right edge of the field. Other starts give
-/// other runs.
-fn random_runs(
-    alloc: Global,
-    seed: u32,
-    start: i32,
-    weights: &[i32; 5],
-) -> Result<Vec<Run>, OutOfMemory> {
+/// Random runs in each of the rows. Some go beyond the right edge of the field. Other starts give other runs.
+fn random_runs(alloc: Global, seed: u32, start: i32) -> Result<Vec<Run>, OutOfMemory> {
     let mut chance = Chance::new(seed.wrapping_add(start.abs_diff(FIELD_START)));
     let mut runs = Vec::new(alloc);
     for y in ROWS {
-        push_runs(&mut chance, &mut runs, (start, y), (7, 3, 4), weights)?;
+        push_runs(&mut chance, &mut runs, start, y)?;
     }
     Ok(runs)
 }

@@ -16,7 +16,6 @@ macro_rules! run_of {
 mod builders;
 mod changes;
 mod many;
-mod piles;
 mod sums;
 
 use mf_rows::Run;

@@ -4,7 +4,7 @@ ghost use Rattle.mf_geom.specs.Coordinates.{IsCoordinate};
 ghost use Rattle.mf_rows.specs.Corners.{AreCorners};
 
 use mf_base::OutOfMemory;
-use mf_rows::{AddFault, Corner, Picture};
+use mf_rows::{Corner, Picture};
 use std::alloc::Global;
 use std::process::Abort;
 
@@ -35,27 +35,9 @@ pub(crate) fn make_rectangle(
     }
 }
 
-pub(super) fn negate(rectangle: Rectangle) -> Rectangle {
-    Rectangle {
-        weight: rectangle.weight.wrapping_neg(),
-        ..rectangle
-    }
-}
-
 /// All pixels of the field.
 pub(super) fn field(weight: i32) -> Rectangle {
     make_rectangle(-4095, -4095, 4095, 4095, weight)
-}
-
-impl Rectangle {
-    /// What it adds to the pixel (x, y).
-    pub(super) fn weight_at(&self, x: i32, y: i32) -> i32 {
-        if self.left <= x && x < self.right && self.bottom <= y && y < self.top {
-            self.weight
-        } else {
-            0
-        }
-    }
 }
 
 /// The corners of rectangles.
@@ -105,7 +87,7 @@ fn push_corners(
     Ok(())
 }
 
-pub(super) fn make_corner(x: i32, y: i32, weight: i32) -> Corner
+fn make_corner(x: i32, y: i32, weight: i32) -> Corner
     ensures { result ≡ record { x = x; y = y; weight = weight } }
 {
     Corner { x, y, weight }
@@ -119,46 +101,20 @@ fn assert_in_reach(rt: &impl Abort, coordinate: i32)
     assert!(rt; coordinate <= 4095);
 }
 
-/// What rectangles add to the pixel (x, y).
-pub(super) fn weight_of_all(rectangles: &[Rectangle], x: i32, y: i32) -> i32 {
-    let mut sum = 0i32;
-    for rectangle in rectangles {
-        sum = sum.wrapping_add(rectangle.weight_at(x, y));
-    }
-    sum
-}
-
-/// A picture with rectangles added to it all at once, which may be refused.
-pub(super) fn try_all<R: Abort + AllocGlobal>(
+/// Adds rectangles to a picture, all at once.
+pub(super) fn add_all<R: Abort + AllocGlobal>(
     rt: &R,
-    picture: &Picture,
+    picture: &mut Picture,
     rectangles: &[Rectangle],
-) -> Result<Picture, AddFault> {
-    let corners = corners_of(rt, rt.alloc(), rectangles)?;
-    let mut new = picture.copy(rt.alloc())?;
-    new.add_corners(rt.alloc(), corners)?;
-    Ok(new)
-}
-
-/// A picture with rectangles added to it all at once; this must not be refused.
-pub(super) fn with_all<R: Abort + AllocGlobal>(
-    rt: &R,
-    picture: &Picture,
-    rectangles: &[Rectangle],
-) -> Picture {
-    try_all(rt, picture, rectangles).expect(rt, "the rectangles are added")
+) {
+    let corners = corners_of(rt, rt.alloc(), rectangles).expect(rt, "there is room for corners");
+    let added = picture.add_corners(rt.alloc(), corners);
+    added.expect(rt, "the rectangles are added")
 }
 
 /// The picture of rectangles that are added all at once.
 pub(super) fn at_once<R: Abort + AllocGlobal>(rt: &R, rectangles: &[Rectangle]) -> Picture {
-    with_all(rt, &Picture::blank(rt.alloc()), rectangles)
-}
-
-/// The picture of rectangles that are added one by one.
-pub(super) fn one_by_one<R: Abort + AllocGlobal>(rt: &R, rectangles: &[Rectangle]) -> Picture {
     let mut picture = Picture::blank(rt.alloc());
-    for rectangle in rectangles {
-        picture = with_all(rt, &picture, &[*rectangle]);
-    }
+    add_all(rt, &mut picture, rectangles);
     picture
 }

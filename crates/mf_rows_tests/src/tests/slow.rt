@@ -69,11 +69,6 @@ impl SlowPicture {
         }
     }
 
-    /// Its pixels.
-    pub(crate) fn pixels(&self) -> &[Pixel] {
-        &self.pixels
-    }
-
     /// Adds the pixel (x, y), which comes after the others, unless its weight is 0.
     pub(crate) fn push_pixel(&mut self, x: i32, y: i32, weight: i32) -> Result<(), OutOfMemory> {
         if weight != 0 {
@@ -88,11 +83,6 @@ impl SlowPicture {
             self.push_pixel(run.x.wrapping_add(column as i32), run.y, run.weight)?;
         }
         Ok(())
-    }
-
-    /// Whether both have the same pixels.
-    pub(crate) fn has_pixels_of(&self, other: &SlowPicture) -> bool {
-        self.pixels.as_slice() == other.pixels.as_slice()
     }
 
     /// The weight of the pixel (x, y).

@@ -1,12 +1,14 @@
 //! Copies of pictures, and pictures that are made from one, in which allocations fail.
+ghost use Rattle.std.specs.Prelude.{pos, negsuc, ◌≤ℤ◌};
+ghost use Rattle.mf_rows_edges.specs.Axes.{IsStretch};
+ghost use Rattle.mf_rows.specs.Moves.{PixelsStayInside};
 
 use super::APART;
 use crate::tests::assertions::assert_same;
 use crate::tests::derived::Derived;
-use crate::tests::moves::assert_stays_inside;
 use crate::tests::{assert_runs, expect_picture, picture_of};
 use mf_base::OutOfMemory;
-use mf_rows::Run;
+use mf_rows::{Picture, Run};
 use mf_rows_edges::Stretch;
 use mf_testing::{grow_again, refuse_growths};
 use std::process::Abort;
@@ -89,6 +91,34 @@ fn a_picture_is_turned(rt: HostRuntime) {
         run_of!(-3, -91, 1, 5),
     ];
     assert_makes(&rt, Derived::Turned, TURNED);
+}
+
+/// Asserts that a stretch is small, so that it takes no place near 0 out of the field.
+fn assert_small(rt: &impl Abort, stretch: &Stretch)
+    ensures factor_least { pos 1 ≤ℤ stretch.now.factor }
+    ensures factor_greatest { stretch.now.factor ≤ℤ pos 3 }
+    ensures offset_least { negsuc 999 ≤ℤ stretch.now.offset }
+    ensures offset_greatest { stretch.now.offset ≤ℤ pos 1000 }
+{
+    assert!(rt; 1 <= stretch.factor);
+    assert!(rt; stretch.factor <= 3);
+    assert!(rt; -1000 <= stretch.offset);
+    assert!(rt; stretch.offset <= 1000);
+}
+
+/// Asserts that stretches take no pixel of a picture out of the field.
+fn assert_stays_inside(rt: &impl Abort, picture: &Picture, columns: &Stretch, rows: &Stretch)
+    ensures columns { IsStretch columns.now }
+    ensures rows { IsStretch rows.now }
+    ensures inside { PixelsStayInside columns.now rows.now picture.now }
+{
+    assert_small(rt, columns);
+    assert_small(rt, rows);
+    let bounds = picture.bounds().expect(rt, "some pixel has a weight");
+    assert!(rt; -1000 <= bounds.min_x);
+    assert!(rt; bounds.max_x < 1000);
+    assert!(rt; -1000 <= bounds.min_y);
+    assert!(rt; bounds.max_y < 1000);
 }
 
 /// Asserts that the rows, stretched while allocations fail, have these runs, and that they stay as they are.

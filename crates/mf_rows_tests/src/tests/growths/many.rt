@@ -1,93 +1,59 @@
-//! Pictures of 32 parts, the most that there may be. The parts are equally large, so they stay apart only because each one is added with
-//! no memory to join it with the one before. A test that runs by itself has ample memory, and its picture fewer parts.
+//! A picture of 32 parts, the most that there may be. The parts are equally large, so they stay apart only because each one is added with
+//! no memory to join it with the one before. A test that runs by itself has ample memory, and its picture one part.
 
-use super::piles::{assert_contour_added, assert_settled};
 use crate::tests::assertions::assert_same;
-use crate::tests::piles::combs::{LAST, OTHERS};
-use crate::tests::piles::parts::{assert_changes, assert_makes, assert_reads, assert_stretches};
-use crate::tests::piles::{Comb, Drawing, make_comb};
-use mf_base::OutOfMemory;
+use crate::tests::rectangles::{Rectangle, add_all, corners_of, make_rectangle};
+use crate::tests::{assert_total, assert_weights};
+use mf_rows::{AddFault, Picture};
 use mf_testing::{allow_growths, grow_again, refuse_growths};
 use std::process::Abort;
 
 /// The most parts that a picture has.
 const PARTS: i32 = 32;
 
-/// No part is made with more allocations.
+/// No pixel is added with more allocations.
 const GROWTHS: usize = 60;
 
-/// The comb of a part. It has four teeth, and shares columns with those before and after it.
-fn comb_of_part(number: i32) -> Comb {
-    let left = number.wrapping_mul(3).wrapping_sub(20);
-    let bottom = (number % 5).wrapping_neg();
-    let weight = if number % 4 == 0 { -1 } else { number % 4 };
-    make_comb((left, 2, 4), bottom, number % 3 + 1, weight)
+/// The pixel with this number, which is two columns to the right of the one before.
+fn pixel(number: i32) -> Rectangle {
+    let left = number.wrapping_mul(2);
+    make_rectangle(left, 0, left.wrapping_add(1), 1, 1)
 }
 
-/// Adds a comb as a part of its own: so many allocations are allowed that it is just added, and none for joining it.
-fn add_apart<R: Abort + AllocGlobal>(rt: &R, drawing: &mut Drawing, comb: &Comb) {
+/// Adds a pixel as a part of its own: so many allocations are allowed that it is just added, and none for joining it.
+fn add_apart<R: Abort + AllocGlobal>(rt: &R, picture: &mut Picture, number: i32) {
     for allowed in 0..GROWTHS {
-        let corners = comb.corners(rt).expect(rt, "there is room for corners");
+        let corners = corners_of(rt, rt.alloc(), &[pixel(number)]).expect(rt, "there is room");
         allow_growths(rt.alloc(), allowed);
-        let added = drawing.picture.add_corners(rt.alloc(), corners);
+        let added = picture.add_corners(rt.alloc(), corners);
         grow_again(rt.alloc());
         if added.is_ok() {
-            drawing.note(rt, comb);
             return;
         }
     }
-    panic!(rt; "{comb:?} is not added")
+    panic!(rt; "the pixel {number} is not added")
 }
 
-/// A picture of 32 parts.
-fn many<R: Abort + AllocGlobal>(rt: &R) -> Drawing {
-    let mut drawing = Drawing::of(rt, &[]);
-    for number in 0..PARTS {
-        add_apart(rt, &mut drawing, &comb_of_part(number));
-    }
-    drawing
-}
-
-/// The same, copied while allocations fail.
-fn copy_of_many<R: Abort + AllocGlobal>(rt: &R) -> Drawing {
-    let mut drawing = many(rt);
-    refuse_growths(rt.alloc());
-    let copy = drawing.picture.copy(rt.alloc());
-    grow_again(rt.alloc());
-    match copy {
-        Ok(copy) => drawing.picture = copy,
-        Err(fault) => assert_same(rt, fault, OutOfMemory, "the copy"),
-    }
-    drawing
-}
-
-/// Where an allocation fails, no parts are joined to make room for it.
+/// With ample memory, the last two of 32 parts are joined to make room for one more.
 #[test]
 fn a_part_is_added_to_32(rt: HostRuntime) {
-    assert_contour_added(&rt, many(&rt), &LAST);
-}
-
-#[test]
-fn many_parts_are_settled(rt: HostRuntime) {
-    assert_settled(&rt, many(&rt));
-}
-
-#[test]
-fn many_parts_answer_like_their_slow_form(rt: HostRuntime) {
-    assert_reads(&rt, &mut copy_of_many(&rt));
-}
-
-#[test]
-fn pictures_are_made_from_many_parts(rt: HostRuntime) {
-    let drawing = copy_of_many(&rt);
-    assert_makes(&rt, &drawing);
-    assert_stretches(&rt, &drawing);
-}
-
-#[test]
-fn many_parts_are_added_and_subtracted(rt: HostRuntime) {
-    let (drawing, other) = (copy_of_many(&rt), Drawing::of(&rt, &OTHERS));
-    assert_changes(&rt, &drawing, &other);
-    assert_changes(&rt, &other, &drawing);
-    assert_changes(&rt, &drawing, &drawing);
+    let mut picture = Picture::blank(rt.alloc());
+    for number in 0..PARTS {
+        add_apart(&rt, &mut picture, number);
+    }
+    let corners = corners_of(&rt, rt.alloc(), &[pixel(PARTS)]).expect(&rt, "there is room");
+    refuse_growths(rt.alloc());
+    let added = picture.add_corners(rt.alloc(), corners);
+    grow_again(rt.alloc());
+    if let Err(fault) = added {
+        assert_same(&rt, fault, AddFault::OutOfMemory, "the refusal");
+        assert_total(&rt, &picture, 32);
+        add_all(&rt, &mut picture, &[pixel(PARTS)]);
+    }
+    assert_total(&rt, &picture, 33);
+    assert_weights(
+        &rt,
+        &picture,
+        &[(0, 0, 1), (1, 0, 0), (62, 0, 1), (64, 0, 1)],
+    );
 }

@@ -10,7 +10,7 @@ use Rattle.mf_rows.specs.Dots.{Dot, IsPicture}
 use Rattle.mf_rows_edges.specs.Axes.{StaysInside, target_of}
 use Rattle.mf_rows.specs.Moves.{PixelsStayInside}
 use Rattle.mf_rows.proofs.BoundsInField.{bounds_in_field}
-use Rattle.mf_rows_tests.proofs.tests.moves.assert_stays_inside.Goals as goal
+use Rattle.mf_rows_tests.proofs.tests.growths.changes.assert_stays_inside.Goals as goal
 
 size-point : (p : ℤ) → negsuc 999 ≤ℤ p → p ≤ℤ pos 1000 → unsigned_abs p ≤ 1000
 size-point (pos n) least greatest = omega (arith, ints)
