@@ -1,4 +1,4 @@
-//! Tests of `mf_text`.
+//! Tests of `mf_text` and `mf_text_show`.
 #![tactic(auto)]
 
 #[cfg(test)]

@@ -1,9 +1,10 @@
-//! Tests of the command language.
+//! Tests of the command language, and of the texts of pictures.
 
 mod assertions;
 mod contours;
 mod growths;
 mod lines;
+mod pictures;
 mod refusals;
 mod syntax;
 mod values;

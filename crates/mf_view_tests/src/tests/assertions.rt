@@ -15,3 +15,8 @@ pub(crate) fn assert_same<T: PartialEq + Debug + Drop, C: Debug + Drop>(
         "{case:?}: {found:?} in place of {expected:?}"
     );
 }
+
+/// Asserts a condition in this case.
+pub(crate) fn assert_holds<C: Debug + Drop>(rt: &impl Abort, holds: bool, case: C) {
+    assert!(rt; holds, "{case:?}");
+}

@@ -1,5 +1,7 @@
 //! Run texts and grid texts.
 
+mod growths;
+
 use crate::tests::assertions::assert_same;
 use mf_geom::{Check, Cycle, Point};
 use mf_ops::{Op, Scale, Weight, after};

@@ -1,7 +1,7 @@
 //! Texts whose allocations are refused, one after another. Each test asserts that the picture stays as it was, and that with
 //! ample memory it then has its text.
 
-use super::texts::picture_of;
+use super::picture_of;
 use crate::tests::assertions::assert_same;
 use mf_base::OutOfMemory;
 use mf_rows::{Picture, Run};

@@ -1,5 +1,7 @@
 //! Tests of command lines: each option, its bounds, and what is refused.
 
+mod growths;
+
 use crate::tests::assertions::{assert_holds, assert_same};
 use mf_cli_options::WordsFault;
 use mf_testing::command_line;

@@ -1,50 +1,17 @@
 //! Frames, worked out by hand from the definition: a line of text shows rows 2k + 1 and 2k, and the axes are the left border of
 //! column 0 and the lower border of line 0.
 
+mod growths;
+
+use super::{LETTER, Runs, picture_of};
 use crate::tests::assertions::assert_same;
-use mf_rows::{Picture, RowBuilder, Run};
 use mf_view_frame::{Canvas, Style, draw};
 use std::alloc::Global;
 use std::process::Abort;
 
-/// Runs of a picture: row, first column, length and weight.
-pub(super) type Runs = &'static [(i32, i32, u32, i32)];
-
-/// The letter T: a bar of rows 4 and 5 and a stem of rows 0 to 5, with weight 2 where they overlap.
-pub(super) const TEE: Runs = &[
-    (5, 0, 3, 1),
-    (5, 3, 2, 2),
-    (5, 5, 3, 1),
-    (4, 0, 3, 1),
-    (4, 3, 2, 2),
-    (4, 5, 3, 1),
-    (3, 3, 2, 1),
-    (2, 3, 2, 1),
-    (1, 3, 2, 1),
-    (0, 3, 2, 1),
-];
-
-/// Its bar, and two lines with the stem. Column 0 has the axis of y, and line 0 that of x.
-pub(super) const PLAIN_TEE: &str =
+/// The letter: its bar, and two lines with the stem. Column 0 has the axis of y, and line 0 that of x.
+pub(super) const PLAIN_LETTER: &str =
     "████████\n▏  ██   \n▏▁▁██▁▁▁\nrevision 7  totalweight 28\ncolumns 0..7  rows 0..5  scale 1\n";
-
-/// The picture of these runs.
-pub(super) fn picture_of(rt: &impl Abort, alloc: Global, runs: &[(i32, i32, u32, i32)]) -> Picture {
-    let mut builder = RowBuilder::new(alloc);
-    for (y, x, len, weight) in runs {
-        let run = Run {
-            y: *y,
-            x: *x,
-            len: *len,
-            weight: *weight,
-        };
-        assert!(rt; builder.fits(&run), "{run:?}");
-        builder
-            .push_run(run)
-            .expect(rt, "there is room for the run");
-    }
-    builder.finish().expect(rt, "there is room for the picture")
-}
 
 /// The least canvas: 50 columns, and three lines of a picture.
 pub(super) fn least_canvas(rt: &impl Abort) -> Canvas {
@@ -69,7 +36,7 @@ fn assert_frame(
 
 #[test]
 fn a_letter_is_drawn_without_colors(rt: HostRuntime) {
-    assert_frame(&rt, rt.alloc(), TEE, Style::Plain, PLAIN_TEE);
+    assert_frame(&rt, rt.alloc(), LETTER, Style::Plain, PLAIN_LETTER);
 }
 
 /// The blank picture has no lines of tiles, and in colors three empty ones.

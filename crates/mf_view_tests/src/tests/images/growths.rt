@@ -1,8 +1,9 @@
 //! Images whose allocations are refused, one after another. Each test asserts that the picture stays as it was, and that with
 //! ample memory it then has its image.
 
-use super::images::{Runs, SPOTS, SPOTS_PGM, SPOTS_SVG, picture_of};
+use super::{SPOTS, SPOTS_PGM, SPOTS_SVG};
 use crate::tests::assertions::assert_same;
+use crate::tests::{Runs, picture_of};
 use mf_rows::{Picture, Run};
 use mf_testing::{grow_again, refuse_all_growths, refuse_growths};
 use mf_view_image::{ImageFault, pgm, svg};

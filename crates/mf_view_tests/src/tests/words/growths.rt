@@ -1,7 +1,7 @@
 //! Words that are read while allocations are refused.
 
+use super::{ALL, ALL_WORDS, Asked, assert_asks, assert_refused, assert_shows};
 use crate::tests::assertions::assert_same;
-use crate::tests::words::{ALL, ALL_WORDS, Asked, assert_asks, assert_refused, assert_shows};
 use mf_cli_options::WordsFault;
 use mf_testing::{command_line, grow_again, refuse_growths};
 use mf_view_words::{Request, read_words};

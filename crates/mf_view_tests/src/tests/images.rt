@@ -1,28 +1,13 @@
 //! SVG and PGM images.
 
+mod growths;
+
+use super::{LETTER, Runs, picture_of};
 use crate::tests::assertions::assert_same;
-use mf_rows::{Picture, RowBuilder, Run};
+use mf_rows::Picture;
 use mf_view_image::{ImageFault, pgm, svg};
 use std::alloc::Global;
 use std::process::Abort;
-
-/// Runs of a picture: row, first column, length and weight.
-pub(super) type Runs = &'static [(i32, i32, u32, i32)];
-
-/// A letter T of two strokes: a bar of columns 0..=7 and rows 4..=5, and a stem of columns 3..=4 and rows 0..=5. Where they cross the
-/// weight is 2.
-const LETTER: Runs = &[
-    (5, 0, 3, 1),
-    (5, 3, 2, 2),
-    (5, 5, 3, 1),
-    (4, 0, 3, 1),
-    (4, 3, 2, 2),
-    (4, 5, 3, 1),
-    (3, 3, 2, 1),
-    (2, 3, 2, 1),
-    (1, 3, 2, 1),
-    (0, 3, 2, 1),
-];
 
 /// Three weights, of which one is negative, around the origin.
 pub(super) const SPOTS: Runs = &[(0, -3, 2, -2), (0, 1, 1, 1), (-2, -1, 1, 7)];
@@ -100,24 +85,6 @@ pub(super) const SPOTS_PGM: &[u8] = b"P5\n# left -3 top 0\n5 3\n255\n\
 \xc9\xc9\xff\xffx\
 \xff\xff\xff\xff\xff\
 \xff\xff$\xff\xff";
-
-/// The picture of these runs.
-pub(super) fn picture_of(rt: &impl Abort, alloc: Global, runs: &[(i32, i32, u32, i32)]) -> Picture {
-    let mut builder = RowBuilder::new(alloc);
-    for (y, x, len, weight) in runs {
-        let run = Run {
-            y: *y,
-            x: *x,
-            len: *len,
-            weight: *weight,
-        };
-        assert!(rt; builder.fits(&run), "{run:?}");
-        builder
-            .push_run(run)
-            .expect(rt, "there is room for the run");
-    }
-    builder.finish().expect(rt, "there is room for the picture")
-}
 
 /// Asserts that a picture has this SVG image and this PGM image.
 fn assert_images(rt: &impl Abort, alloc: Global, picture: &Picture, text: &str, bytes: &[u8]) {

@@ -1,5 +1,0 @@
-//! Tests of `mf_text_show`.
-#![tactic(auto)]
-
-#[cfg(test)]
-mod tests;

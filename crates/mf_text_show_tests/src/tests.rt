@@ -1,5 +1,0 @@
-//! Tests of the texts of pictures.
-
-mod assertions;
-mod growths;
-mod texts;

@@ -1,6 +1,0 @@
-//! Tests of frames.
-
-mod assertions;
-mod canvases;
-mod frames;
-mod growths;

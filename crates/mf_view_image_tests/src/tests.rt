@@ -1,5 +1,0 @@
-//! Tests of the images of pictures.
-
-mod assertions;
-mod growths;
-mod images;
