@@ -16,7 +16,8 @@ pub data Event : Type 0 where
   Close : Event
   -- the writer publishes everything that it has accepted
   Publish : Event
-  -- the writer goes away; the flag says whether it first publishes what it has accepted
+  -- the writer goes away; the flag says whether it first publishes what it has accepted. A publish of which a notice tells is an event
+  -- before, and the flag is false
   Discard : Bool → Event
   -- the viewer with this number looks
   Look : ℕ → Event

@@ -28,7 +28,7 @@ told_list n = published_list_of (notice_events n)
 abbrev pub identity : Viewer → Book
 identity v = notice_identity v.known
 
--- the number of its seat at the copies, by which viewers of a picture are told apart
+-- the number of its seat, by which viewers of a picture are told apart
 abbrev pub seat : Viewer → ℕ
 seat v = v.reader.place.id
 
