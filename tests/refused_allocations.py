@@ -36,10 +36,7 @@ from collections.abc import Callable, Iterator
 from allocation_runner import FOREVER, OLD, ROOT, Answer, Case, Runner, build_library, unknown_growths
 
 # Tests that repeat each call that was refused.
-AGAIN = [("mf_live_tests", "tests::again::calls_are_made_again")]
-AGAIN += [("mf_desk_tests", f"tests::again::{name}") for name in ("perform_lines", "end_a_script")]
-PICTURES = ("fill_a_rectangle", "add_to_a_picture", "change_a_picture", "turn_a_picture")
-AGAIN += [("mf_desk_tests", f"tests::again::pictures::{name}") for name in PICTURES]
+AGAIN = [("mf_desk_tests", f"tests::again::{name}") for name in ("perform_lines", "end_a_script")]
 
 # Every command and operation, on registers and on the live picture; the last line has no line feed.
 COMMANDS = """% Every command.|addto a contour (0,0)--(4,0)--(4,3)--(0,3)--cycle|addto currentpicture also a|show a
@@ -164,9 +161,9 @@ def test_of(crate: str, name: str, marked: bool) -> Case:
 
 
 def marked_tests() -> Iterator[Case]:
-    """The tests of the modules `growths`: those in the files growths.rt and in the folders beside them."""
+    """The tests of the modules `growths`: those in the files growths.rt, in any module, and in the folders beside them."""
     files: dict[str, list[pathlib.Path]] = {}
-    for pattern in ("crates/*/src/tests/growths.rt", "crates/*/src/tests/growths/**/*.rt"):
+    for pattern in ("crates/*/src/tests/**/growths.rt", "crates/*/src/tests/**/growths/**/*.rt"):
         for path in sorted(ROOT.glob(pattern)):
             files.setdefault(path.relative_to(ROOT).parts[1], []).append(path)
     for crate, paths in sorted(files.items()):

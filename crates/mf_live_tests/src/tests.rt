@@ -4,12 +4,10 @@ ghost use Rattle.mf_live.specs.Desks.{desk_identity};
 ghost use Rattle.mf_live.specs.Viewers as viewers;
 ghost use Rattle.mf_live.specs.Writers as writers;
 
-mod again;
 mod assertions;
 mod ending;
 mod growths;
 mod looking;
-mod settling;
 mod sheets;
 mod threads;
 mod writing;

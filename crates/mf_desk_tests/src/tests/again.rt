@@ -1,8 +1,6 @@
 //! Calls of sessions that are made again after an allocation failed. A test that runs by itself has ample memory;
 //! `tests/refused_allocations.py` refuses each allocation of these tests in turn.
 
-mod pictures;
-
 use super::AMPLE;
 use crate::tests::assertions::{assert_holds, assert_same};
 use mf_base::OutOfMemory;
