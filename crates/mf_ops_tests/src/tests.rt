@@ -6,7 +6,6 @@ mod copies;
 mod culls;
 mod growths;
 mod moves;
-mod scattered;
 mod sums;
 mod turning;
 

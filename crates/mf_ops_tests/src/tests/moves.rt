@@ -161,7 +161,14 @@ fn assert_angles(rt: &impl Abort, angles: &[i32]) {
 
 #[test]
 fn refuses_other_factors_and_angles(rt: HostRuntime) {
-    let factors = [(0, 1), (1, 0), (4096, 1), (1, -4096), (i32::MIN, i32::MAX)];
+    let factors = [
+        (0, 0),
+        (0, 1),
+        (1, 0),
+        (4096, 1),
+        (1, -4096),
+        (i32::MIN, i32::MAX),
+    ];
     assert_bad_factors(&rt, &factors);
     assert_factors(&rt, &[(1, 1), (-1, -1), (4095, -4095)]);
     let angles = [0, 45, 89, 91, 360, -90, -180, i32::MIN, i32::MAX];
