@@ -67,7 +67,7 @@ module _ (settings : Settings) (viewers : ℕ) where
         (λ wanting. rw wanting (
           read,
           consumed,
-          (text, out, inr (record { all_read = all_read; shown = viewers; few = omega arith; complete = complete })),
+          (text, out, inr (record { all_read = all_read; shown = viewers; none_or_all = inr refl; complete = complete })),
         ))
 
     -- the run ends well

@@ -1,5 +1,5 @@
 -- The lines of the viewers, after the transcript of a script that has ended.
-use Rattle.std.proofs.Common.{◌≡◌, ◌+◌, ◌<◌, ◌⊎◌, ℕ, List, ◌++◌, Option, length, ⊎_elim, inr, sym, ap, ◌∙◌, arith}
+use Rattle.std.proofs.Common.{◌≡◌, ◌+◌, ◌<◌, ◌⊎◌, ℕ, List, ◌++◌, Option, length, ⊎_elim, inl, inr, refl, sym, ap, ◌∙◌, arith}
 use Rattle.std.proofs.Common.{append-nil, append_assoc, length-append}
 use Rattle.std.specs.Io.KnownBytes.{Appends, IsAtEnd}
 use Rattle.std.proofs.KnownBytes.{Appends-trans}
@@ -62,7 +62,7 @@ module _ (unread left held holds : Option (List ℕ)) (run : EndedRun) where
         → Passes (streams unread left held holds) (TellsOfRun settings viewers fault)
     TellsOfRun-unshown fault why =
         let (read, consumed, (text, out, over)) = ends in
-        let none : IsShownText (run_limits settings) viewers left read text = record { all_read = all_read; shown = 0; few = omega arith; complete = over.complete } in
+        let none : IsShownText (run_limits settings) viewers left read text = record { all_read = all_read; shown = 0; none_or_all = inl refl; complete = over.complete } in
         ⊎_elim
         (λ wanting. rw wanting (read, consumed, (text, out, inr none)))
         (λ refused. rw (refused.0) (read, consumed, (text, out, (none, refused.1)))) why
@@ -74,7 +74,7 @@ module _ (unread left held holds : Option (List ℕ)) (run : EndedRun) where
         let (read, consumed, (text, out, over)) = ends in
         let complete = complete-with (run_limits settings) 0 read run text front over (none ∙ sym (lines-nobody (glance run))) in
         let shown : IsShownText (run_limits settings) viewers left read (text ++ front) =
-        record { all_read = all_read; shown = 0; few = omega arith; complete = complete } in
+        record { all_read = all_read; shown = 0; none_or_all = inl refl; complete = complete } in
         (read, consumed, (text ++ front, Appends-trans held holds later text front out more, inr shown))
     TellsOfRun-cut later lines are (WriteFault count) (front, more, (bytes, count_is, (counted, rest, whole))) =
         let (read, consumed, (text, out, over)) = ends in
@@ -87,7 +87,7 @@ module _ (unread left held holds : Option (List ℕ)) (run : EndedRun) where
             (
               omega (arith, counted, count_is, over.counted, length-append text front),
               rest,
-              inr (record { all_read = all_read; shown = viewers; few = omega arith; complete = rw (append_assoc text front rest) all }),
+              inr (record { all_read = all_read; shown = viewers; none_or_all = inr refl; complete = rw (append_assoc text front rest) all }),
             ),
           ),
         )

@@ -62,14 +62,14 @@ pub record IsPerformance (t : Task) (outcome : Outcome) (s : Streams) (input : L
 abbrev pub Performs : Task → Streams → Outcome → Type 0
 Performs t s outcome = HasRead s (IsPerformance t outcome s)
 
--- the script was read to its end, and this is the complete transcript, and the lines of the first of these viewers
+-- the script was read to its end, and this is the complete transcript, and the lines of none or of all of these viewers
 pub record IsShownText (limits : Limits) (viewers : ℕ) (left : Option (List ℕ)) (read text : List ℕ) : Type 0 where
   pub all_read : IsAtEnd left
   pub shown : ℕ
-  pub few : shown ≤ viewers
+  pub none_or_all : (shown ≡ 0) ⊎ (shown ≡ viewers)
   pub complete : IsCompleteText limits shown read text
 
--- what the first of the completely read lines print, or the complete transcript and the lines of the first of these viewers
+-- what the first of the completely read lines print, or the complete transcript and the lines of none or of all of these viewers
 abbrev pub IsDueText : Limits → ℕ → Option (List ℕ) → List ℕ → List ℕ → Type 0
 IsDueText limits viewers left read text = IsTextSoFar limits left read text ⊎ IsShownText limits viewers left read text
 
@@ -79,7 +79,7 @@ IsNothing p = (p.read ≡ []) × (p.written ≡ [])
 
 -- what each fault says that ends a run beside this many viewers. After `OutOfMemory` a due text was written, and after `WriteFault` the
 -- start of one, with as many bytes as its number says; after `ReadFault` the texts of the lines that a line feed ended. After `NoLook`
--- the line of a viewer is not written. After `FileTooLong` all is written, and the font file would be too long, or the limit is below the
+-- no line of a viewer is written. After `FileTooLong` all is written, and the font file would be too long, or the limit is below the
 -- length of the shortest preamble, and nothing was read or written. After `NoPlace`, which comes only where there is a viewer, nothing
 -- was, either
 abbrev pub TellsOfRun : Settings → ℕ → RunFault → Passage → Type 0

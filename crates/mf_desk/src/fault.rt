@@ -14,7 +14,7 @@ use std::fmt;
 #[derive(Clone, Copy, Debug, PartialEq, Eq)]
 pub enum RunFault {
     /// An allocation failed. The writer has got the texts of the first lines and, if it has got the complete transcript, the
-    /// lines of the first viewers. No text and no line is cut.
+    /// lines of none or of all viewers. No text and no line is cut.
     OutOfMemory,
     /// There was no place or no thread for a viewer, or the gate could not be shared with it. Nothing was read or written.
     NoPlace,
@@ -28,8 +28,7 @@ pub enum RunFault {
     /// number counts the bytes that the writer took in this run. These bytes are a prefix of the transcript and the lines of the
     /// viewers, maybe all of them.
     WriteFault(u128),
-    /// A look was refused. The writer has got the complete transcript and the lines of the first viewers, but not of all. No line
-    /// is cut.
+    /// A look was refused. The writer has got the complete transcript, and no line of a viewer.
     NoLook,
 }
 

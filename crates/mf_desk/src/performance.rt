@@ -1,6 +1,6 @@
 //! A run beside viewers in threads.
 ghost use Rattle.std.specs.Io.KnownBytes.{IsAtEnd};
-ghost use Rattle.std.specs.Prelude.{◌≡◌, ◌⊎◌, ◌<◌, ◌≤◌, Err, IfErr, IfOk, OnOk};
+ghost use Rattle.std.specs.Prelude.{◌≡◌, ◌<◌, ◌≤◌, Err, IfErr, IfOk, OnOk};
 ghost use Rattle.mf_live.specs.Desks.{most_places};
 ghost use Rattle.mf_desk.specs.Performances.{Performs, TellsOfRun, task};
 ghost use Rattle.mf_desk.specs.Streams.{Passes, streams_of};
@@ -39,7 +39,7 @@ pub fn perform<S: Wait + Threads, R: Read, W: Write, G: Gate + 'static>(
 ) -> Result<Outcome, RunFault>
     requires { viewers ≤ most_places }
     ensures too_small { settings.now.max_bytes < least_bytes
-        → (result ≡ Err RunFault.FileTooLong) ⊎ (result ≡ Err RunFault.OutOfMemory) }
+        → result ≡ Err RunFault.FileTooLong }
     ensures untouched { settings.now.max_bytes < least_bytes
         → (reader.new ≡ reader.old) × (writer.new ≡ writer.old) }
     ensures no_place { result ≡ Err RunFault.NoPlace

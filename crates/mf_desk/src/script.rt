@@ -1,6 +1,6 @@
 //! A run without viewers: reads a script to its end, writes its transcript, and makes the font file of what it ships.
 ghost use Rattle.std.specs.Io.KnownBytes.{IsAtEnd};
-ghost use Rattle.std.specs.Prelude.{◌≡◌, ◌⊎◌, ◌<◌, ℕ, Err, IfErr, IfOk, OnOk};
+ghost use Rattle.std.specs.Prelude.{◌≡◌, ◌<◌, ℕ, Err, IfErr, IfOk, OnOk};
 ghost use Rattle.mf_desk.specs.Performances.{Performs, TellsOfRun, task};
 ghost use Rattle.mf_desk.specs.Streams.{Passes, streams_of};
 ghost use Rattle.mf_desk_session.specs.States.{least_bytes};
@@ -34,7 +34,7 @@ pub fn run<S: Wait, R: Read, W: Write>(
         Passes (streams_of R.remaining reader.old reader.new W.contents writer.old writer.new)
         (TellsOfRun settings.now 0 fault)) }
     ensures too_small { settings.now.max_bytes < least_bytes
-        → (result ≡ Err RunFault.FileTooLong) ⊎ (result ≡ Err RunFault.OutOfMemory) }
+        → result ≡ Err RunFault.FileTooLong }
     ensures untouched { settings.now.max_bytes < least_bytes
         → (reader.new ≡ reader.old) × (writer.new ≡ writer.old) }
 {
