@@ -1,6 +1,7 @@
 //! Observers of a run.
-ghost use Rattle.std.specs.Prelude.{◌≡◌, ◌↔◌, IfOk, Ok};
-ghost use Rattle.mf_desk.specs.declared.observer.Effect.TheVariants.{Published, Shipped};
+ghost use Rattle.std.specs.List.{starts_with};
+ghost use Rattle.std.specs.Prelude.{◌≡◌, ◌↔◌, IfOk, Ok, codes, nat_eq, if◌then◌else◌};
+ghost use Rattle.mf_desk.specs.declared.observer.Effect.TheVariants.{Published, Refused, Shipped};
 ghost use Rattle.mf_desk.specs.declared.observer.Shipment.{Shipment};
 ghost use Rattle.mf_desk.specs.declared.observer.Stopped.TheVariants.{Run as ByRun};
 ghost use Rattle.mf_text.specs.Registers.{HasNames, IsSource};
@@ -119,7 +120,8 @@ pub(crate) fn effect_of(read: &Result<Command, TextFault>) -> Effect
 impl Effect {
     /// What a line has done that has printed this: where it was refused, it prints `refused` and why.
     pub(crate) fn unless_refused(self, text: &[u8]) -> Effect
-        ensures { (shipment : Shipment) → result ≡ Shipped shipment → self ≡ Shipped shipment }
+        ensures told { result
+            ≡ (if starts_with nat_eq text.now (codes "refused ") then Refused else self) }
     {
         if text.starts_with(b"refused ") {
             Effect::Refused
