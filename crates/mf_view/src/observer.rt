@@ -1,5 +1,5 @@
 //! The observer of a performance: the plates of what is published and of what is shipped, and the pace.
-ghost use Rattle.std.specs.Prelude.{◌≡◌, IfOk, OnOk};
+ghost use Rattle.std.specs.Prelude.{◌≡◌, IfOk, IfSome, OnOk};
 ghost use Rattle.mf_desk.specs.declared.observer.Effect.TheVariants.{Shipped};
 ghost use Rattle.mf_desk.specs.declared.observer.Shipment.{Shipment};
 ghost use Rattle.mf_desk_session.specs.Pictures.{source_picture};
@@ -35,7 +35,14 @@ pub(crate) struct PlateWriter<'a, S, P> {
 impl<S: Files, P: Pace> Observer for PlateWriter<'_, S, P> {
     type Fault = ProgramFault;
 
-    fn note_line(&mut self, line: PerformedLine, session: &Session) -> Result<(), ProgramFault> {
+    /// Where plates are asked for, the page gains the section of what the line has published or shipped.
+    fn note_line(&mut self, line: PerformedLine, session: &Session) -> Result<(), ProgramFault>
+        requires { (shipment : Shipment) → line.effect ≡ Shipped shipment
+            → IsSource shipment.source }
+        ensures noted { OnOk result (IfSome self.old.folder.now (λ _.
+            (s : State) → StandsFor session.now s
+            → Notes line.effect s.pictures self.old.page self.new.page)) }
+    {
         if let Some(folder) = self.folder {
             note(
                 self.rt,
