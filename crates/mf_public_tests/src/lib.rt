@@ -1,4 +1,4 @@
-//! Tests that call each public call of the libraries once, at the address that callers use.
+//! Tests that call the public calls of the libraries that callers need first, at the addresses that these use.
 #![tactic(auto)]
 
 #[cfg(test)]

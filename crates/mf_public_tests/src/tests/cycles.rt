@@ -67,8 +67,9 @@ fn makes_and_copies_a_cycle(rt: HostRuntime) {
 #[test]
 fn gives_a_list_back(rt: HostRuntime) {
     let point: &[Point] = &[Point { x: 0, y: 0 }];
-    if let Err((fault, points)) = make(&rt, rt.alloc(), point) {
-        assert_same(&rt, parts_of(fault), ("TooFewPoints", None), "one point");
-        assert_same(&rt, points.as_slice(), point, "one point");
-    }
+    let Err((fault, points)) = make(&rt, rt.alloc(), point) else {
+        panic!(rt; "one point is a cycle")
+    };
+    assert_same(&rt, parts_of(fault), ("TooFewPoints", None), "one point");
+    assert_same(&rt, points.as_slice(), point, "one point");
 }

@@ -72,12 +72,13 @@ fn makes_a_file(rt: HostRuntime) {
 
 #[test]
 fn gives_a_file_back(rt: HostRuntime) {
-    if let Err((file, fault)) = make(&rt, rt.alloc()).finish(NO_WORDS) {
-        assert_same(
-            &rt,
-            (name_of(fault), file.count()),
-            ("NoCharacters", 0),
-            "no character",
-        );
-    }
+    let Err((file, fault)) = make(&rt, rt.alloc()).finish(NO_WORDS) else {
+        panic!(rt; "a file without characters is finished")
+    };
+    assert_same(
+        &rt,
+        (name_of(fault), file.count()),
+        ("NoCharacters", 0),
+        "no character",
+    );
 }

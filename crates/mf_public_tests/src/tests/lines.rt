@@ -171,10 +171,11 @@ type Numbers = (u8, i32, i32);
 #[test]
 fn reads_the_numbers_of_a_character(rt: HostRuntime) {
     let line = "shipout a code 65 dx 327680 width -1";
-    if let Ok(Command::Ship(_, code, dx, width)) = read(rt.alloc(), line) {
-        let numbers: Numbers = (code, dx, width);
-        assert_same(&rt, numbers, (65, 327680, -1), line);
-    }
+    let Ok(Command::Ship(_, code, dx, width)) = read(rt.alloc(), line) else {
+        panic!(rt; "{line} ships no character")
+    };
+    let numbers: Numbers = (code, dx, width);
+    assert_same(&rt, numbers, (65, 327680, -1), line);
 }
 
 #[test]
