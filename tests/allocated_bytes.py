@@ -122,8 +122,9 @@ def of_one_part(of_comb):
     yield Case("a reflection", comb("a"), "a := a yscaled -1\n", both, LINE + LISTS + 2 * (COMB + COMB // 4), COMB)
     yield Case("a cull", comb("a"), "cull a keeping (1,3) withweight 2\n", {"a": 2 * of_comb}, LINE + LISTS + COMB + COMB // 4, COMB)
     # The parts are joined first. The box ends among the teeth, so their sum has two strips of teeth, and so has what the cull makes of it.
+    # The sum has room for one of them at first, and then for twice as much.
     before, shown = comb("a") + box("a", -9, -9, -8, 9), {"a": 2 * of_comb + 36}
-    of_two = LINE + LISTS + 2 * COMB + COMB // 4
+    of_two = LINE + LISTS + 3 * COMB + COMB // 4
     yield Case("a total of two parts", before, "show totalweight a\n", {"a": of_comb + 18}, of_two, 2 * COMB)
     yield Case("a second total", before + "show totalweight a\n", "show totalweight a\n", {"a": of_comb + 18}, LINE)
     most = of_two + 2 * COMB + COMB // 4
