@@ -14,16 +14,19 @@ exactly the lines that it should, or if METAFONT finds an error. One more run of
 
 Times are wall times, or, with --processor, processor times, which depend less on what else the machine does.
 
-With --growth only the program runs, on the sizes n, 2n and 4n. With --looks a program of its own runs, which measures looks at a
-live picture (looks.py). With --record what is printed goes into the tables of results/, too.
+With --growth only the program runs, on scripts of several sizes, and on one without what grows, whose time is subtracted. The
+exponent is the power of the size with which times grow, where all of them can be measured. With --looks a program of its own runs,
+which measures looks at a live picture (looks.py). With --record what is printed goes into the tables of results/, too.
 """
 
 import argparse
+import math
 import os
 import pathlib
 import re
 import resource
 import shutil
+import statistics
 import subprocess
 import sys
 import tempfile
@@ -245,17 +248,22 @@ def compare(arguments, folder):
             table.add(*row(arguments, name, make(arguments.seed, size), folder, plain))
 
 
+def exponent(sizes, times):
+    """The power of the size with which times grow: the slope of the line that fits their logarithms best."""
+    across, up = ([math.log(number) for number in numbers] for numbers in (sizes, times))
+    return statistics.linear_regression(across, up).slope
+
+
 def growth(arguments, folder):
-    table = Table("growth", ["workload", "n", "n, s", "2n, s", "4n, s", "4n over n"], arguments.record)
-    for name, (make, size) in workloads.GROWING.items():
+    table = Table("growth", ["workload", "sizes", "without it, s", "seconds", "exponent"], arguments.record)
+    for name, (make, sizes) in workloads.GROWING.items():
         if arguments.only not in name:
             continue
-        times = []
-        for factor in (1, 2, 4):
-            own = Program(arguments.program, make(arguments.seed, size * factor), folder)
-            times.append(min(times_of(arguments.repeats, own)))
-        shown = (f"{seconds:.3f}" for seconds in times)
-        table.add(name, f"{size:,}", *shown, f"{times[2] / times[0]:.1f}")
+        runners = (Program(arguments.program, make(arguments.seed, size), folder) for size in (0, *sizes))
+        without, *times = (min(times_of(arguments.repeats, own)) for own in runners)
+        times = [seconds - without for seconds in times]
+        slope = f"{exponent(sizes, times):.2f}" if min(times) > 0.0005 else "-"
+        table.add(name, "; ".join(f"{size:,}" for size in sizes), f"{without:.3f}", "; ".join(f"{it:.3f}" for it in times), slope)
 
 
 def main():

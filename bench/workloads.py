@@ -61,7 +61,7 @@ def one_line(seed, size):
     return [contour("currentpicture", rectangle(0, 0, 3, 2)), total()]
 
 
-def random_rectangles(seed, size, columns, rows):
+def random_rectangles(seed, size, columns, rows, name="currentpicture"):
     """Rectangles with sides of 1 to 30 and weights of -3 to 3, with uniformly random sizes and places."""
     draw = random.Random(seed)
     lines = []
@@ -69,13 +69,13 @@ def random_rectangles(seed, size, columns, rows):
         width, height = draw.randint(1, 30), min(rows, draw.randint(1, 30))
         x, y = draw.randint(0, columns - width), draw.randint(0, rows - height)
         shape = rectangle(x - columns // 2, y - rows // 2, width, height)
-        lines.append(contour("currentpicture", shape, draw.choice((-3, -2, -1, 1, 2, 3))))
+        lines.append(contour(name, shape, draw.choice((-3, -2, -1, 1, 2, 3))))
     return lines
 
 
-def culled_rectangles(seed, size, columns, rows):
+def culled_rectangles(seed, size, columns, rows, name="currentpicture"):
     """Such rectangles, and a cull."""
-    return random_rectangles(seed, size, columns, rows) + [total(), "cull currentpicture keeping (1,32767)", total()]
+    return random_rectangles(seed, size, columns, rows, name) + [total(name), f"cull {name} keeping (1,32767)", total(name)]
 
 
 def publishes(seed, size, every):
@@ -96,6 +96,11 @@ def published_tenth(seed, size):
 
 def rectangles(seed, size):
     return culled_rectangles(seed, size, 4000, 4000)
+
+
+def rectangles_of_register(seed, size):
+    """In a register there may be more than a million operations."""
+    return culled_rectangles(seed, size, 4000, 4000, "a")
 
 
 def flat_rectangles(seed, size):
@@ -226,6 +231,23 @@ def refused_contours(seed, size):
     return stairs(seed, size, 199, 3700, (4,))
 
 
+def contours_of_points(seed, size):
+    """200 contours of `size` points each; none where that is 0."""
+    return stairs(seed, 200 if size else 0, size // 2 - 1, 2000)
+
+
+def pixels_on_rows(seed, size):
+    """10,000 pixels at random places of 15 rows, each of which has `size` edges before."""
+    draw = random.Random(seed)
+    lines = []
+    for first in range(0, size // 2, 1000):
+        teeth = comb(min(1000, size // 2 - first), 16)
+        lines.append(contour("currentpicture", [(x + 2 * first - 4000, y) for x, y in teeth]))
+    for _ in range(10_000):
+        lines.append(contour("currentpicture", rectangle(draw.randint(-4000, 3999), draw.randint(1, 15), 1, 1)))
+    return lines + [total()]
+
+
 # The name of each workload, what makes it, and its size.
 WORKLOADS = {
     "one line": (one_line, 1),
@@ -245,15 +267,16 @@ WORKLOADS = {
     "2,000 contours of 400 points, refused for their weights": (refused_contours, 2_000),
 }
 
-# Workloads whose times can be compared at a size, at twice that size and at four times that size. A page takes 838,624 bytes of
-# the font file, which may have 16,777,216, so it has room for 20 pages at most.
+# Workloads whose times are compared at several sizes; at size 0 they have what does not grow. A page takes 838,624 bytes of the font file,
+# which may have 16,777,216, so it has room for 20 pages at most.
 GROWING = {
-    "rectangles": (rectangles, 25_000),
-    "rectangles on 200 rows": (flat_rectangles, 5_000),
-    "staircases of 4,096 points": (staircases, 100),
-    "teeth of a comb": (comb_from_left, 255),
-    "rounds of copy, shift, add, cull": (rounds, 75),
-    "pages shipped": (page, 5),
-    "trivial lines": (trivial_lines, 500_000),
-    "contours of 400 points": (contours, 1_000),
+    "rectangles": (rectangles_of_register, (1_000, 10_000, 100_000, 1_000_000)),
+    "rectangles on 200 rows": (flat_rectangles, (1_000, 10_000, 100_000)),
+    "rectangles, a publish after each": (published_each, (1_000, 10_000, 100_000)),
+    "edges of rows to which 10,000 pixels are added": (pixels_on_rows, (10, 100, 1_000, 8_000)),
+    "points of each of 200 contours": (contours_of_points, (64, 256, 1_024, 4_096)),
+    "contours of 400 points": (contours, (250, 1_000, 4_000)),
+    "rounds of copy, shift, add, cull": (rounds, (75, 150, 300)),
+    "pages shipped": (page, (5, 10, 20)),
+    "trivial lines": (trivial_lines, (10_000, 100_000, 1_000_000)),
 }

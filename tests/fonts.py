@@ -120,12 +120,17 @@ def missing() -> str | None:
     return None
 
 
-def draw(name: str, mode: Mode, folder: pathlib.Path, more: str = "") -> pathlib.Path:
-    """Has METAFONT draw a font, after the commands `more`. Returns the path of the font file, which has the log beside it."""
+def drawing(name: str, mode: Mode, more: str = "") -> list[str]:
+    """The command line by which METAFONT draws a font, after the commands `more`."""
     setting = f"pixels_per_inch := {mode.pixels}; blacker := {mode.blacker}; fillin := {mode.fillin};"
     setting += f" o_correction := {mode.overshoot}; proofing := 0; fontmaking := 1; tracingtitles := 0;"
-    line = f"\\mode_def trial = {setting} enddef; mode := trial; input mf2mfp; {more} input {name}"
-    run([METAFONT, f"-jobname={name}", "-interaction=batchmode", line], folder)
+    line = f"\\mode_def trial = {setting} enddef; mode := trial; {more} input {name}"
+    return [METAFONT, f"-jobname={name}", "-interaction=batchmode", line]
+
+
+def draw(name: str, mode: Mode, folder: pathlib.Path, more: str = "") -> pathlib.Path:
+    """Has METAFONT draw a font, after the commands `more`. Returns the path of the font file, which has the log beside it."""
+    run(drawing(name, mode, f"input mf2mfp; {more}"), folder)
     return folder / f"{name}.{mode.pixels}gf"
 
 
