@@ -28,7 +28,10 @@ pub struct Timed<'a, C> {
 
 impl<C: Clock> Pace for Timed<'_, C> {
     fn note_publish(&self, _revision: u32) {
-        sleep(self.clock, Duration::from_millis(self.pause as u64));
+        // To sleep for no time takes more of it than to perform a line.
+        if self.pause > 0 {
+            sleep(self.clock, Duration::from_millis(self.pause as u64));
+        }
     }
 
     fn note_frame(&self, _revision: u32) {}
