@@ -97,24 +97,41 @@ def pauses(is_recorded: bool) -> None:
         table.add(f"{count:,}", f"{middle:.0f}", f"{most:.0f}", f"{seconds[-1] * 1e3:.1f}", f"{sum(seconds):.1f}")
 
 
+def drawn_beside(script: pathlib.Path, folder: pathlib.Path) -> tuple[float, float, int]:
+    """The seconds until a script has printed all while `mfview` draws its picture, and until `mfview` has ended, and the frames."""
+    pipe, told = folder / "transcript", folder / "told"
+    pipe.unlink(missing_ok=True)
+    os.mkfifo(pipe)
+    with open(script, "rb") as lines, told.open("wb") as output:
+        begin = time.perf_counter()
+        how = {"stdin": lines, "stdout": output}
+        with subprocess.Popen([MFVIEW, "--frames", "--transcript", str(pipe)], **how) as process, open(pipe, "rb", buffering=0) as printed:
+            while printed.read(65_536):
+                performed = time.perf_counter() - begin
+        if process.returncode:
+            raise SystemExit(f"{MFVIEW} exits with status {process.returncode}")
+        ended = time.perf_counter() - begin
+    return performed, ended, told.read_bytes().count(b"revision ")
+
+
 def frames(is_recorded: bool) -> None:
     """How many frames are drawn beside a script that publishes all the time, and what that costs the script."""
-    table = Table("frames", ["publishes", "mfpic, s", "mfview, s", "frames in a second"], is_recorded)
+    columns = ["publishes", "script alone, s", "script beside a viewer, s", "mfview to its end, s", "frames in a second"]
+    table = Table("frames", columns, is_recorded)
     count = 100_000
     with tempfile.TemporaryDirectory() as name:
         folder = pathlib.Path(name)
         script = folder / "work.mfp"
         script.write_text("\n".join([*workloads.published_each(1, count), ""]))
-        mfpic = Command([MFPIC], folder, script)
-        mfview = Command([MFVIEW, "--frames", "--transcript", "transcript"], folder, script)
-        alone, drawn, rates = [], [], []
+        command, alone, drawn = Command([MFPIC], folder, script), [], []
         for _ in range(5):
-            for command, times in ((mfpic, alone), (mfview, drawn)):
-                begin = time.perf_counter()
-                command.run()
-                times.append(time.perf_counter() - begin)
-            rates.append((folder / "told").read_bytes().count(b"revision ") / drawn[-1])
-    table.add(f"{count:,}", f"{min(alone):.2f}", f"{min(drawn):.2f}", f"{statistics.median(rates):,.0f}")
+            begin = time.perf_counter()
+            command.run()
+            alone.append(time.perf_counter() - begin)
+            drawn.append(drawn_beside(script, folder))
+    beside, ended = (min(times) for times in list(zip(*drawn))[:2])
+    rate = statistics.median(count / seconds for _, seconds, count in drawn)
+    table.add(f"{count:,}", f"{min(alone):.2f}", f"{beside:.2f}", f"{ended:.2f}", f"{rate:.0f}")
 
 
 class Font(typing.NamedTuple):

@@ -261,7 +261,7 @@ def growth(arguments, folder):
             continue
         runners = (Program(arguments.program, make(arguments.seed, size), folder) for size in (0, *sizes))
         without, *times = (min(times_of(arguments.repeats, own)) for own in runners)
-        times = [seconds - without for seconds in times]
+        times = [max(0.0, seconds - without) for seconds in times]
         slope = f"{exponent(sizes, times):.2f}" if min(times) > 0.0005 else "-"
         table.add(name, "; ".join(f"{size:,}" for size in sizes), f"{without:.3f}", "; ".join(f"{it:.3f}" for it in times), slope)
 
