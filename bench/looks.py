@@ -23,7 +23,8 @@ from record import Table  # noqa: E402
 NAME = "looks"
 SOURCES = sorted((HERE / NAME).glob("*.rattle"))
 PROGRAM, STAMP = HERE / "out" / NAME, HERE / "out" / "stamp"
-LIBRARIES = "mf_base mf_geom mf_rows_edges mf_rows mf_ops mf_live core left_right logbook crossbeam_utils atomic_table anyhow".split()
+# The libraries that its files name.
+NAMED = ("mf_geom", "mf_ops", "mf_live", "left_right", "anyhow")
 
 THREADS = (1, 2, 4, 16)
 # The rows of the pictures. A picture has at most 8190, and a band 16.
@@ -31,6 +32,11 @@ HEIGHTS = (1, 16, 512, 2048, 8190)
 HEIGHT = 512
 # Each number is the best of so many runs, of so many milliseconds each. Delays are those of one longer run.
 RUNS, MILLISECONDS, LONGER = 3, 500, 4000
+
+
+def libraries(prover):
+    """All libraries of the program, each after those that it uses."""
+    return [*dict.fromkeys(it for name in NAMED for it in [*prover.libraries.get(name, []), name])]
 
 
 def sum_of_sources(prover):
@@ -48,7 +54,7 @@ def prove_and_build(prover, folder):
     (folder / "src").mkdir()
     for file in SOURCES:
         shutil.copy(file, folder / "src" / f"{file.stem}.rt")
-    prover.add_program(NAME, folder, LIBRARIES)
+    prover.add_program(NAME, folder, libraries(prover))
     build.build(prover, NAME)
     PROGRAM.parent.mkdir(exist_ok=True)
     shutil.copy(folder / "out" / NAME, PROGRAM)
@@ -58,7 +64,7 @@ def prove_and_build(prover, folder):
 def ensure_program():
     """Proves and builds the program, unless it is built from the present sources."""
     prover = Prover()
-    prover.libraries[NAME] = LIBRARIES
+    prover.libraries[NAME] = libraries(prover)
     if PROGRAM.is_file() and STAMP.is_file() and STAMP.read_text() == sum_of_sources(prover):
         return
     print(f"{NAME}: proving and building the program; this takes some six minutes", file=sys.stderr)
