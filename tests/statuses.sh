@@ -106,8 +106,19 @@ ends_with 5 'mfview: TooSmall' ./mfview --columns 49
 ends_with 5 'mfview: TooSmall' ./mfview --rows 5
 keeps_font /dev/null 5 'mfview: TooSmall' './mfview --columns 49 --gf "$FONT" < examples/font.mfp'
 keeps_font /dev/null 5 'mfview: TooSmall' './mfview --rows 5 --transcript "$FONT" < examples/font.mfp'
-# The script publishes, so it has not ended after a second, and `timeout` ends it.
-ends_with 124 '' timeout 1 crates/mfview/out/mfview --frames --transcript /dev/null --pause 10000 < examples/tee.mfp
+# A file gets the transcript of what was performed before a fault, and all of it where only the font is missing.
+told=$folder/told
+told_is() {
+    cmp "$told" - || fails "another transcript: $1"
+}
+ends_with 3 'mfview: WriteFault' ./mfview --transcript /dev/full < examples/tee.mfp
+ends_with 3 'mfview: ImageTooLarge 1' ./mfview --transcript "$told" --plates "$folder" <<< "$wide"$'\npublish\npublish'
+told_is 'a plate that is too large' <<< 'published 1'
+ends_with 3 'mfview: NoCharacters' ./mfview --transcript "$told" --gf "$FONT" < examples/tee.mfp
+told_is 'no characters' < examples/tee.transcript
+# The script publishes, so it has not ended after a second, and `timeout` ends it. What it printed before it rested is in the file.
+ends_with 124 '' timeout 1 crates/mfview/out/mfview --frames --transcript "$told" --pause 10000 < examples/tee.mfp
+told_is 'a script that rests' <<< 'published 1'
 ends_with 0 '' bash -c './mfview --frames --transcript /dev/null --gf "$FONT" < examples/font.mfp'
 cmp "$FONT" examples/font.gf || fails 'another font file'
 echo "$count passed, 0 failed"

@@ -26,7 +26,7 @@ use mf_view_frame::{Canvas, Style};
 use mf_view_words::{HELP, Request, USAGE, VERSION, Words, read_words};
 use std::alloc::Global;
 use std::fs;
-use std::io::{Read, Write};
+use std::io::{BufWriter, Read, Write};
 use std::rt::Files;
 use std::sync::Wait;
 use std::thread::Threads;
@@ -34,6 +34,9 @@ use std::time::Clock;
 
 /// Exit status where the terminal is too small.
 pub const TOO_SMALL: u8 = 5;
+
+/// How many bytes of the transcript may wait for its file where the script never rests.
+const TRANSCRIPT_SIZE: usize = 65_536;
 
 /// Performs the script that `reader` gives as the words ask for it, and draws its picture on `screen`. The transcript goes to
 /// `errors`, unless the words name a file for it. Then it writes the font file where the words ask for one. Where something went
@@ -116,8 +119,9 @@ fn watch<S: Wait + Threads + Files + Clock + Sync, R: Read, W: Write + Send, E: 
         font: font_words(design_size, resolution),
     };
     let pace = Timed { clock: rt, pause };
+    let size = if pause == 0 { TRANSCRIPT_SIZE } else { 0 };
     let Outcome { gf: made, .. } = perform_with_transcript(
-        rt, alloc, reader, screen, errors, &pace, showing, &settings, transcript,
+        rt, alloc, reader, screen, errors, &pace, showing, &settings, transcript, size,
     )?;
     let Some(path) = gf else {
         return Ok(());
@@ -135,7 +139,8 @@ fn style(frames: bool) -> Style
     if frames { Style::Plain } else { Style::Colored }
 }
 
-/// Performs and draws the script, with the transcript in a file where a path is given, and else in the stream of messages.
+/// Performs and draws the script, with the transcript in a file where a path is given, and else in the stream of messages. At most
+/// `size` bytes wait for the file, and none while more of the script is read.
 fn perform_with_transcript<
     S: Wait + Threads + Files + Sync,
     R: Read,
@@ -152,6 +157,7 @@ fn perform_with_transcript<
     showing: Showing,
     settings: &Settings,
     transcript: Option<String>,
+    size: usize,
 ) -> Result<Outcome, ProgramFault>
     ensures done { IfOk result
         (ShowsTo transcript settings.now (manner_in showing)
@@ -164,12 +170,20 @@ fn perform_with_transcript<
     let Some(path) = transcript else {
         return perform(rt, alloc, reader, screen, errors, pace, showing, settings);
     };
-    let Ok(mut file) = fs::create(rt, path.as_str()) else {
+    let Ok(file) = fs::create(rt, path.as_str()) else {
         return Err(RunFault::WriteFault(0).into());
     };
-    perform(
-        rt, alloc, reader, screen, &mut file, pace, showing, settings,
-    )
+    let Ok(mut told) = BufWriter::with_capacity(alloc, size, file) else {
+        return Err(RunFault::OutOfMemory.into());
+    };
+    let performed = perform(
+        rt, alloc, reader, screen, &mut told, pace, showing, settings,
+    );
+    if let Err(ProgramFault::Run(RunFault::WriteFault(_))) = &performed {
+        // Nothing more goes out after a fault of the writer, and dropping the buffer would try again.
+        let _unwritten = told.into_parts();
+    }
+    performed
 }
 
 /// Writes the help or the version to the screen, or reports why it cannot. Returns the exit status.
