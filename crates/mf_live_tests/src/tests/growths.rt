@@ -1,5 +1,8 @@
 //! Calls whose allocations are refused, one after another. A call that failed leaves the picture, and what viewers see of it, as
 //! they were; the same call with ample memory does what it should.
+ghost use Rattle.std.specs.Prelude.{◌≡◌};
+ghost use Rattle.mf_live.specs.Viewers as viewers;
+ghost use Rattle.mf_live.specs.Writers as writers;
 
 mod doubling;
 mod ending;
@@ -23,7 +26,9 @@ use std::sync::Wait;
 const MOVED: &[Pixels] = &[(14, 1, 3, 1), (13, 1, 3, 1)];
 
 /// A picture whose rectangle is published and seen, and whose move by one column and 13 rows is accepted but pending.
-fn open_and_move<R: Abort + Wait>(rt: &R, alloc: Global) -> (Writer, Viewer) {
+fn open_and_move<R: Abort + Wait>(rt: &R, alloc: Global) -> (Writer, Viewer)
+    ensures { viewers.identity result.1 ≡ writers.identity result.0 }
+{
     let (mut writer, mut desk) = open(rt, alloc, 1, 10);
     let viewer = take_viewer(rt, &mut desk);
     publish_rectangle(rt, alloc, &mut writer);

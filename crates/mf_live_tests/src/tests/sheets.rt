@@ -4,7 +4,8 @@ ghost use Rattle.mf_live.specs.Viewers.{identity};
 
 use super::looking::assert_publish_is_shown;
 use super::{
-    Pixels, apply, assert_blank, assert_shows_blank, open, publish, push, run_of, take_viewer,
+    Pixels, RECT_RUNS, apply, assert_blank, assert_runs, assert_shows_blank, close, fill, open,
+    publish, push, run_of, take_viewer,
 };
 use crate::tests::assertions::assert_same;
 use mf_live::{Sheet, Viewer};
@@ -44,6 +45,22 @@ fn sheets_stay(rt: HostRuntime) {
     assert_shows_blank(&rt, alloc, viewer, 2);
     assert_sheet(&rt, &first, 1, 6);
     writer.discard(&rt);
+}
+
+/// The last sheet shows the end to a viewer that has not looked before, and it stays when all is discarded.
+#[test]
+fn the_last_sheet_shows_the_end(rt: HostRuntime) {
+    let alloc = rt.alloc();
+    let (mut writer, mut desk) = open(&rt, alloc, 1, 10);
+    let mut viewer = take_viewer(&rt, &mut desk);
+    fill(&rt, alloc, &mut writer);
+    let mut ended = close(&rt, writer);
+    let sheet = viewer
+        .last_sheet(alloc, ended.notice())
+        .expect(&rt, "there is room for a sheet");
+    ended.discard(&rt);
+    assert_sheet(&rt, &sheet, 1, 6);
+    assert_runs(&rt, sheet.picture(), RECT_RUNS, "the last picture");
 }
 
 /// Adds a row of 1000 isolated pixels, at the even columns. Their weight is the number of the row plus 1.

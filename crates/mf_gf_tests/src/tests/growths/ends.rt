@@ -5,10 +5,10 @@ use crate::tests::assertions::assert_same;
 use crate::tests::files::{WORDS, assert_bytes, corners, corners_file, one};
 use crate::tests::refusals::assert_end_refused;
 use crate::tests::{
-    MAX_BYTES, NO_WORDS, assert_count, finish, finish_with, ship_rectangle, with_rectangle,
+    MAX_BYTES, NO_WORDS, assert_count, finish, finish_with, gf_file, ship_rectangle, with_rectangle,
 };
 use mf_gf::{FontWords, GfBytes, GfFault, GfFile};
-use mf_testing::{grow_again, refuse_growths};
+use mf_testing::{grow_again, refuse_all_growths, refuse_growths};
 use std::alloc::Global;
 use std::process::Abort;
 
@@ -79,4 +79,37 @@ fn an_end_that_is_too_long_is_refused_for_that(rt: HostRuntime) {
             assert_end_refused(&rt, file, GfFault::FileTooLong);
         }
     }
+}
+
+/// `OutOfMemory` never comes instead of `None`, either.
+#[test]
+fn a_file_without_characters_is_none(rt: HostRuntime) {
+    let alloc = rt.alloc();
+    let file = gf_file(&rt, alloc);
+    refuse_all_growths(alloc);
+    let found = file.finish_if_any(NO_WORDS);
+    grow_again(alloc);
+    let found = found.map(|bytes| bytes.is_none());
+    assert_same(&rt, found, Ok(true), "no file");
+}
+
+/// A refused end does not hand the file back, so the file is made again.
+#[test]
+fn a_file_with_a_character_is_finished(rt: HostRuntime) {
+    let alloc = rt.alloc();
+    let file = with_rectangle(&rt, alloc, MAX_BYTES);
+    refuse_growths(alloc);
+    let found = file.finish_if_any(NO_WORDS);
+    grow_again(alloc);
+    let found = match found {
+        Ok(bytes) => bytes,
+        Err(fault) => {
+            assert_same(&rt, fault, GfFault::OutOfMemory, "the end");
+            with_rectangle(&rt, alloc, MAX_BYTES)
+                .finish_if_any(NO_WORDS)
+                .expect(&rt, "there is room for the file")
+        }
+    };
+    let bytes = found.expect(&rt, "a character was shipped");
+    assert_bytes(&rt, alloc, &bytes, one());
 }

@@ -4,7 +4,7 @@ use super::{MOVED, open_and_move};
 use crate::tests::assertions::assert_same;
 use crate::tests::sheets::take;
 use crate::tests::{
-    Pixels, RECT_RUNS, apply, assert_runs, assert_sees, assert_shows_blank, open, publish,
+    Pixels, RECT_RUNS, apply, assert_runs, assert_sees, assert_shows_blank, close, open, publish,
     publish_rectangle, take_viewer,
 };
 use mf_live::{Sheet, SheetFault, Viewer};
@@ -67,4 +67,29 @@ fn a_later_sheet_is_taken(rt: HostRuntime) {
     assert_taken(&rt, alloc, viewer, 2, MOVED);
     assert_sheet_runs(&rt, &first, 1, RECT_RUNS);
     writer.discard(&rt);
+}
+
+/// The end publishes the move. Where its sheet is refused, the viewer sees the end all the same.
+#[test]
+fn the_last_sheet_is_taken(rt: HostRuntime) {
+    let alloc = rt.alloc();
+    let (writer, mut viewer) = open_and_move(&rt, alloc);
+    let mut ended = close(&rt, writer);
+    let notice = ended.notice();
+    refuse_growths(alloc);
+    let found = viewer.last_sheet(alloc, notice);
+    grow_again(alloc);
+    let sheet = match found {
+        Ok(sheet) => sheet,
+        Err(fault) => {
+            assert_same(&rt, fault, SheetFault::OutOfMemory, "the last sheet");
+            viewer = assert_sees(&rt, viewer, 2, MOVED);
+            viewer
+                .last_sheet(alloc, ended.notice())
+                .expect(&rt, "there is room for a sheet")
+        }
+    };
+    assert_sheet_runs(&rt, &sheet, 2, MOVED);
+    assert_sees(&rt, viewer, 2, MOVED);
+    ended.discard(&rt);
 }
