@@ -5,7 +5,8 @@
 
 Each is run in a fresh clone of the last commit: `answer` is the first answer of `./mfpic`, which is not proved; `build` is
 tools/build.py, for mfpic and then for mfview, with a row for each crate, by when it is proved; `gate` is .ci/run, which the toolchain may
-shorten by what it has kept of earlier runs. Nothing else should run beside it. The rows of a run replace those of the one before.
+shorten by what it has kept of earlier runs. Nothing else should run beside it. They use the processors that they may (`taskset -c 0,1`
+leaves two), whose number is in the name of a run, and its rows replace those of the one before.
 README.md and docs/work/CONTRIBUTING.md quote these minutes, and tests/documents.py compares them.
 """
 
@@ -57,14 +58,15 @@ def main() -> None:
     parser = argparse.ArgumentParser(description=__doc__, formatter_class=argparse.RawDescriptionHelpFormatter)
     parser.add_argument("runs", nargs="+", choices=COMMANDS)
     given = parser.parse_args()
-    made_with = {"processors": len(os.sched_getaffinity(0)), **circumstances()}
+    made_with, processors = circumstances(), len(os.sched_getaffinity(0))
     for run in given.runs:
         rows = []
         with tempfile.TemporaryDirectory(prefix="times-") as folder:
             clone = pathlib.Path(folder) / "clone"
             subprocess.run(["git", "clone", "--quiet", str(ROOT), str(clone)], check=True)
             for command in COMMANDS[run]:
-                rows += [{"run": " ".join(command), "part": part, "minutes": f"{minutes:.1f}"} for part, minutes in parts_of(command, clone)]
+                run_of = f"{' '.join(command)}, {processors} processors"
+                rows += [{"run": run_of, "part": part, "minutes": f"{minutes:.1f}"} for part, minutes in parts_of(command, clone)]
         write("times", [row | made_with for row in rows])
 
 
