@@ -14,12 +14,13 @@ use std::sync::Wait;
 use texts::{CutLine, cut_lines};
 
 /// Lines that show whether a cut has changed something. They print the pictures that the scripts change, and the number of
-/// accepted operations.
+/// accepted operations. The contour changes no pixel, and is refused where the turning check is on.
 const LOOKS: &str = "show currentpicture\n\
                      show a\n\
                      show b\n\
                      show c\n\
                      show z\n\
+                     addto z contour (0,0)--(1,0)--cycle\n\
                      publish\n";
 
 /// The lines that are used instead of `LOOKS` where these print a long text.
@@ -28,6 +29,7 @@ const SHORT_LOOKS: &str = "show totalweight currentpicture\n\
                            show totalweight b\n\
                            show totalweight c\n\
                            show totalweight z\n\
+                           addto z contour (0,0)--(1,0)--cycle\n\
                            publish\n";
 
 /// A text is long if it has more bytes than this.
@@ -67,8 +69,8 @@ fn perform_cut<R: Abort + Wait>(
         .expect(rt, "there is room for the line")
 }
 
-/// Performs all cuts of a line, from no byte to all bytes but the last. Asserts that the refused ones change no picture and do not
-/// count as operations.
+/// Performs all cuts of a line, from no byte to all bytes but the last. Asserts that the refused ones change neither a picture
+/// nor the turning check, and do not count as operations.
 fn perform_cuts<R: Abort + Wait>(rt: &R, alloc: Global, session: &mut Session, line: &str) {
     let bytes = line.as_bytes();
     let is_long = texts_of(rt, alloc, session, LOOKS).len() > LONG;

@@ -2,7 +2,8 @@
 
 use super::{AMPLE, End, PUBLISHED, PUBLISHED_TEXT, perform_beside};
 use crate::tests::assertions::{assert_holds, assert_same};
-use mf_desk::{RunFault, Settings};
+use mf_desk::{Progress, RunFault, Settings};
+use mf_live::NoLook;
 use mf_testing::{FailsOnce, FlushFails, Pieces, RECT, Remembers, Sink};
 use std::io::{BufWriter, Write};
 use std::ops::Range;
@@ -187,6 +188,41 @@ fn end_has_no_room_in_the_font_file(rt: HostRuntime) {
 #[test]
 fn font_file_has_just_enough_room(rt: HostRuntime) {
     assert_ships_within(&rt, 72, None, SHIPPED_TEXT);
+}
+
+/// Asserts that a run that ships the rectangle answers `NoLook`, where a look was refused in a thread, before it meets a fault of
+/// this writer, and that its font file would have been too long.
+fn assert_answers_no_look<R: Abort + Wait + AllocGlobal, W: Write>(rt: &R, writer: &mut W) {
+    let alloc = rt.alloc();
+    let settings = Settings {
+        max_bytes: 71,
+        ..AMPLE
+    };
+    let mut reader = Pieces::whole(RECT.as_bytes());
+    let (mut progress, _) = Progress::new(rt, alloc, &settings, 1).expect(
+        rt,
+        "there is room for a run",
+    );
+    progress
+        .read_all(rt, alloc, &mut reader, &mut Sink::new(alloc), &mut ())
+        .expect(rt, "the script is read to its end");
+    let mut ended = progress.finish(rt).expect(rt, "there is room for the end");
+    let shown = ended.show(alloc, writer, Err(NoLook));
+    assert_same(rt, shown.err(), Some(RunFault::NoLook), "the lines");
+    let outcome = ended.conclude(rt, &settings, Vec::new(alloc));
+    let fault = Some(RunFault::FileTooLong);
+    assert_same(rt, outcome.err(), fault, "the font file");
+}
+
+/// The writers fail in their first write, and in their first flush.
+#[test]
+fn a_look_refused_in_a_thread_comes_before_the_lines(rt: HostRuntime) {
+    let mut writer = FailsOnce::new(rt.alloc(), 0);
+    assert_answers_no_look(&rt, &mut writer);
+    assert_same(&rt, writer.bytes(), b"", "a write");
+    let mut writer = FlushFails::once(rt.alloc(), 0);
+    assert_answers_no_look(&rt, &mut writer);
+    assert_same(&rt, writer.bytes(), b"", "a flush");
 }
 
 /// Nothing is read or written where the limit is too small for any file.

@@ -144,7 +144,8 @@ fn performs_a_script_beside_a_viewer(rt: HostRuntime) {
     );
 }
 
-/// Notes a digit for what each line has done, and ends the run after the line with this number.
+/// Notes three digits for each line, its number, what it has done and the revision after it, and ends the run after the line with
+/// the number `last`.
 #[derive(Drop)]
 struct Notes {
     digits: u64,
@@ -163,11 +164,9 @@ impl Observer for Notes {
             Effect::Other => 4,
         };
         let revision: u32 = session.revision();
-        self.digits = self
-            .digits
-            .wrapping_mul(10)
-            .wrapping_add(digit)
-            .wrapping_add(u64::from(revision));
+        for part in [number, digit, u64::from(revision)] {
+            self.digits = self.digits.wrapping_mul(10).wrapping_add(part);
+        }
         if number == self.last {
             Err(number)
         } else {
@@ -176,8 +175,10 @@ impl Observer for Notes {
     }
 }
 
-/// Lines that publish, ship, are refused, do nothing, and print.
-const OBSERVED: &[u8] = b"publish\nshipout a code 0 dx 0 width 0\nshow\n\nshow totalweight a";
+/// Lines that publish, draw, ship, are refused, do nothing, and print.
+const OBSERVED: &[u8] = b"publish\n\
+    addto currentpicture contour (0,0)--(3,0)--(3,2)--(0,2)--cycle\n\
+    shipout a code 0 dx 0 width 0\nshow\n\nshow totalweight a";
 
 /// What an observer has noted that ends the run after a line, with which number it has, if it has, and the transcript.
 fn observe<S: Abort + Wait>(rt: &S, alloc: Global, last: u64) -> (u64, Option<u64>, Vec<u8>) {
@@ -212,14 +213,16 @@ fn observe<S: Abort + Wait>(rt: &S, alloc: Global, last: u64) -> (u64, Option<u6
     }
 }
 
-/// The third line is refused, the fourth is empty.
+/// The second line is an operation, so the revision is 1 after it. The fourth is refused, the fifth is empty.
 #[test]
 fn an_observer_is_told_of_each_line(rt: HostRuntime) {
     let alloc = rt.alloc();
     let (digits, number, whole) = observe(&rt, alloc, 0);
-    assert_same(&rt, (digits, number), (12_344, None), "all lines");
-    let (digits, number, front) = observe(&rt, alloc, 3);
-    assert_same(&rt, (digits, number), (123, Some(3)), "the first three");
+    let noted = (110_241_321_431_541_641, None);
+    assert_same(&rt, (digits, number), noted, "all lines");
+    let (digits, number, front) = observe(&rt, alloc, 4);
+    let noted = (110_241_321_431, Some(4));
+    assert_same(&rt, (digits, number), noted, "the first four");
     let rest = whole.strip_prefix(front.as_slice());
     assert_same(
         &rt,

@@ -98,6 +98,12 @@ const LINES: &[CutLine] = &[
         "- 2 1 1 1 1 1",
         "published 0\n0 0 2 1\nblank\npublished 0\n",
     ),
+    // A line that sets the turning check.
+    (
+        "turningcheck := -1",
+        "- 2 1 1 1 1 1 1 1 1 1 1 13 13 14 16 16 18",
+        "0 0 2 1\nblank\npublished 0\n",
+    ),
     // Lines with no command.
     (";% ;", "- - - -", "0 0 2 1\nblank\npublished 0\n"),
 ];
