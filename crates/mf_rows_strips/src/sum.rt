@@ -16,9 +16,9 @@ use crate::writer::PartWriter;
 use mf_rows_edges::{Edge, MAX_WEIGHT, reach_of};
 use std::alloc::Global;
 
-/// The part in which each pixel has the sum of its weights in both. Where their reaches together are within the limit, the reach of the sum
-/// is at most that; otherwise it is the least one. Refused with `WeightTooLarge` where a weight would exceed 32767 in absolute value,
-/// and with `OutOfMemory` where an allocation fails.
+/// The part in which each pixel has the sum of its weights in both. Refused with `WeightTooLarge` where a weight would exceed 32767 in
+/// absolute value, and with `OutOfMemory` where an allocation fails. How small its reach is, no clause says: the weights are measured
+/// where the reaches of both together are beyond the limit.
 #[tactic(auto, using(crate::proofs::SumsLemmas::sum_all))]
 pub fn sum_of_parts(alloc: Global, left: &Part, right: &Part) -> Result<Part, AddFault>
     ensures weights { IfOk result (λ part.
