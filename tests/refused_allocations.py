@@ -10,8 +10,8 @@ refusal.
 
 A run must exit by itself, as docs/user/PROGRAM.md says of `OutOfMemory`: with status 4 and one message, after printing what the
 lines before the refused allocation print, and with the old font file untouched. Or it does what it does with ample memory, if
-nothing depends on that one allocation: one for the points of a line that is refused as `Syntax` or `TooManyPoints`, one that
-would give back spare room, or one for a guess at what refused words mean. Beside viewers the message may be `NoPlace`, before
+nothing depends on what is refused: the points of a line that is refused as `Syntax` or `TooManyPoints`, a join of parts, which
+may stay apart, spare room that is given back, or a guess at what refused words mean. Beside viewers the message may be `NoPlace`, before
 anything is read, and in some run it must be: where no thread starts. It is never `NoLook`, since a look does not allocate.
 
 Tests are run in the same way, by the programs of tests that `rt ci` has built (crates/NAME/out/NAME_tests), and must pass. Tests
@@ -114,9 +114,10 @@ def try_case(runner: Runner, case: Case) -> str:
     lines = case.script.splitlines(keepends=True)
     fronts = [b"".join(lines[:count]) for count in range(len(lines) + 1)]
     texts = [runner.run(dataclasses.replace(case, words=(), script=front)).out for front in fronts]
-    ample, traceless, messages = runner.run(case), 0, set()
+    ample, unneeded, messages = runner.run(case), set[int](), set[bytes]()
     if fault := wrong_with_ample_memory(case, ample):
         raise Fault(f"{case}\n{ample}\n{fault}")
+    allocations = 0
     for and_later in (False, True):
         for growth in itertools.count(1):
             last = FOREVER if and_later else growth
@@ -125,17 +126,23 @@ def try_case(runner: Runner, case: Case) -> str:
             # A script that is read at once makes the same allocations as one that is read line by line.
             if not fault and case.twice and runner.run(case, growth, last, piece=0) != answer:
                 fault = "the answer differs from that of the script read at once"
-            if not fault and (and_later or answer.refused == 0) and (answer == ample) == (answer.refused > 0):
-                fault = "all later allocations are refused and it is as with ample memory, or none is and it is not"
+            if not fault and answer.refused == 0 and answer != ample:
+                fault = "no allocation is refused and it is not as with ample memory"
+            # Nothing may depend on any of those that are left: parts of a picture that are not joined are read all the same.
+            is_unneeded = not and_later or unneeded.issuperset(range(growth, allocations + 1))
+            if not fault and answer.refused > 0 and answer == ample and not is_unneeded:
+                fault = "it is as with ample memory"
             if fault:
                 raise Fault(f"{case}\n{answer}\n{fault}: allocation {growth}{' and all later ones' if and_later else ''}")
             if answer.refused == 0:
                 break
-            traceless += answer == ample
+            if not and_later and answer == ample:
+                unneeded.add(growth)
             messages.add(answer.message)
+        allocations = growth - 1
     if missing := {OUT_OF_MEMORY, *([NO_PLACE] if has_viewers(case) else [])} - messages:
         raise Fault(f"{case}\nno run ends with {missing}")
-    return f"{case.about} {' '.join(case.words)}: {growth - 1} allocations, {traceless} of them not needed"
+    return f"{case.about} {' '.join(case.words)}: {allocations} allocations, {len(unneeded)} of them not needed"
 
 
 def try_test(runner: Runner, test: Case) -> str:
