@@ -1,5 +1,4 @@
 //! A writer draws and publishes a staircase while four viewers look on, each in a thread of its own.
-#![tactic(auto)]
 
 use anyhow::{Result, bail};
 use std::alloc::Global;
@@ -26,12 +25,11 @@ struct Record {
     halves: u32,
 }
 
-fn main(rt: HostRuntime) -> Result<()> {
-    let alloc = rt.alloc();
-    let (mut writer, mut desk) = open_picture(&rt, alloc, VIEWERS, 1_000)?;
-    let played = play(&rt, alloc, &mut writer, &mut desk);
+pub(crate) fn run<R: Wait + Threads + Print + Sync>(rt: &R, alloc: Global) -> Result<()> {
+    let (mut writer, mut desk) = open_picture(rt, alloc, VIEWERS, 1_000)?;
+    let played = play(rt, alloc, &mut writer, &mut desk);
     // A writer must be ended on every path.
-    writer.discard(&rt);
+    writer.discard(rt);
     played
 }
 

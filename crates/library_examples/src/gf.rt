@@ -1,5 +1,4 @@
 //! Ships two letters as the characters of a GF file, and prints its length and its first bytes.
-#![tactic(auto)]
 
 use anyhow::{Result, ensure};
 use std::alloc::Global;
@@ -20,8 +19,7 @@ const WORDS: FontWords = FontWords {
     vppp: 0,
 };
 
-fn main(rt: HostRuntime) -> Result<()> {
-    let alloc = rt.alloc();
+pub(crate) fn run<R: Print>(rt: &R, alloc: Global) -> Result<()> {
     let font = font(alloc)?;
     println!(rt; "{} bytes", font.bytes().len())?;
     for byte in font.bytes().iter().take(24) {

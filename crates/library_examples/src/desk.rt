@@ -1,10 +1,11 @@
 //! Runs a script from memory beside two viewers in threads, and prints its transcript and its outcome.
-#![tactic(auto)]
 
 use anyhow::Result;
+use std::alloc::Global;
 use std::io::{self, Write};
-use std::sync::Arc;
 use std::sync::atomic::{AtomicU64, Ordering};
+use std::sync::{Arc, Wait};
+use std::thread::Threads;
 use wonchhip::desk::{Gate, Outcome, Settings, perform};
 use wonchhip::gf::FontWords;
 
@@ -47,8 +48,7 @@ impl Gate for Counter {
     }
 }
 
-fn main(rt: HostRuntime) -> Result<()> {
-    let alloc = rt.alloc();
+pub(crate) fn run<R: Wait + Threads + Print>(rt: &R, alloc: Global) -> Result<()> {
     let gate = Arc::new(
         alloc,
         Counter {
@@ -58,7 +58,7 @@ fn main(rt: HostRuntime) -> Result<()> {
     let mut script = SCRIPT.as_bytes();
     let mut transcript = Vec::new(alloc);
     let Outcome { gf, seen } = perform(
-        &rt,
+        rt,
         alloc,
         &mut script,
         &mut transcript,
@@ -68,7 +68,7 @@ fn main(rt: HostRuntime) -> Result<()> {
         &gate,
     )?;
 
-    io::writer(&rt).write_all(&transcript)?;
+    io::writer(rt).write_all(&transcript)?;
     println!(rt; "{} looks in threads", gate.looks.load(Ordering::SeqCst))?;
     for record in &seen {
         println!(rt;

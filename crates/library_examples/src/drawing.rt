@@ -1,5 +1,4 @@
 //! Draws the letter T in characters, and writes its images.
-#![tactic(auto)]
 
 use anyhow::Result;
 use std::alloc::Global;
@@ -22,18 +21,17 @@ const CORNERS: [(i32, i32); 8] = [
     (0, 6),
 ];
 
-fn main(rt: HostRuntime) -> Result<()> {
-    let alloc = rt.alloc();
+pub(crate) fn run<R: Print>(rt: &R, alloc: Global) -> Result<()> {
     let letter = letter(alloc)?;
 
     // The frame of a revision, as on a terminal of 80 columns and 24 rows, without control codes.
     let canvas = Canvas::new(80, 24)?;
     let frame = draw(alloc, &letter, 1, canvas, Style::Plain)?;
-    io::writer(&rt).write_all(&frame)?;
+    io::writer(rt).write_all(&frame)?;
 
     // The images are bytes of files. An SVG image is a text.
     let svg = svg(alloc, &letter)?;
-    io::writer(&rt).write_all(&svg)?;
+    io::writer(rt).write_all(&svg)?;
     let pgm = pgm(alloc, &letter)?;
     println!(rt; "a PGM image of {} bytes", pgm.len())?;
     Ok(())

@@ -1,5 +1,4 @@
 //! Draws the letter L from two rectangles, and shows two refusals.
-#![tactic(auto)]
 
 use anyhow::Result;
 use std::alloc::Global;
@@ -7,8 +6,7 @@ use wonchhip::geom::{Cycle, Point};
 use wonchhip::ops::{Check, Cull, Op, Sign, Weight, after, apply};
 use wonchhip::rows::Picture;
 
-fn main(rt: HostRuntime) -> Result<()> {
-    let alloc = rt.alloc();
+pub(crate) fn run<R: Print>(rt: &R, alloc: Global) -> Result<()> {
     let blank = Picture::blank(alloc);
     let one = Weight::new(1)?;
 

@@ -1,5 +1,4 @@
 //! Performs the lines of a script one by one, prints the answer to each, and ends the session.
-#![tactic(auto)]
 
 use anyhow::{Result, bail};
 use std::alloc::Global;
@@ -23,21 +22,20 @@ const MAX_OPS: u32 = 1_000_000;
 
 const MAX_BYTES: u32 = 16_777_216;
 
-fn main(rt: HostRuntime) -> Result<()> {
-    let alloc = rt.alloc();
+pub(crate) fn run<R: Wait + Print>(rt: &R, alloc: Global) -> Result<()> {
     // No viewers: the desk, which hands out viewers of `currentpicture`, has no places.
-    let (mut session, _) = Session::new(&rt, alloc, 0, MAX_OPS, MAX_BYTES)?;
+    let (mut session, _) = Session::new(rt, alloc, 0, MAX_OPS, MAX_BYTES)?;
 
     // A session must be ended, even where a line could not be performed.
-    let performed = perform_all(&rt, alloc, &mut session, &mut io::writer(&rt));
+    let performed = perform_all(rt, alloc, &mut session, &mut io::writer(rt));
     if let Err(fault) = performed {
-        session.discard(&rt);
+        session.discard(rt);
         return Err(fault);
     }
-    match session.finish(&rt) {
+    match session.finish(rt) {
         Ok((mut ended, font)) => {
             let operations = ended.notice().revision();
-            ended.discard(&rt);
+            ended.discard(rt);
             println!(rt;
                 "the end: {operations} operations, {} character",
                 font.count()
@@ -45,7 +43,7 @@ fn main(rt: HostRuntime) -> Result<()> {
             Ok(())
         }
         Err(fault) => {
-            fault.discard(&rt);
+            fault.discard(rt);
             bail!("OutOfMemory")
         }
     }

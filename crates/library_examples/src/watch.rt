@@ -1,5 +1,4 @@
 //! Three viewers look on from threads of their own while a picture is drawn, and hand out the records of what they saw.
-#![tactic(auto)]
 
 use anyhow::{Result, bail};
 use std::alloc::Global;
@@ -15,12 +14,11 @@ const VIEWERS: u32 = 3;
 
 const LOOKS: u32 = 1_000;
 
-fn main(rt: HostRuntime) -> Result<()> {
-    let alloc = rt.alloc();
-    let (mut writer, desk) = open_picture(&rt, alloc, VIEWERS, 1_000)?;
-    let played = play(&rt, alloc, &mut writer, desk);
+pub(crate) fn run<R: Wait + Threads + Print>(rt: &R, alloc: Global) -> Result<()> {
+    let (mut writer, desk) = open_picture(rt, alloc, VIEWERS, 1_000)?;
+    let played = play(rt, alloc, &mut writer, desk);
     // A writer must be ended on every path.
-    writer.discard(&rt);
+    writer.discard(rt);
     played
 }
 
