@@ -1,12 +1,13 @@
 #!/usr/bin/env python3
 """Takes the time of what a newcomer and the gate wait for, and writes it into results/times.tsv.
 
-    bench/times.py answer|build|gate..
+    bench/times.py [--slow] answer|build|gate..
 
 Each is run in a fresh clone of the last commit: `answer` is the first answer of `./mfpic`, which is not proved; `build` is
 tools/build.py, for mfpic and then for mfview, with a row for each crate, by when it is proved; `gate` is .ci/run, which the toolchain may
 shorten by what it has kept of earlier runs. Nothing else should run beside it. They use the processors that they may (`taskset -c 0,1`
-leaves two), whose number is in the name of a run, and its rows replace those of the one before.
+leaves two), whose number is in the name of a run, and its rows replace those of the one before. With --slow that name also says that the
+machine is slow, so that the rows stand beside those of others.
 README.md and docs/work/CONTRIBUTING.md quote these minutes, and tests/documents.py compares them.
 """
 
@@ -56,16 +57,17 @@ def parts_of(command: list[str], clone: pathlib.Path) -> Iterator[tuple[str, flo
 
 def main() -> None:
     parser = argparse.ArgumentParser(description=__doc__, formatter_class=argparse.RawDescriptionHelpFormatter)
+    parser.add_argument("--slow", action="store_true", help="say that the machine is slow")
     parser.add_argument("runs", nargs="+", choices=COMMANDS)
     given = parser.parse_args()
-    made_with, processors = circumstances(), len(os.sched_getaffinity(0))
+    made_with, processors = circumstances(), f"{len(os.sched_getaffinity(0))} {'slow ' * given.slow}processors"
     for run in given.runs:
         rows = []
         with tempfile.TemporaryDirectory(prefix="times-") as folder:
             clone = pathlib.Path(folder) / "clone"
             subprocess.run(["git", "clone", "--quiet", str(ROOT), str(clone)], check=True)
             for command in COMMANDS[run]:
-                run_of = f"{' '.join(command)}, {processors} processors"
+                run_of = f"{' '.join(command)}, {processors}"
                 rows += [{"run": run_of, "part": part, "minutes": f"{minutes:.1f}"} for part, minutes in parts_of(command, clone)]
         write("times", [row | made_with for row in rows])
 
