@@ -42,6 +42,13 @@ keeps_font() {
     cmp "$folder/printed" "$printed" || fails "another transcript: $command"
 }
 
+# How long a proof takes, which a program says as long as it is not proved.
+for program in mfpic mfview; do
+    told=$(source tools/start.sh && first_time $program)
+    [[ $told =~ ^\ \([1-9][0-9]*\ to\ [1-9][0-9]*\ minutes\)$ ]] || fails "the proof of $program takes '$told'"
+    count=$((count + 1))
+done
+
 ends_with 2 'usage: mfpic [--viewers 0..16] [--gf FILE]' ./mfpic --help
 ends_with 2 'usage: mfpic [--viewers 0..16] [--gf FILE]' ./mfpic $'\xff'
 ends_with 3 'mfpic: ReadFault' bash -c './mfpic < /'
