@@ -61,6 +61,8 @@ def main() -> None:
     parser.add_argument("runs", nargs="+", choices=COMMANDS)
     given = parser.parse_args()
     made_with, processors = circumstances(), f"{len(os.sched_getaffinity(0))} {'slow ' * given.slow}processors"
+    # A clone has nothing that is not committed.
+    made_with["commit"] = made_with["commit"].rstrip("+")
     for run in given.runs:
         rows = []
         with tempfile.TemporaryDirectory(prefix="times-") as folder:
