@@ -61,5 +61,5 @@ first_time() {
         $2 == "whole" && sub(of, "", $1) { minutes[$1] += $3 }
         END {
             for (machine in minutes) { print minutes[machine] }
-        }' "$root/results/times.tsv" | sort -n | awk 'NR == 1 { least = $1 } END { printf " (%.0f to %.0f minutes)", least, $1 }'
+        }' "$root/results/times.tsv" | sort -n | awk 'NR == 1 { least = $1 } END { if (NR) printf " (%.0f to %.0f minutes)", least, $1 }'
 }
